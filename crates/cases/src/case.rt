@@ -2,7 +2,7 @@
 
 use std::alloc::{AllocError, Global};
 
-/// Why a line is none of a case.
+/// Why a line is no line of a case.
 #[derive(Clone, Copy, Drop)]
 pub struct Refusal(pub &'static str);
 

@@ -1,7 +1,7 @@
 //! The lines that hold a part's contents: `| text` with its newline, `: text` without, `= 1D EA` bytes.
 //!
 //! A number after the mark says how often a line stands: `|511 x{n}`. There `{n}` is the number of its turn, from 1,
-//! and `{3x}` and `{8x}` are that number in so many hexadecimal digits. `|4..511 x{n}` has the turns from 4 to 511.
+//! and `{3x}` and `{8x}` are that number in 3 and in 8 hexadecimal digits. `|4..511 x{n}` has the turns from 4 to 511.
 
 use crate::case::Refusal;
 use crate::hex;

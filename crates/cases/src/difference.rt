@@ -1,10 +1,10 @@
-//! What came of a call is held against what must come of it.
+//! Compares what came of a call with what must come of it.
 
 use crate::case::{Answer, CaseFile};
 use crate::hex;
 use std::alloc::{AllocError, Global};
 
-/// The first difference of an answer from the one that is wanted, in one line.
+/// The first difference of an answer from the one that is expected, in one line.
 pub fn difference(
     alloc: Global,
     is: &Answer,

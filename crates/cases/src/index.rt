@@ -18,7 +18,7 @@ pub fn read_index(alloc: Global, text: &str) -> Result<Vec<String>, AllocError> 
 /// How deep folders of cases may lie.
 const DEEPEST: usize = 4;
 
-/// The cases that lie beside the index or below it, and are none of these names.
+/// The cases that lie beside the index or below it, and have none of these names.
 pub fn not_named(rt: &HostRuntime, names: &[String]) -> io::Result<Vec<String>> {
     let mut missing = Vec::new(rt.alloc());
     let mut folders = Vec::new(rt.alloc());

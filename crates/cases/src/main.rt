@@ -31,7 +31,7 @@ struct Failure {
     texts: String,
 }
 
-/// The line that is none of a case, and why.
+/// The line that is no line of a case, and why.
 fn refused(alloc: Global, line: u64, refusal: Refusal) -> Result<String, AllocError> {
     let reason = refusal.0;
     format!(in alloc; "line {line}: {reason}")
@@ -65,13 +65,13 @@ fn difference_of(alloc: Global, case: &Case) -> Result<Option<Failure>, AllocErr
     Ok(Some(Failure { why, texts }))
 }
 
-/// Says on standard error and on standard output why a case fails.
+/// Prints on standard error and on standard output why a case fails.
 fn report(rt: &HostRuntime, name: &str, why: &str) -> io::Result<()> {
     eprintln!(rt; "{name}: {why}")?;
     println!(rt; "{name}: {why}")
 }
 
-/// How many of the cases fail. Each that fails has a line on standard error.
+/// How many of the cases fail. Of each it prints why, and the texts that differ.
 fn run_cases(rt: &HostRuntime, names: &[String]) -> io::Result<u64> {
     let mut failed: u64 = 0;
     for name in names {
@@ -84,7 +84,7 @@ fn run_cases(rt: &HostRuntime, names: &[String]) -> io::Result<u64> {
     Ok(failed)
 }
 
-/// Runs all cases, and tells how many there are and how many fail.
+/// Runs all cases, and prints how many there are and how many fail.
 fn run_all(rt: &HostRuntime) -> io::Result<ExitCode> {
     let index = fs::read_to_string(rt, "index.txt")?;
     let names = read_index(rt.alloc(), &index)?;

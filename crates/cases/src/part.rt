@@ -1,6 +1,6 @@
 //! The parts of a case.
 
-/// In the order in which they stand.
+/// The parts, in the order in which they stand.
 #[derive(Clone, Copy, Drop)]
 pub enum Part {
     Start,
@@ -51,7 +51,7 @@ impl Part {
         !matches!(self, Part::Start | Part::Call | Part::Fails | Part::Status)
     }
 
-    /// Whether it is a file, which has a name.
+    /// Whether the part is a file, which has a name.
     pub fn has_name(self) -> bool {
         matches!(self, Part::File | Part::Written)
     }

@@ -26,7 +26,7 @@ struct Section {
     contents: Vec<u8>,
 }
 
-/// The case of a text, or the number of the line that is none of a case, and why.
+/// The case of a text, or the number of the line that is no line of a case, and why.
 pub fn read_case(rt: &HostRuntime, text: &str) -> Result<Case, (u64, Refusal)> {
     let mut case = Case::new(rt.alloc());
     let mut section = Section {
@@ -51,7 +51,7 @@ pub fn read_case(rt: &HostRuntime, text: &str) -> Result<Case, (u64, Refusal)> {
     }
 }
 
-/// Takes a line, and answers the part that it belongs to.
+/// Takes a line, and returns the part that it belongs to.
 fn take_line(
     rt: &HostRuntime,
     case: &mut Case,

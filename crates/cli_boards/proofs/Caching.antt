@@ -27,7 +27,7 @@ whole_blocks size stack_end is (inr large) = ap (λ (n : ℕ). n % 4) (is ∙ la
 pub never_rose : Rose 0 0 → ⊥
 never_rose h = omega arith
 
--- what was said has this code
+-- what was printed has this code
 pub says_code : {old new : SinkState} {text : List ℕ} {code code' status : ℕ} → code ≡ code' → Says old new text code status → Says old new text code' status
 says_code same says = rw (← same) says
 

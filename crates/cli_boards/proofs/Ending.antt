@@ -1,4 +1,4 @@
--- How a command ends that had a program and a microprogram first, or not.
+-- How a command ends that first read a program and a microprogram, or failed to.
 use Rattle.std.proofs.Common.{ℕ, List, Option}
 use Rattle.mic_words.specs.declared.machine.Machine.{Machine}
 use Rattle.console_port.specs.declared.map.MemoryMap.{MemoryMap}

@@ -71,7 +71,7 @@ shipped_machine machine p e = ap (λ (q : MalView). q.machine) e ∙ of_machine 
     of_machine Mic1 = refl
     of_machine Mic2 = refl
 
--- nothing was said of any cycle
+-- nothing was printed of any cycle
 pub silent_says : (p : Profile) (cs : List Cycle) (text : List ℕ) → PrintsOf profile_after Silent p cs text → text ≡ []
 silent_says p [] text h = h
 silent_says p (c ∷ cs) text h = h.4 ∙ (λ i. h.2 i ++ silent_says (profile_after p c) cs h.1 h.3 i)
@@ -81,7 +81,7 @@ pub nothing_put : (old new : Option (List ℕ)) (text : List ℕ) → text ≡ [
 nothing_put None new text none put = put
 nothing_put (Some held) new text none put = put ∙ ap (λ (t : List ℕ). Some (held ++ t)) none ∙ ap Some (append-nil held)
 
--- nor is one that failed where there was nothing to get
+-- a sink that got a part of an empty text got nothing
 pub nothing_put_of : (old new : Option (List ℕ)) (text : List ℕ) → text ≡ [] → GotInPart old text new → Got old [] new
 nothing_put_of old new text none h =
     h.1 ∙ ap (λ (t : List ℕ). option_map (λ (held : List ℕ). held ++ t) old) (ap (take h.0) none ∙ take-nil h.0)

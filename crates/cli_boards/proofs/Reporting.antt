@@ -1,4 +1,4 @@
--- A text behind another that was put.
+-- A text after another that was put.
 use Rattle.std.proofs.Common.{◌≡◌, ℕ, ◌+◌, ◌≤◌, min, List, ◌++◌, length, take, ap, sym, ◌∙◌, append_assoc, subst, arith, Result, Ok, Err, Option, Some, None}
 use Rattle.std.specs.Option.{option_map}
 use Rattle.std.proofs.Math.Seq.{take-append-add}
@@ -29,7 +29,7 @@ front_of_more old new p q h =
           (sym (take-append-le m p q inside ∙ take_min h.0 p)),
     )
 
--- what is said behind a text that was put
+-- what is printed after a text that was put
 pub says-behind : (old mid new : SinkState) (text rest : List ℕ) (code status : ℕ) → mid.held ≡ option_map (λ held. held ++ text) old.held → mid.faults ≡ old.faults →
     Says mid new rest code status → Says old new (text ++ rest) code status
 says-behind old mid new text rest code status put quiet (Said is got flushed same) =
@@ -37,7 +37,7 @@ says-behind old mid new text rest code status put quiet (Said is got flushed sam
 says-behind old mid new text rest code status put quiet (Unsaid is front rose) =
     Unsaid is (puts_then {E = Unit {0}} old.held mid.held new.held text rest (Err (tt {0})) put front) (subst (λ (n : ℕ). Rose n new.faults) quiet rose)
 
--- nothing is said behind a text that was not put whole
+-- nothing is printed after a text that was not put whole
 pub unsaid-behind : {E : Type 0} (old new : SinkState) (text rest : List ℕ) (code status : ℕ) (x : E) → Puts old.held text (Err x) new.held →
     Rose old.faults new.faults → status ≡ exits.sink → Says old new (text ++ rest) code status
 unsaid-behind old new text rest code status x put rose is = Unsaid is (front_of_more old.held new.held text rest put) rose

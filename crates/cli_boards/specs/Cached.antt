@@ -15,12 +15,12 @@ use Rattle.cli_run_texts.specs.Ends.{status_of}
 use Rattle.cli_boards.specs.Runs.{RunsThrough, report_on}
 
 module _ {M State : Type 0} (state : M → State) (m : Meaning State) where
-  -- the run of this microprogram over an accepted program, with a cache of so many lines
+  -- the run of this microprogram over an accepted program, with a cache of this many lines
   pub data IsCached (lines bound : ℕ) (micro : MalView) (program : VerifiedView) (old new : OutsideView) (status : ℕ) : Type 0 where
-    -- memory was wanting before the first cycle
+    -- memory ran out before the first cycle
     NoRoom : TellsOnErr out_of_memory exits.memory old new status → IsCached lines bound micro program old new status
     -- The run came to its end, or the console or `out` failed and cut it: `err` has got its report, and then the hits and the misses among the
-    -- accesses of its cycles, by a cache that began empty before as much memory.
+    -- accesses of its cycles, by a cache that began empty in front of as much memory.
     Ran : (l : Loaded) (last : BoardView M) (cycles : List Cycle) (end : End) →
         RunsThrough state m bound micro l program cycles last (Some end) old new →
         Says old.err new.err (report_on state m end last

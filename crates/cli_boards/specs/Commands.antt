@@ -1,4 +1,4 @@
--- How the commands over a board end, from the files that they read: an outside that is lent comes to this.
+-- How the commands over a board end, from the files that they read: what is done to an outside that is lent.
 use Rattle.std.specs.Prelude.{ℕ, Bool, List, Option, None}
 use Rattle.std.specs.Borrow.{Bor}
 use Rattle.console_port.specs.declared.map.MemoryMap.{MemoryMap}
@@ -20,6 +20,6 @@ module _ {M State : Type 0} (state : M → State) (m : Meaning State) (map : Mem
   abbrev pub RunsOver : List ℕ → Option (Bor (List ℕ)) → LentView → LentView → ℕ → Type 0
   RunsOver file own = Over (EndsPrepared m.machine map (IsOwnRun state m bound) file (name_in own))
 
-  -- with a cache of so many lines
+  -- with a cache of this many lines
   abbrev pub CachesOver : ℕ → List ℕ → LentView → LentView → ℕ → Type 0
   CachesOver lines file = Over (EndsPrepared m.machine map (IsCached state m lines bound) file None)

@@ -10,16 +10,16 @@ use Rattle.cli_outside.specs.Work.{IsHad, IsNotHad}
 use Rattle.mal_shipped.specs.Listing.{listed_program}
 use Rattle.cli_micro.specs.Answers.{IsRefusedText}
 
--- nothing is had of a file that should have one
+-- no microprogram comes from a file that should hold one
 abbrev pub HasNoMicroprogram : Machine → List ℕ → OutsideView → OutsideView → ℕ → Type 0
 HasNoMicroprogram machine = IsNotHad (IsRefusedText machine)
 
--- where a file is named it is that file's, and else the one that ships for the machine
+-- the microprogram of the file that is named or, where none is named, the one that ships for the machine
 abbrev pub IsChosenMicroprogram : Machine → Option (List ℕ) → OutsideView → MalView → Type 0
 IsChosenMicroprogram machine None o micro = micro ≡ listed_program machine
 IsChosenMicroprogram machine (Some name) o micro = IsHad (SpellsProgram machine) name o micro
 
--- nothing is had of the file, or memory is wanting for the one that ships
+-- no microprogram comes from the file, or memory ran out for the one that ships
 abbrev pub NoneChosen : Machine → Option (List ℕ) → OutsideView → OutsideView → ℕ → Type 0
 NoneChosen machine None = TellsOnErr out_of_memory exits.memory
 NoneChosen machine (Some name) = HasNoMicroprogram machine name

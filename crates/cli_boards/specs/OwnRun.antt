@@ -1,4 +1,4 @@
--- How the run of an accepted program by a microprogram ends: it has come to its end, or a fault cut it, and its report is said.
+-- How the run of an accepted program by a microprogram ends: it has come to its end, or a fault cut it, and its report is printed.
 use Rattle.std.specs.Prelude.{◌≡◌, ℕ, [], Some}
 use Rattle.mic_clock.specs.declared.end.End.{End}
 use Rattle.mic_clock.specs.Meaning.{Meaning}
@@ -15,7 +15,7 @@ use Rattle.cli_boards.specs.Runs.{IsFirstBoard, IsLeftBy, report_on}
 
 module _ {M State : Type 0} (state : M → State) (m : Meaning State) where
   pub data IsOwnRun (bound : ℕ) (micro : MalView) (program : VerifiedView) (old new : OutsideView) (status : ℕ) : Type 0 where
-    -- memory was wanting before the first cycle
+    -- memory ran out before the first cycle
     NoRoom : TellsOnErr out_of_memory exits.memory old new status → IsOwnRun bound micro program old new status
     -- turns from the reset lead to the end, or a fault cuts them; then nothing waits for `out`
     Ran : (l : Loaded) (first last : BoardView M) (end : End) → IsFirstBoard state m micro l program first → last.end ≡ Some end → last.bus.console.kept ≡ [] →

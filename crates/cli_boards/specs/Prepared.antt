@@ -1,4 +1,4 @@
--- What a command clocks, a program and a microprogram, and how a command ends that has both of files first.
+-- What a command clocks, a program and a microprogram, and how a command ends that first reads both from files.
 use Rattle.std.specs.Prelude.{ℕ, List, Option}
 use Rattle.mic_words.specs.declared.machine.Machine.{Machine}
 use Rattle.console_port.specs.declared.map.MemoryMap.{MemoryMap}
@@ -11,7 +11,7 @@ use Rattle.cli_boards.specs.Own.{IsChosenMicroprogram, NoneChosen}
 use Rattle.cli_boards.specs.declared.preparing.Prepared.{Prepared}
 
 module _ (machine : Machine) (map : MemoryMap) where
-  -- both are had
+  -- both are available
   pub record IsPrepared (file : List ℕ) (own : Option (List ℕ)) (o : OutsideView) (micro : MalView) (program : VerifiedView) : Type 0 where
     pub had : IsHad (IsAcceptedProgram map) file o program
     pub chosen : IsChosenMicroprogram machine own o micro
@@ -19,7 +19,7 @@ module _ (machine : Machine) (map : MemoryMap) where
   abbrev pub HasPrepared : List ℕ → Option (List ℕ) → OutsideView → Prepared → Type 0
   HasPrepared file own o prepared = IsPrepared file own o prepared.micro.program prepared.program
 
-  -- one is not, and it is told why: the program's file is looked at first, then the microprogram's
+  -- one is not, and the reason is printed: the program's file is looked at first, then the microprogram's
   pub data IsUnprepared (file : List ℕ) (own : Option (List ℕ)) (old new : OutsideView) (status : ℕ) : Type 0 where
     NoProgram : HasNoProgram map file old new status → IsUnprepared file own old new status
     NoMicroprogram : (program : VerifiedView) → IsHad (IsAcceptedProgram map) file old program → NoneChosen machine own old new status →

@@ -19,7 +19,7 @@ use Rattle.cli_boards.specs.Runs.{RunsThrough, report_on}
 module _ {M State : Type 0} (state : M → State) (m : Meaning State) where
   -- the run of this microprogram over an accepted program, profiled
   pub data IsProfiled (bound : ℕ) (micro : MalView) (program : VerifiedView) (old new : OutsideView) (status : ℕ) : Type 0 where
-    -- memory was wanting before the first cycle
+    -- memory ran out before the first cycle
     NoRoom : TellsOnErr out_of_memory exits.memory old new status → IsProfiled bound micro program old new status
     -- The run came to its end, or the console or `out` failed and cut it: `err` has got its profile and its report. The profile is that of the end
     -- where the board stands: if only the last flush failed, the run came to that end before.

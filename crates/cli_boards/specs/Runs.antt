@@ -31,7 +31,7 @@ pub record IsLeftBy (end : Option End) (old new : OutsideView) : Type 0 where
   pub cause : HasEndCause old.console.faults new.console.faults old.out.faults new.out.faults None end
   pub flushed : IfSome end (λ e. e ≢ ends.WriteFault → StaysFlushed old.out.held old.out.passed new.out.held new.out.passed)
 
--- A text is said behind what was put to a sink since it stood so, unless that failed: together they are said.
+-- A text is printed after what was put to a sink since some earlier state of it, unless that failed: both count as one printed text.
 abbrev pub SaysBehind : {K E : Type 0} → (K → Option (List ℕ)) → (K → Option (List ℕ)) → (K → ℕ) → Result Unit E → K → K → List ℕ → ℕ → ℕ → Type 0
 SaysBehind held passed faults said old new text code status =
     (first : SinkState) (before : List ℕ) → Puts first.held before said (held old) → HasCause first.faults (faults old) said →
@@ -42,7 +42,7 @@ module _ {M State : Type 0} (state : M → State) (m : Meaning State) where
   abbrev pub report_on : End → BoardView M → List ℕ
   report_on end board = report_of end board.counts (m.registers (state board.machine))
 
-  -- the report of a board is said behind what was put to a sink, with the end's status
+  -- the report of a board is printed after what was put to a sink, with the end's status
   abbrev pub ReportsBehind : {K E : Type 0} → (K → Option (List ℕ)) → (K → Option (List ℕ)) → (K → ℕ) → Result Unit E → End → BoardView M → K → K → ℕ → Type 0
   ReportsBehind held passed faults said end board old new = SaysBehind held passed faults said old new (report_on end board) (status_of end)
 

@@ -27,7 +27,7 @@ traced_of micro l program buses = record { program = micro; addresses = l.placem
 module _ {M State : Type 0} (state : M → State) (m : Meaning State) where
   -- the run of this microprogram over an accepted program, traced
   pub data IsTraced (bound : ℕ) (buses : Bool) (micro : MalView) (program : VerifiedView) (old new : OutsideView) (status : ℕ) : Type 0 where
-    -- memory was wanting before the first cycle
+    -- memory ran out before the first cycle
     NoRoom : TellsOnErr out_of_memory exits.memory old new status → IsTraced bound buses micro program old new status
     -- the run came to its end, or the console or `out` failed and cut it: `err` has got the lines of its cycles, and its report
     Whole : (l : Loaded) (last : BoardView M) (cycles : List Cycle) (end : End) (lines : List ℕ) →

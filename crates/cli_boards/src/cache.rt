@@ -49,8 +49,8 @@ fn cache_watcher(
     Ok(CacheWatcher { accesses, cache })
 }
 
-/// Clocks an accepted program with a microprogram to its end, repeats its accesses of memory on a cache of so many lines,
-/// reports, and then prints what the cache counted.
+/// Clocks an accepted program with a microprogram to its end, repeats its accesses of memory on a cache of this many
+/// lines, reports, and then prints what the cache counted.
 pub fn cache_program<M: Clocked + Drop, F: Files, S: Source, K: Sink, E: Sink>(
     alloc: Global,
     machine: M,

@@ -12,7 +12,7 @@ use mic_base::{Files, Sink, Source};
 use micro_word::Machine;
 use std::alloc::Global;
 
-/// The microprogram of a file; or it is said why there is none, and the status tells.
+/// The microprogram of a file. Where there is none, it prints why and returns the status of that.
 fn own_microprogram<F: Files, S: Source, K: Sink, E: Sink>(
     alloc: Global,
     machine: Machine,
@@ -31,7 +31,7 @@ fn own_microprogram<F: Files, S: Source, K: Sink, E: Sink>(
     }
 }
 
-/// The microprogram of the named file, or where none is named the one that ships.
+/// The microprogram of the named file or, where none is named, the one that ships.
 pub(crate) fn chosen_microprogram<F: Files, S: Source, K: Sink, E: Sink>(
     alloc: Global,
     machine: Machine,

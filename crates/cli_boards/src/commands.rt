@@ -56,7 +56,7 @@ pub fn profile_file<M: Clocked + Drop, F: Files, S: Source, K: Sink, E: Sink>(
     }
 }
 
-/// Reads a program, and runs it by the microprogram that ships, with a cache of so many lines.
+/// Reads a program, and runs it by the microprogram that ships, with a cache of this many lines.
 pub fn cache_file<M: Clocked + Drop, F: Files, S: Source, K: Sink, E: Sink>(
     alloc: Global,
     machine: M,

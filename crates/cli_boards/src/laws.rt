@@ -4,8 +4,8 @@ ghost use Rattle.cli_boards.specs.Runs.{RunsAreClocked};
 
 use mic_clock::Clocked;
 
-/// The cycles of a run from its reset are clocked one after the other, and they are as many as the board counts. So
-/// the profile of a run counts what the run completed.
+/// The cycles of a run from its reset are clocked one after the other, and the board counts as many. So the profile of
+/// a run counts what the run completed.
 pub fn runs_are_clocked_from_reset<M: Clocked>()
     ensures { RunsAreClocked M.state M.meaning }
 {}

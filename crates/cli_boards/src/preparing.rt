@@ -23,7 +23,7 @@ pub struct Prepared {
     pub micro: Microprogram,
 }
 
-/// Reads a program and a microprogram; or it is said of a file why nothing is had of it, and the status tells.
+/// Reads a program and a microprogram. Where one is missing, it prints why and returns the status of that.
 pub fn prepare<F: Files, S: Source, K: Sink, E: Sink>(
     alloc: Global,
     machine: Machine,

@@ -7,7 +7,7 @@ use cli_run_texts::{clocked_report, status_of};
 use mic_base::{Sink, SinkFailed};
 use mic_clock::{Board, Clocked, End};
 
-/// Says a text behind what was put, unless that failed.
+/// Prints a text after what was put, unless that failed.
 pub(crate) fn say_behind<E: Sink>(
     said: Result<(), SinkFailed>,
     text: &[u8],
@@ -22,7 +22,7 @@ pub(crate) fn say_behind<E: Sink>(
     }
 }
 
-/// Reports behind what was put, unless that failed, and answers the status of the end.
+/// Prints the report after what was put, unless that failed, and returns the status of the end.
 pub(crate) fn report_behind<M: Clocked, E: Sink>(
     said: Result<(), SinkFailed>,
     end: End,

@@ -56,7 +56,7 @@ of_limit : (p : TimedImage) (bound points : ℕ) (at : Point) (f : Finish) → f
 of_limit p bound zero at f e = absurd (cc)
 of_limit p bound (suc points) at f e = by_test p bound points at (nat_le bound at.cycles) f (λ next. of_limit p bound points next f) e
 
--- The heads of both reports are one.
+-- Both reports have the same head.
 
 cycles_by : (end : RunEnd) (cycles counted : ℕ) (last : Boundary) → (end ≡ defined.StackLimit → cycles ≡ last.cycles) → (end ≢ defined.StackLimit → counted ≡ cycles) →
     cycles_of (board_end end) counted (Some last) ≡ cycles
@@ -89,13 +89,13 @@ clocked_is c f limit cycles instructions boundary =
     ∙ (ap (λ (n : ℕ). head (board_end f.end) n c.instructions (Some (boundary_of f.last))) (cycles_by f.end f.cycles c.cycles (boundary_of f.last) limit cycles)
     ∙ ap (λ (i : ℕ). head (board_end f.end) f.cycles i (Some (boundary_of f.last))) instructions)
 
--- What is said where the sink does not fail.
+-- What is printed where the sink does not fail.
 
 pub said : (old new : SinkState) (text : List ℕ) (code status : ℕ) → (Rose old.faults new.faults → ⊥) → Says old new text code status → (status ≡ code) × Got old.held text new.held
 said old new text code status none (Said is got flushed same) = (is, got)
 said old new text code status none (Unsaid is got rose) = absurd (none rose)
 
--- what a source tells is what a run of it takes
+-- what a source is known to have left is what a run of it takes
 pub told_input : (left : Option (List ℕ)) (input taken : List ℕ) → left ≡ Some input → Untaken left false taken → taken ≡ input
 told_input left input taken e told = subst (λ (l : Option (List ℕ)). Untaken l false taken) e told
 

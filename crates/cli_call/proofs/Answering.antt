@@ -85,14 +85,14 @@ IsStray (ends.OutOfMap at) = Unit {0}
 IsStray ends.Adrift = Unit {0}
 IsStray end = ⊥
 
--- the definition's run does not
+-- the definition's run does not end so
 not_stray : (d : RunEnd) → IsStray (board_end d) → ⊥
 not_stray defined.Halt h = h
 not_stray defined.Err h = h
 not_stray defined.Bound h = h
 not_stray defined.StackLimit h = h
 
--- nor does a fault
+-- such an end is no fault
 not_fault : (end : End) → IsStray end → NoFault None (Some end)
 not_fault (ends.OutOfMap at) h = tt
 not_fault ends.Adrift h = tt
@@ -145,18 +145,18 @@ module _ (asks : Option Asked) (old new : OutsideView) (status : ℕ) where
   abbrev Answer : Type 0
   Answer = IsAnswer asks old new status
 
-  -- What is said has its status, or the sink failed.
+  -- What is printed has its status, or the sink failed.
 
   on_err : (text : List ℕ) (code : ℕ) → Says old.err new.err text code status → (status ≡ code → Answer) → Answer
   on_err text code (Said is got flushed same) answer = answer is
   on_err text code (Unsaid is front rose) answer = SinkFailed (inr rose) is
 
-  -- and where it did not, its count stays
+  -- where the sink did not fail, its count stays
   on_err_well : (text : List ℕ) (code : ℕ) → Says old.err new.err text code status → (new.err.faults ≡ old.err.faults → status ≡ code → Answer) → Answer
   on_err_well text code (Said is got flushed same) answer = answer same is
   on_err_well text code (Unsaid is front rose) answer = SinkFailed (inr rose) is
 
-  -- behind what it holds already
+  -- after what it holds already
   behind_err_well : (err : SinkState) (text : List ℕ) (code : ℕ) → err.faults ≡ old.err.faults → Says err new.err text code status → (new.err.faults ≡ old.err.faults → status ≡ code → Answer) → Answer
   behind_err_well err text code quiet (Said is got flushed same) answer = answer (same ∙ quiet) is
   behind_err_well err text code quiet (Unsaid is front rose) answer = SinkFailed (inr (subst (λ faults. Rose faults new.err.faults) quiet rose)) is
@@ -180,7 +180,7 @@ module _ (asks : Option Asked) (old new : OutsideView) (status : ℕ) where
           }) is
       by (Unsaid is front rose) = SinkFailed (inl rose) is
 
-  -- all that is done is said on `err`, but for what is done to the files
+  -- all that is done is printed on `err`, except what is done to the files
   told : (text : List ℕ) (code : ℕ) (files : FilesState) → TellsOnErr text code (with_files old files) new status → (IsUntouched old new → status ≡ code → Answer) → Answer
   told text code files h answer = on_err text code h.says (answer (record { console = h.console; out = h.out }))
 
@@ -190,7 +190,7 @@ module _ (asks : Option Asked) (old new : OutsideView) (status : ℕ) where
   short : TellsOnErr out_of_memory exits.memory old new status → Answer
   short h = only_told _ _ h (λ only. NoMemory only.untouched)
 
-  -- A file is not had, or this is done over what it holds.
+  -- Nothing is read of a file, or this is done over what it holds.
 
   unread : (file : List ℕ) → HasFileRead asks file → IsUnread file old new status → Answer
   unread file reads (work.Failed same rose h) = told _ _ new.files h (FileFailed rose)

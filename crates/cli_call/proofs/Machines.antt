@@ -20,7 +20,7 @@ use Rattle.cli_call.specs.ClockedEnd.{ClockedEnd, CutByRead, CutByWrite, NoRoom,
 use Rattle.cli_call.specs.Agree.{CallsEndAlike, IsQuiet}
 use Rattle.cli_call.proofs.Agreeing.{said}
 
--- what both sinks tell
+-- what two sinks hold is equal, where both are known
 both_tell : (held held' : Option (List ℕ)) (x y : List ℕ) → IfSome held (λ h. IfSome held' (λ h'. h ≡ h')) → held ≡ Some x → held' ≡ Some y → x ≡ y
 both_tell held held' x y same a b =
     subst (λ (k : Option (List ℕ)). IfSome k (λ h'. x ≡ h')) b (subst (λ (k : Option (List ℕ)). IfSome k (λ h. IfSome held' (λ h'. h ≡ h'))) a same)

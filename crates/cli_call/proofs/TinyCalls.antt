@@ -35,7 +35,7 @@ use Rattle.cli_call.proofs.Agreeing.{OneEnd, said, told_input}
 use Rattle.cli_call.proofs.AtLimit.{given_at_last}
 use Rattle.cli_call.proofs.TwoCalls.{IsDone, IsLong, IsRefusal, outcome, same_bytes}
 
--- what files tell of a file is its text
+-- the content that a file has in the files is its text
 same_text : (told : Option Contents) (contents : Contents) (name text bytes : List ℕ) → told ≡ Some contents → file_in contents name ≡ Some text → Tells told name bytes → bytes ≡ text
 same_text told contents name text bytes tells has other =
     same_bytes told contents name bytes text tells other (subst (λ (t : Option Contents). Tells t name text) (sym tells) has)

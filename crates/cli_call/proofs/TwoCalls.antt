@@ -9,7 +9,7 @@ use Rattle.cli_outside.specs.Work as work
 use Rattle.cli_call.specs.Agree.{BothRan, CallsAgree, IsQuiet, NoneHad}
 use Rattle.cli_call.proofs.Agreeing.{said}
 
--- what files tell of a file is one
+-- a file has one content in the files
 pub same_bytes : (told : Option Contents) (contents : Contents) (name a b : List ℕ) → told ≡ Some contents → Tells told name a → Tells told name b → a ≡ b
 same_bytes told contents name a b tells one other =
     let here : file_in contents name ≡ Some a = subst (λ (t : Option Contents). Tells t name a) tells one in

@@ -29,7 +29,7 @@ pub record IsQuiet (old new : OutsideView) (status : ℕ) : Type 0 where
 pub record Agrees (old ran told : OutsideView) (status status' : ℕ) : Type 0 where
   pub same_status : status ≡ status'
   pub same_out : (one other : List ℕ) → ran.out.held ≡ Some one → told.out.held ≡ Some other → one ≡ other
-  -- `reference` says three lines, and `run` these and the state line
+  -- `reference` prints three lines, and `run` these and the state line
   pub report : PlainReport
   pub registers : Registers
   pub run_says : Got old.err.held (plain_head report ++ state_line registers ++ codes "\n") ran.err.held
@@ -39,7 +39,7 @@ pub record Agrees (old ran told : OutsideView) (status status' : ℕ) : Type 0 w
 pub record CallsEndAlike (old one other : OutsideView) (status status' : ℕ) : Type 0 where
   pub same_status : status ≡ status'
   pub same_out : (given given' : List ℕ) → one.out.held ≡ Some given → other.out.held ≡ Some given' → given ≡ given'
-  -- both report this end, with as many instructions
+  -- both report this end, and the same number of instructions
   pub end : End
   pub counts : Counts
   pub counts' : Counts
@@ -62,7 +62,7 @@ RunIsAsReference machine file map bound =
     CallEnds (Some (Run file machine bound map)) old ran status → CallEnds (Some (Reference file machine bound map)) old told status' →
     IsQuiet old ran status → IsQuiet old told status' → CallsAgree (Agrees old ran told status status') status status'
 
--- `run` on both machines: where besides neither meets its bound they end alike.
+-- `run` on both machines: where, besides, neither meets its bound they end alike.
 abbrev pub RunsEndAlike : List ℕ → MemoryMap → ℕ → ℕ → Type 0
 RunsEndAlike file map bound bound' =
     (input : List ℕ) (contents : Contents) (old one other : OutsideView) (status status' : ℕ) →

@@ -1,4 +1,4 @@
--- The answers of a call of `mic`, one by one: what caused it, and what stands after it.
+-- The answers of a call of `mic`, one by one: the cause of each, and the state of the outside after it.
 use Rattle.std.specs.Prelude.{◌≡◌, ◌<◌, ◌≤◌, ◌⊎◌, ℕ, List, length, Option, Some, None}
 use Rattle.mic_base.specs.Causes.{Rose}
 use Rattle.mic_base.specs.Files.{Tells, most_bytes}
@@ -29,7 +29,7 @@ HasFileRead (Some (Rewind file machine input depth map)) name = (name ≡ file) 
 HasFileRead (Some (Compile tiny image)) name = name ≡ tiny
 HasFileRead (Some (Tiny tiny machine bound)) name = name ≡ tiny
 
--- they have a program run to its end
+-- the words have a program run to its end
 abbrev pub Runs : Option Asked → Type 0
 Runs (Some (Run file machine bound map)) = Unit {0}
 Runs (Some (RunPipeline file bound map)) = Unit {0}
@@ -42,24 +42,24 @@ Runs (Some (Cache file lines bound map)) = Unit {0}
 Runs (Some (Tiny tiny machine bound)) = Unit {0}
 Runs asks = ⊥
 
--- they have it run by a person's own microprogram
+-- the words have it run by a person's own microprogram
 abbrev pub RunsOwn : Option Asked → Type 0
 RunsOwn (Some (RunOwn file machine bound map micro)) = Unit {0}
 RunsOwn (Some (Trace file machine bound map (Some micro) buses)) = Unit {0}
 RunsOwn (Some (Profile file machine bound map (Some micro))) = Unit {0}
 RunsOwn asks = ⊥
 
--- they have the definition run it
+-- the words have the definition run it
 abbrev pub IsReference : Option Asked → Type 0
 IsReference (Some (Reference file machine bound map)) = Unit {0}
 IsReference asks = ⊥
 
--- console and `out` are as they were
+-- the console and `out` are as they were
 pub record IsUntouched (old new : OutsideView) : Type 0 where
   pub console : new.console ≡ old.console
   pub out : new.out ≡ old.out
 
--- and so are the files
+-- the files, the console and `out` are as they were
 pub record IsOnlyTold (old new : OutsideView) : Type 0 where
   pub files : new.files ≡ old.files
   pub untouched : IsUntouched old new
@@ -71,7 +71,7 @@ pub record IsFaultless (old new : OutsideView) : Type 0 where
   pub out : new.out.faults ≡ old.out.faults
   pub err : new.err.faults ≡ old.err.faults
 
--- A status is one of these, each with its cause. None but these comes.
+-- A status is one of these, each with its cause. There are no others.
 pub data IsAnswer (asks : Option Asked) (old new : OutsideView) (status : ℕ) : Type 0 where
   -- 0: the command is done, or a run came to HALT, and nothing failed
   Done : IsFaultless old new → status ≡ exits.done → IsAnswer asks old new status
@@ -98,6 +98,6 @@ pub data IsAnswer (asks : Option Asked) (old new : OutsideView) (status : ℕ) :
   NoMemory : IsUntouched old new → status ≡ exits.memory → IsAnswer asks old new status
   ShortOfMemory : IsReference asks → status ≡ exits.memory → IsAnswer asks old new status
 
--- a call that ends so ends with one of these answers
+-- a call that ends in this way ends with one of these answers
 abbrev pub HasItsCause : Option Asked → OutsideView → OutsideView → ℕ → Type 0
 HasItsCause asks old new status = CallEnds asks old new status → IsAnswer asks old new status

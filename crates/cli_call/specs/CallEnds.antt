@@ -40,7 +40,7 @@ use Rattle.cli_call.specs.Usage.{usage_text}
 -- A machine: its meaning, when its next instruction is ready, its store that ships, where that begins, and what is spent.
 module _ {M S : Type 0} (state : M → S) (m : Meaning S) (IsReady : ℕ → List ℕ → ℕ → S → Type 0)
     (IsShipped : List ℕ → Type 0) (entry : ℕ) (timing : Timing) where
-  -- how what is asked of it ends
+  -- how what the machine is asked ends
   abbrev pub EndsOn : Asked → OutsideView → OutsideView → ℕ → Type 0
   EndsOn (Run file machine bound map) = EndsOver map (ClockedEnd state m IsReady IsShipped entry timing bound) file
   EndsOn (RunOwn file machine bound map micro) = EndsPrepared m.machine map (IsOwnRun state m bound) file (Some micro)
@@ -88,7 +88,7 @@ EndsAs (Some (Tiny tiny machine bound)) = EndsOnMachine machine (Tiny tiny machi
 abbrev pub DoesAsked : Asked → LentView → LentView → ℕ → Type 0
 DoesAsked asked = Over (EndsAs (Some asked))
 
--- memory is wanting before anything is done, or the call ends as its words ask
+-- memory runs out before anything is done, or the call ends as its words ask
 pub data CallEnds (asks : Option Asked) (old new : OutsideView) (status : ℕ) : Type 0 where
   NoRoom : TellsOnErr out_of_memory exits.memory old new status → CallEnds asks old new status
   Done : EndsAs asks old new status → CallEnds asks old new status

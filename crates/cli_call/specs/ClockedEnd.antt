@@ -20,9 +20,9 @@ module _ {M S : Type 0} (state : M → S) (m : Meaning S) (IsReady : ℕ → Lis
     (IsShipped : List ℕ → Type 0) (entry : ℕ) (timing : Timing) where
   -- `board` is the machine that was clocked over the program from its reset
   pub data ClockedEnd (bound : ℕ) (program : VerifiedView) (old new : OutsideView) (status : ℕ) : Type 0 where
-    -- memory was wanting before the first cycle
+    -- memory ran out before the first cycle
     NoRoom : TellsOnErr out_of_memory exits.memory old new status → ClockedEnd bound program old new status
-    -- the clocked run is the definition's, boundary by boundary, and has ended as that does, which the status tells;
+    -- the clocked run is the definition's, boundary by boundary, and has ended as that does, with the status of that end;
     -- `out` has got the definition's output, and has passed on all
     Ran : (board : BoardView M) →
         (run : HasRun state m IsReady IsShipped entry timing program bound old.console.left old.out.held new.console.left new.out.held board) →

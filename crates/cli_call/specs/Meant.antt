@@ -26,7 +26,7 @@ pub record IsTinyCall (text input : List ℕ) (machine : Machine) (bound : ℕ)
   pub ends : CallEnds (Some (Tiny file machine bound)) old new status
   pub quiet : IsQuiet old new status
 
--- `out` has got this, where it tells what it holds
+-- `out` has got this, where what it holds is known
 abbrev pub HasGot : OutsideView → OutsideView → List ℕ → Type 0
 HasGot old new given = IfSome new.out.held (λ held. held ≡ told_of old.out.held ++ given)
 
@@ -54,10 +54,10 @@ SomeBound IsCall Comes = (bound : ℕ) × ((old new : OutsideView) (status : ℕ
 pub record CallsAreAsMeant (text : List ℕ) (program : Program) (input : List ℕ) (machine : Machine) : Type 0 where
   pub ends : (bound : ℕ) (old new : OutsideView) (status : ℕ) → IsTinyCall text input machine bound old new status →
       EndsAsMeant program input old new status
-  -- where the program ends, calls end so with some bound
+  -- where the program ends, calls end with its output and rest, with some bound
   pub ended : (n : ℕ) (given untaken : List ℕ) → meaning program input n ≡ Ended given untaken →
       SomeBound (IsTinyCall text input machine) (HasEnded given untaken)
-  -- and each output of the program is come to with some bound
+  -- some bound reaches each output of the program
   pub reaches : (n : ℕ) → SomeBound (IsTinyCall text input machine)
       (λ old new status. (given : List ℕ) × IsPrefix (output (meaning program input n)) given × HasGot old new given)
 

@@ -1,7 +1,7 @@
--- The text that answers a faulty command line, byte by byte.
+-- The text that is printed for a faulty command line, byte by byte.
 use Rattle.std.specs.Prelude.{ℕ, List, ◌++◌, codes}
 
--- the text that a faulty command line is answered with
+-- the text that is printed where the command line is faulty
 abbrev pub usage_text : List ℕ
 usage_text =
     codes "usage: mic assemble SOURCE IMAGE\n"

@@ -1,4 +1,4 @@
-//! The top call: the words, the files and the streams of one call of the program, and what each answer is caused by.
+//! The top call: the words, the files and the streams of one call of the program, and the cause of each answer.
 
 ghost use Rattle.std.specs.Prelude.{ℕ, Option, map, string_bytes};
 ghost use Rattle.cli_words.specs.Words.{Asked, request_of};

@@ -13,7 +13,7 @@ use mic_base::{Files, Sink, Source};
 use shipped_microcode::Mic1Interpreter;
 use std::alloc::Global;
 
-/// Runs a program with a cache of so many lines.
+/// Runs a program with a cache of this many lines.
 pub(crate) fn run_cached<F: Files, S: Source, K: Sink, E: Sink>(
     alloc: Global,
     file: &str,

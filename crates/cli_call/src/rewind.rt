@@ -14,7 +14,7 @@ use mic_words::Machine;
 use shipped_microcode::{Mic1Interpreter, Mic2Interpreter};
 use std::alloc::Global;
 
-/// Clocks a program forward and back as the lines of the console ask, back by at most so many cycles.
+/// Clocks a program forward and back as the lines of the console ask, back by at most this many cycles.
 pub(crate) fn rewind_on<F: Files, S: Source, K: Sink, E: Sink>(
     alloc: Global,
     file: &str,

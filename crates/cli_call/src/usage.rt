@@ -24,7 +24,7 @@ const USAGE: &[u8] = b"usage: mic assemble SOURCE IMAGE
        mic tiny TINY [--machine V] [--bound N]
 ";
 
-/// Says how `mic` is called.
+/// Prints how `mic` is called.
 pub fn misused<E: Sink>(err: &mut E) -> Status
     ensures { SaysTo E.held E.passed E.faults err.old err.new usage_text exits.usage result.0 }
 {

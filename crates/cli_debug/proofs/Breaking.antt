@@ -109,7 +109,7 @@ module _ {State : Type 0} (m : Meaning State) (book : Book) (words breaks : List
             subst (λ (j : ℕ). IsFront (printed m book words breaks bound u j r) (printed m book words breaks bound u (suc n) r)) e (front_same (printed m book words breaks bound u (suc n) r)))
       ]
 
-  -- no moment of a command is behind its end
+  -- no moment of a command comes after its end
   none_behind : (times k n : ℕ) (r : MicroRun State) → IsGoing m book words breaks bound u times k r → IsDone m book words breaks bound u times n r → k ≤ n
   none_behind times k n r going done =
       elim (cases_lt n k) [

@@ -29,7 +29,7 @@ same_quits {M = M} start = ap (λ (v : SessionView M). is_quit v.listing.memory)
 
 module _ {M State : Type 0} {state : M → State} {m : Meaning State} {bound : ℕ} {micro : MalView} {l : Loaded} {program : VerifiedView} {input : List ℕ}
     {first : SessionView M} {old : OutsideView} {last : Place (DebuggingView M)} (start : IsStart state m bound micro l program first) where
-  -- it was left, or its lines are at their end
+  -- the session was left, or its lines are at their end
   pub left_by : {new : OutsideView} {status : ℕ} (step : Step) → step ≢ steps.ConsoleFailed → step ≢ steps.SinkFailed →
       Goes (debugging state m) most_lines 0 (place (debugging_view first input) old) last step → TellsOnErr (report_in state m last.session.session) exits.done last.seen new status →
       IsDebugged state m bound micro program input old new status

@@ -35,7 +35,7 @@ use Rattle.cli_debug.specs.Debugging.{debugging, debugging_view}
 pub no_rise : Rose 0 0 → ⊥
 no_rise rose = absurd (omega (arith, rose))
 
--- what a source that tells may have untaken is one list
+-- only one list may be untaken of a source whose rest is known
 abbrev untaken_of : List ℕ → Bool → List ℕ
 untaken_of left true = []
 untaken_of left false = left
@@ -63,7 +63,7 @@ module _ {M State : Type 0} (state : M → State) (left left' : List ℕ) (held 
   pub same_stand : stand_in v s.run ≡ s
   same_stand = λ i. record { run = s.run; breaks = sym here.breaks i; watched = sym here.watched i }
 
--- ---- what a call of the library answers
+-- ---- what a call of the library returns
 
 clocked_quits : (end : Option End) (breaks : List ℕ) (watched : Option ℕ) (memory : List ℕ) (u : Until) (times : ℕ) → is_quit_reply (reply_of (clocking end breaks watched memory u times)) ≡ false
 clocked_quits None breaks watched memory u times = refl
@@ -93,7 +93,7 @@ line_quits end breaks watched memory (Ok (Some c)) = verb_quits end breaks watch
 line_quits end breaks watched memory (Err BadCommand) = refl
 line_quits end breaks watched memory (Err BadNumber) = refl
 
--- it says `quit` exactly where the line does
+-- a reply is `quit` exactly where the line quits
 pub quits_by : {M E : Type 0} (v : SessionView M) (line : List ℕ) (r : Result Reply E) → IfOk r (λ reply. reply ≡ reply_of (plan_in v line)) →
     IfOk r (λ reply. is_quit_reply reply ≡ is_quit v.listing.memory line)
 quits_by v line (Ok reply) is = ap is_quit_reply is ∙ line_quits v.board.end v.breaks v.watched v.board.bus.words (command_of v.listing.memory line)

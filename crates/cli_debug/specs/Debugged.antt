@@ -38,29 +38,29 @@ module _ {M State : Type 0} (state : M → State) (m : Meaning State) where
     pub begun : v ≡ session_at v.board (listing_of micro l.placement program) bound [] None
 
   pub data IsDebugged (bound : ℕ) (micro : MalView) (program : VerifiedView) (input : List ℕ) (old new : OutsideView) (status : ℕ) : Type 0 where
-    -- memory was wanting before the first line
+    -- memory ran out before the first line
     NoRoom : TellsOnErr out_of_memory exits.memory old new status → IsDebugged bound micro program input old new status
-    -- the lines of the console were done, none after them was asked for, and then it was reported where the session stands
+    -- the lines of the console were done and none after them was asked for; then the place where the session stands was reported
     Left : (l : Loaded) (first : SessionView M) (lines : List (List ℕ)) (last : Place (DebuggingView M)) →
         IsStart bound micro l program first → Gone (debugging state m) lines (place (debugging_view first input) old) last →
         IfSome old.console.left (λ bytes.
         IsReadOut (is_quit program.map.stack_end) most_lines bytes lines new.console.left) →
         new.console.faults ≡ old.console.faults →
         TellsOnErr (report_in last.session.session) exits.done last.seen new status → IsDebugged bound micro program input old new status
-    -- the console failed: so it was reported behind the whole lines before that
+    -- the console failed: the place where the session stands was reported after the whole lines before that
     Cut : (l : Loaded) (first : SessionView M) (lines : List (List ℕ)) (last : Place (DebuggingView M)) →
         IsStart bound micro l program first → Gone (debugging state m) lines (place (debugging_view first input) old) last →
         IfSome old.console.left (λ bytes. IsCutIn (is_quit program.map.stack_end) most_lines bytes lines new.console.left) →
         Rose old.console.faults new.console.faults →
         TellsOnErr (report_in last.session.session) exits.console last.seen new status → IsDebugged bound micro program input old new status
-    -- `out` or `err` failed in the line behind these
+    -- `out` or `err` failed in the line after these
     Stopped : (l : Loaded) (first : SessionView M) (lines : List (List ℕ)) (line : List ℕ) (mid : Place (DebuggingView M)) →
         IsStart bound micro l program first → Gone (debugging state m) lines (place (debugging_view first input) old) mid →
         IfSome old.console.left (λ bytes. IsNext (is_quit program.map.stack_end) most_lines bytes lines line) →
         IsCutShort (debugging state m) line mid new → new.console.faults ≡ old.console.faults → status ≡ exits.sink →
         IsDebugged bound micro program input old new status
 
-  -- an outside that is lent comes to this: of a program and a microprogram that are prepared, and from the files that have both and the input
+  -- what is done to an outside that is lent: of a program and a microprogram that are prepared, and from the files that hold these and the input
   abbrev pub DebugsPrepared : ℕ → Prepared → List ℕ → LentView → LentView → ℕ → Type 0
   DebugsPrepared bound prepared input = Over (IsDebugged bound prepared.micro.program prepared.program input)
 

@@ -14,7 +14,7 @@ use Rattle.cli_session.specs.Giving.{OnlyGives}
 use Rattle.cli_session.specs.Meaning.{IsFrontOf}
 use Rattle.cli_outside.specs.Outside.{GotInPart}
 
--- ---- the line that ends it
+-- ---- the line that ends a session
 
 abbrev pub is_quit_verb : Verb → Bool
 is_quit_verb verbs.Quit = true
@@ -25,7 +25,7 @@ is_quit_in (Ok (Some c)) = is_quit_verb c.verb
 is_quit_in (Ok None) = false
 is_quit_in (Err e) = false
 
--- over a memory of so many words
+-- whether a line quits, over a memory of this many words
 abbrev pub is_quit : ℕ → List ℕ → Bool
 is_quit memory line = is_quit_in (command_of memory line)
 

@@ -41,8 +41,8 @@ fn begun<M: Clocked + Drop>(
     Ok(Session::new(board, listing, placement, program, bound))
 }
 
-/// Debugs an accepted program with a microprogram: the lines come from the console, the program's input is given
-/// whole. Then it is reported where the run stands.
+/// Debugs an accepted program with a microprogram: the lines come from the console, and the program's input is given
+/// whole. At the end it reports where the run stands.
 pub fn debug_program<M: Clocked + Drop, F: Files, S: Source, K: Sink, E: Sink>(
     alloc: Global,
     machine: M,
@@ -68,7 +68,7 @@ pub fn debug_program<M: Clocked + Drop, F: Files, S: Source, K: Sink, E: Sink>(
     }
 }
 
-/// Reports where the run of a board that is left stands.
+/// Prints the report of a board that a session left.
 fn report<M: Clocked, F: Files, S: Source, K: Sink, E: Sink>(
     board: &Board<M>,
     outside: &mut Outside<'_, F, S, K, E>,

@@ -1,4 +1,4 @@
--- What a command answers, from what the layers below it say.
+-- What a command returns, from what the layers below it say.
 use Rattle.std.proofs.Common.{◌≡◌, ◌⊎◌, ℕ, List, Option, Some, None, false, IsSome, refl, sym, subst, length, arith}
 use Rattle.std.proofs.lemmas.List.{length-map}
 use Rattle.mic_words.specs.declared.machine.Machine.{Machine}
@@ -52,7 +52,7 @@ refused_inside program place.NoRoom h = tt
 pub names_inside : (program : MalView) (e : PlaceError) → placing.Refuses (demands_of program) e → NamesStatements (length program.statements) e
 names_inside program e h = let P : ℕ → Type 0 = λ n. NamesStatements n e in subst P (length_fixed program) (refused_inside program e h)
 
--- the same, where the constraints are the program's
+-- what refuses the constraints refuses the program's demands, where the constraints are these
 pub refused_by : (program : MalView) (constraints : Demands) (e : PlaceError) → constraints ≡ demands_of program → placing.Refuses constraints e →
     placing.Refuses (demands_of program) e
 refused_by program constraints e same h = let P : Demands → Type 0 = λ d. placing.Refuses d e in subst P same h

@@ -1,4 +1,4 @@
--- A line for each number, one behind the other.
+-- A line for each number, one after the other.
 use Rattle.std.proofs.Common.{◌≡◌, ℕ, ◌+◌, List, [], ◌∷◌, ◌++◌, refl, sym, ap, ◌∙◌, append_assoc, arith}
 use Rattle.std.specs.Prelude.{map}
 use Rattle.std.proofs.lemmas.List.FromFn.{map-range_with_len_more}
@@ -18,7 +18,7 @@ map-below_more : (f : ℕ → List ℕ) (n : ℕ) → map f (below (n + 1)) ≡ 
 unfolding below
 map-below_more f n = map-range_with_len_more f 0 n n (omega arith)
 
--- one line more
+-- one more line
 pub lined_more : (f : ℕ → List ℕ) (n : ℕ) → text_of (map f (below (n + 1))) ≡ text_of (map f (below n)) ++ (f n ++ 10 ∷ [])
 lined_more f n = ap text_of (map-below_more f n) ∙ text_of-append (map f (below n)) (f n ∷ [])
 
@@ -28,7 +28,7 @@ pub line_added : (f : ℕ → List ℕ) (n : ℕ) (old new line : List ℕ) → 
 line_added f n old new line is same added =
     added ∙ ap (λ (l : List ℕ). old ++ (l ++ 10 ∷ [])) same ∙ ap (λ (o : List ℕ). o ++ (f n ++ 10 ∷ [])) is ∙ sym (lined_more f n)
 
--- the same behind another text
+-- a text of n lines after another text gets the next one
 pub line_added_behind : (f : ℕ → List ℕ) (n : ℕ) (front old new line : List ℕ) → old ≡ front ++ text_of (map f (below n)) → line ≡ f n →
     new ≡ old ++ (line ++ 10 ∷ []) → new ≡ front ++ text_of (map f (below (n + 1)))
 line_added_behind f n front old new line is same added =

@@ -36,13 +36,13 @@ pub record Placed : Type 0 where
   pub addresses : List ℕ
   pub store : ControlStore
 
--- the text spells it, and it is at its chosen placement
+-- the text spells the microprogram, whose addresses are its chosen placement
 pub record IsPlaced (machine : Machine) (bytes : List ℕ) (p : Placed) : Type 0 where
   pub spelled : SpellsProgram machine bytes p.program
   pub chosen : IsChosenList (demands_of p.program) p.addresses
   pub stored : IsStoreOf p.program p.addresses p.store
 
--- its store file, and what is printed of it
+-- the store file of a placed microprogram, and what is printed of it
 pub record IsMadeOf (p : Placed) (file text : List ℕ) : Type 0 where
   pub file_is : file ≡ store_file p.store
   pub text_is : text ≡ placement_text p.program p.addresses p.store
@@ -64,7 +64,7 @@ pub data IsPrinted (machine : Machine) (bytes text : List ℕ) : Type 0 where
   OfStoreFile : (s : ControlStore) → IsSome (machine_of bytes) → IsStore s → bytes ≡ store_file s → text ≡ listing s → IsPrinted machine bytes text
   OfText : (program : MalView) → machine_of bytes ≡ None → SpellsProgram machine bytes program → text ≡ canonical_text program → IsPrinted machine bytes text
 
--- it is neither, for this reason
+-- the file is neither, for this reason
 pub data IsUnprinted (machine : Machine) (bytes reason : List ℕ) : Type 0 where
   NoStore : (e : StoreError) → IsSome (machine_of bytes) → RefusesFile bytes e → store_reason e ≡ Some reason → IsUnprinted machine bytes reason
   NoText : (e : MalError) → machine_of bytes ≡ None → IsRefused machine bytes e → mal_reason e ≡ Some reason → IsUnprinted machine bytes reason

@@ -11,7 +11,7 @@ use Rattle.store_placement.specs.declared.refusal.PlaceError.TheVariants as plac
 use Rattle.store_placement.specs.declared.store_error.StoreError.{StoreError}
 use Rattle.store_placement.specs.declared.store_error.StoreError.TheVariants as store
 
--- a text that is no program; want of memory is no refusal
+-- a text that is no program; out of memory is no refusal
 abbrev pub mal_reason : MalError → Option (List ℕ)
 mal_reason (mal.BadToken line) = Some (of_line line (codes "bad token"))
 mal_reason (mal.BadStatement line) = Some (of_line line (codes "bad statement"))
@@ -29,7 +29,7 @@ mal_reason mal.OutOfMemory = None
 abbrev pub line_at : List Statement → ℕ → ℕ
 line_at statements s = unwrap_or (option_map (λ t. t.line) (slice_get statements s)) 0
 
--- of two statements on these lines
+-- the message of two statements on these lines
 abbrev pub of_two_lines : ℕ → ℕ → List ℕ
 of_two_lines first second = of_file (codes "lines " ++ decimal first ++ codes " and " ++ decimal second ++ codes " are forced to one address")
 
@@ -40,14 +40,14 @@ place_reason statements (place.FixedWrongHalf s) = of_line (line_at statements s
 place_reason statements (place.FixedClash s t) = of_two_lines (line_at statements s) (line_at statements t)
 place_reason statements place.NoRoom = of_file (codes "no room for the pairs")
 
--- bytes that are no store file; want of memory is no refusal
+-- bytes that are no store file; out of memory is no refusal
 abbrev pub store_reason : StoreError → Option (List ℕ)
 store_reason store.BadMagic = Some (of_file (codes "bad magic"))
 store_reason (store.BadLength length) = Some (of_file (codes "bad length " ++ decimal length))
 store_reason (store.BadWord address) = Some (of_file (codes "bad word at " ++ hex_text 3 address))
 store_reason store.OutOfMemory = None
 
--- the statements that the refusal names are there
+-- the statements that the refusal names exist
 abbrev pub NamesStatements : ℕ → PlaceError → Type 0
 NamesStatements count (place.PairClash s) = s < count
 NamesStatements count (place.FixedWrongHalf s) = s < count

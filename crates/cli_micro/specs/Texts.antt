@@ -12,7 +12,7 @@ use Rattle.store_placement.specs.Demands.{fixed_count, pair_count}
 use Rattle.store_placement.specs.First.{below}
 use Rattle.store_placement.specs.Program.{demands_of}
 
--- 36 bits, and 39
+-- the digits of 36 bits, and of 39
 abbrev pub word_digits : Machine → ℕ
 word_digits Mic1 = 9
 word_digits Mic2 = 10
@@ -38,7 +38,7 @@ statement_lines program addresses s = map (statement_line program addresses s) (
 abbrev pub statements_text : MalView → List ℕ → ControlStore → List ℕ
 statements_text program addresses s = text_of (statement_lines program addresses s)
 
--- the same, then the counts
+-- the lines of the statements, then the counts
 abbrev pub placement_text : MalView → List ℕ → ControlStore → List ℕ
 placement_text program addresses s =
     text_of (statement_lines program addresses s ++ counts_line program ∷ [])

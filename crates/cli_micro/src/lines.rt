@@ -1,4 +1,4 @@
-//! The lines that both commands print: an address and its word in front, a newline behind.
+//! The lines that both commands print: an address and its word first, a newline last.
 
 ghost use Rattle.std.specs.Prelude.{◌≡◌, ◌≤◌, ◌<◌, ◌+◌, ◌++◌, ◌∷◌, [], length, OnOk, IsTrue};
 ghost use Rattle.micro_word.specs.Words.{is_canonical, is_valid};

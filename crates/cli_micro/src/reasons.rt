@@ -42,7 +42,7 @@ fn of_line(number_of_line: u32, text: &str) -> Line
     line
 }
 
-/// Why a text is no program, unless memory was wanting.
+/// Why a text is no program, unless memory ran out.
 pub fn mal_reason(error: MalError) -> Option<Line>
     ensures { result ≡ mal_reason error }
 {
@@ -110,7 +110,7 @@ fn bad_word(address: u16) -> Line
     line
 }
 
-/// Why bytes are no store file, unless memory was wanting.
+/// Why bytes are no store file, unless memory ran out.
 pub(crate) fn store_reason(error: StoreError) -> Option<Line>
     requires { NamesPlaces error }
     ensures { result ≡ store_reason error }

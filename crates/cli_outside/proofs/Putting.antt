@@ -5,7 +5,7 @@ use Rattle.std.proofs.Math.Seq.{take-append-add, take-length}
 use Rattle.std.proofs.lemmas.List.{take_min, take-append-le}
 use Rattle.mic_base.specs.Streams.{Puts}
 
--- what is put behind a text that was put
+-- what is put after a text that was put
 pub puts_then : {E : Type 0} (old mid new : Option (List ℕ)) (p q : List ℕ) (result : Result Unit E) →
     mid ≡ option_map (λ held. held ++ p) old → Puts mid q result new → Puts old (p ++ q) result new
 puts_then None mid new p q (Ok done) e h = h ∙ ap (option_map (λ (held : List ℕ). held ++ q)) e

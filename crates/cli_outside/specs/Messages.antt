@@ -1,8 +1,8 @@
--- The lines that are said of a file, as bytes.
+-- The lines that are printed of a file, as bytes.
 use Rattle.std.specs.Prelude.{ℕ, List, [], ◌∷◌, ◌++◌, codes}
 use Rattle.std.specs.Fmt.{decimal}
 
--- The line that says of a file why it is refused. The reason begins with its colon, or with the line of the file that it is about.
+-- The line that says why a file is refused. The reason begins with its colon, or with the line of the file that it is about.
 abbrev pub message : List ℕ → List ℕ → List ℕ
 message file reason = codes "mic: " ++ file ++ reason ++ 10 ∷ []
 

@@ -7,18 +7,18 @@ use Rattle.mic_base.specs.Files.{Contents}
 use Rattle.mic_base.specs.Streams.{IsFlushed, Puts}
 use Rattle.cli_outside.specs.Status as exits
 
--- what a sink holds and what of it it has passed on, where it tells it, and how often it has failed
+-- what a sink holds and what it has passed on of that, where these are known, and how often it has failed
 pub record SinkState : Type 0 where
   pub held : Option (List ℕ)
   pub passed : Option (List ℕ)
   pub faults : ℕ
 
--- what a source has left, where it tells it, and how often it has failed
+-- what a source has left, where that is known, and how often it has failed
 pub record SourceState : Type 0 where
   pub left : Option (List ℕ)
   pub faults : ℕ
 
--- what the files contain, where they tell it, and how often they have failed
+-- what the files contain, where that is known, and how often they have failed
 pub record FilesState : Type 0 where
   pub contents : Option Contents
   pub faults : ℕ
@@ -32,7 +32,7 @@ source_state left faults = record { left = left; faults = faults }
 abbrev pub files_state : Option Contents → ℕ → FilesState
 files_state contents faults = record { contents = contents; faults = faults }
 
--- What an object is in, by what it tells of itself.
+-- The state of an object, by what it shows of itself.
 
 abbrev pub sink_of : {K : Type 0} → (K → Option (List ℕ)) → (K → Option (List ℕ)) → (K → ℕ) → K → SinkState
 sink_of held passed faults k = sink_state (held k) (passed k) (faults k)
@@ -71,7 +71,7 @@ pub record LenderNames : Type 0 where
 abbrev pub lender_names : GName → GName → GName → GName → LenderNames
 lender_names files console out err = record { files = files; console = console; out = out; err = err }
 
--- those of four references
+-- the names of four references
 abbrev pub names_of : {F S K E : Type 0} → MutBor F → MutBor S → MutBor K → MutBor E → LenderNames
 names_of files console out err = lender_names files.ghost_name console.ghost_name out.ghost_name err.ghost_name
 
@@ -102,11 +102,11 @@ pub data Says (old new : SinkState) (text : List ℕ) (code status : ℕ) : Type
   Said : status ≡ code → Got old.held text new.held → IsFlushed new.held new.passed → new.faults ≡ old.faults → Says old new text code status
   Unsaid : status ≡ exits.sink → GotInPart old.held text new.held → Rose old.faults new.faults → Says old new text code status
 
--- so does a sink, by what it tells of itself
+-- a sink gets a text so, by what it shows of itself
 abbrev pub SaysTo : {K : Type 0} → (K → Option (List ℕ)) → (K → Option (List ℕ)) → (K → ℕ) → K → K → List ℕ → ℕ → ℕ → Type 0
 SaysTo held passed faults old new = Says (sink_of held passed faults old) (sink_of held passed faults new)
 
--- A call behind another that has put a text: it puts this piece behind the text, or leaves the text as it was put.
+-- A call after another that has put a text: it puts this piece after the text, or leaves the text as it was put.
 
 abbrev pub PutsBehind : {E : Type 0} → Result Unit E → Option (List ℕ) → List ℕ → Result Unit E → Option (List ℕ) → Type 0
 PutsBehind said old piece result new = (first : Option (List ℕ)) (text : List ℕ) → Puts first text said old → Puts first (text ++ piece) result new

@@ -48,6 +48,6 @@ console = 70
 abbrev pub sink : ℕ
 sink = 71
 
--- memory is wanting
+-- memory ran out
 abbrev pub memory : ℕ
 memory = 75

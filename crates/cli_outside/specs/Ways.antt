@@ -1,4 +1,4 @@
--- The ways in which a command ends that had nothing of its file, or something, each from what was done.
+-- The ways in which a command ends that got nothing from its file, or something, each from what was done.
 use Rattle.std.proofs.Common.{◌≡◌, ℕ, List, Option, Some, None, refl}
 use Rattle.cli_outside.specs.Status as exits
 use Rattle.cli_outside.specs.Messages.{out_of_memory}
@@ -19,7 +19,7 @@ module _ {Refuses : List ℕ → List ℕ → Type 0} {file : List ℕ} where
   told {bytes = bytes} (refusals.Refused reason) read refuses tells = Refused bytes reason read refuses tells
   told refusals.OutOfMemory read refuses tells = Short tells
 
-  -- a file of these bytes is refused, which is told
+  -- a file of these bytes is refused, and the reason is printed
   pub refused : {bytes : List ℕ} (refusal : Refusal) {old new : LentView} {status : ℕ} → IsFileRead file bytes old.seen → IsRefusal Refuses bytes refusal →
       Over (TellsRefusal file refusal) old new status → Over (IsNotHad Refuses file) old new status
   refused refusal read refuses over = record { names = over.names; does = told refusal read refuses over.does }

@@ -1,4 +1,4 @@
--- How a command ends that reads one file: nothing is had of the file, or this is done over what it holds.
+-- How a command ends that reads one file: it gets nothing from the file, or this is done over what the file holds.
 use Rattle.std.specs.Prelude.{◌≡◌, ◌<◌, ◌≤◌, ℕ, List, length, Option, None, Some, MatchOption, IsSomeAnd, Result, IfErr}
 use Rattle.mic_base.specs.Causes.{Rose}
 use Rattle.mic_base.specs.Files.{Contents, KeepsOthers, Tells, most_bytes}
@@ -9,7 +9,7 @@ use Rattle.cli_outside.specs.declared.refusal.Refusal.{Refusal}
 use Rattle.cli_outside.specs.declared.status.Status.{Status}
 use Rattle.cli_outside.specs.declared.refusal.Refusal.TheVariants as refusals
 
--- where a call answers a status in place of a value, this was done to the outside
+-- where a call returns a status in place of a value, this was done to the outside
 abbrev pub OverIfErr : {T : Type 0} → (OutsideView → OutsideView → ℕ → Type 0) → LentView → LentView → Result T Status → Type 0
 OverIfErr Does old new result = IfErr result (λ status. Over Does old new status.0)
 
@@ -22,7 +22,7 @@ pub record IsFileRead (file bytes : List ℕ) (o : OutsideView) : Type 0 where
   pub has : Tells o.files.contents file bytes
   pub short : length bytes ≤ most_bytes
 
--- The file's bytes are not had: the files failed, it is too long, or there is no memory for it. Nothing else is done.
+-- The file's bytes are not available: the files failed, it is too long, or there is no memory for it. Nothing else is done.
 pub data IsUnread (file : List ℕ) (old new : OutsideView) (status : ℕ) : Type 0 where
   Failed : new.files.contents ≡ old.files.contents → Rose old.files.faults new.files.faults →
       TellsOnErr (message file cannot_read) exits.file (with_files old new.files) new status → IsUnread file old new status
@@ -30,19 +30,19 @@ pub data IsUnread (file : List ℕ) (old new : OutsideView) (status : ℕ) : Typ
       TellsOnErr (message file too_many_bytes) exits.too_long old new status → IsUnread file old new status
   NoRoom : TellsOnErr out_of_memory exits.memory old new status → IsUnread file old new status
 
--- Nothing is had of a file: it is not read, it is refused, or memory is wanting. `Refuses bytes reason` says why a file of these bytes is refused.
+-- Nothing comes from a file: it is not read, it is refused, or memory runs out. `Refuses bytes reason` says why a file of these bytes is refused.
 pub data IsNotHad (Refuses : List ℕ → List ℕ → Type 0) (file : List ℕ) (old new : OutsideView) (status : ℕ) : Type 0 where
   Unread : IsUnread file old new status → IsNotHad Refuses file old new status
   Refused : (bytes reason : List ℕ) → IsFileRead file bytes old → Refuses bytes reason → TellsOnErr (message file reason) exits.refused old new status →
       IsNotHad Refuses file old new status
   Short : TellsOnErr out_of_memory exits.memory old new status → IsNotHad Refuses file old new status
 
--- for a reason, or for want of memory where there is none
+-- the refusal for a reason; out of memory where there is none
 abbrev pub refusal_by : Option (List ℕ) → Refusal
 refusal_by None = refusals.OutOfMemory
 refusal_by (Some reason) = refusals.Refused reason
 
--- what a refusal of a file of these bytes says of them; and what is told of it
+-- what a refusal of a file of these bytes says of them; and what is printed of it
 abbrev pub IsRefusal : (List ℕ → List ℕ → Type 0) → List ℕ → Refusal → Type 0
 IsRefusal Refuses bytes (refusals.Refused reason) = Refuses bytes reason
 IsRefusal Refuses bytes refusals.OutOfMemory = Unit {0}
@@ -74,9 +74,9 @@ pub data WritesThenPrints (target bytes text : List ℕ) (old new : OutsideView)
   Written : Tells new.files.contents target bytes → OthersKept old.files.contents new.files.contents target →
       new.files.faults ≡ old.files.faults → PrintsOnOut text exits.done (with_files old new.files) new status →
       WritesThenPrints target bytes text old new status
-  -- the files failed, and what the file to be written contains is open
+  -- the files failed, and what the file to be written contains is unknown
   Unwritten : OthersKept old.files.contents new.files.contents target → Rose old.files.faults new.files.faults →
       TellsOnErr (message target cannot_write) exits.file (with_files old new.files) new status → WritesThenPrints target bytes text old new status
-  -- Memory was wanting for the writing. That answer is free: the file to be written may be whole, in part, or as it was.
+  -- Memory ran out while writing. That may come at any time: the file to be written may be whole, in part, or as it was.
   HalfWritten : OthersKept old.files.contents new.files.contents target → new.files.faults ≡ old.files.faults →
       TellsOnErr out_of_memory exits.memory (with_files old new.files) new status → WritesThenPrints target bytes text old new status

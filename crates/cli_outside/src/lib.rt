@@ -1,5 +1,5 @@
 //! The outside of a call, and the work of a command at its edges: a file is read, what came of it is printed, written
-//! or refused, and a status tells how that went.
+//! or refused, and a status reports how that went.
 #![tactic(auto)]
 
 mod outside;

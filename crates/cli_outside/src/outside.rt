@@ -79,21 +79,21 @@ impl<'a, F: Files, S: Source, K: Sink, E: Sink> Outside<'a, F, S, K, E> {
         say(self.err, text, status)
     }
 
-    /// Says this of a file on `err`.
+    /// Prints this of a file on `err`.
     pub fn tell_of(&mut self, file: &str, reason: &[u8], status: Status) -> Status
         ensures { Over (TellsOnErr (message file.now reason.now) status.0) self.old self.new result.0 }
     {
         say_of(self.err, file, reason, status)
     }
 
-    /// Says that memory is wanting.
+    /// Prints that memory ran out.
     pub fn no_memory(&mut self) -> Status
         ensures { Over (TellsOnErr out_of_memory exits.memory) self.old self.new result.0 }
     {
         no_memory(self.err)
     }
 
-    /// Says why the file is refused, or that memory is wanting.
+    /// Prints why the file is refused, or that memory ran out.
     pub fn refuse(&mut self, file: &str, refusal: Refusal) -> Status
         ensures { Over (TellsRefusal file.now refusal) self.old self.new result.0 }
     {
@@ -103,7 +103,7 @@ impl<'a, F: Files, S: Source, K: Sink, E: Sink> Outside<'a, F, S, K, E> {
         }
     }
 
-    /// The file's bytes; or it is said why they are not had, and the status tells.
+    /// The file's bytes. Where they cannot be read, it prints why and returns the status of that.
     pub fn read(&mut self, alloc: Global, file: &str) -> Result<Vec<u8>, Status>
         ensures read { IfOk result (λ bytes. IsFileRead file.now bytes.items self.old.seen) }
         ensures same { OnOk result (self.new ≡ self.old) }
@@ -132,7 +132,7 @@ impl<'a, F: Files, S: Source, K: Sink, E: Sink> Outside<'a, F, S, K, E> {
     }
 }
 
-/// Gives back the parts: what they are now, the caller's are.
+/// Gives back the parts: the caller's parts are what these are now.
 pub fn close<F: Files, S: Source, K: Sink, E: Sink>(
     files: &mut F,
     console: &mut S,

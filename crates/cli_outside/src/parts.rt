@@ -1,4 +1,4 @@
-//! Parts of the lines that are said and printed.
+//! Parts of the lines that are printed.
 
 ghost use Rattle.std.specs.Prelude.{◌≡◌, ◌≤◌, ◌+◌, ◌++◌, length};
 ghost use Rattle.std.specs.Fmt.{decimal, signed_decimal};
@@ -72,7 +72,7 @@ pub fn addressed(before: &str, at: u32) -> Line
     line
 }
 
-/// What is said of a line of the file.
+/// What is printed of a line of the file.
 pub fn of_line(line: u32, text: &str) -> Line
     requires { length text.now ≤ 400 }
     ensures text { result ≡ of_line line text.now }

@@ -1,4 +1,4 @@
-//! Why nothing is had of a file.
+//! Why a command gets nothing from a file.
 
 ghost use Rattle.std.specs.Prelude.{◌≡◌};
 ghost use Rattle.cli_outside.specs.Work.{refusal_by};
@@ -6,7 +6,7 @@ ghost use Rattle.cli_outside.specs.Work.{refusal_by};
 use mic_base::Line;
 use std::alloc::AllocError;
 
-/// Why nothing is had from the bytes of a file.
+/// Why a command gets nothing from the bytes of a file.
 #[derive(Drop)]
 pub enum Refusal {
     /// The file is refused: what follows its name in the message.
@@ -15,7 +15,7 @@ pub enum Refusal {
 }
 
 impl Refusal {
-    /// For this reason, or for want of memory where there is none.
+    /// The refusal for this reason; out of memory where there is none.
     pub fn by(reason: Option<Line>) -> Refusal
         ensures { result ≡ refusal_by reason }
     {

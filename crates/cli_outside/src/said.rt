@@ -12,7 +12,7 @@ use mic_base::{Sink, SinkFailed};
 
 const OUT_OF_MEMORY: &[u8] = b"mic: out of memory\n";
 
-/// Puts a piece behind what was put, unless that failed.
+/// Puts a piece after what was put, unless that failed.
 pub fn put_after<E: Sink>(
     said: Result<(), SinkFailed>,
     err: &mut E,
@@ -37,7 +37,7 @@ fn flush_after<E: Sink>(said: Result<(), SinkFailed>, err: &mut E) -> Result<(),
     err.flush()
 }
 
-/// Puts a text to a sink, passes it on, and answers the text's status, or a failed sink's where that failed.
+/// Puts a text to a sink, passes it on, and returns the text's status, or a failed sink's where that failed.
 pub fn say<E: Sink>(err: &mut E, text: &[u8], status: Status) -> Status
     ensures { SaysTo E.held E.passed E.faults err.old err.new text.now status.0 result.0 }
 {
@@ -58,7 +58,7 @@ pub fn say_of<E: Sink>(err: &mut E, file: &str, reason: &[u8], status: Status) -
     status.once(said)
 }
 
-/// Says that memory is wanting.
+/// Prints that memory ran out.
 pub fn no_memory<E: Sink>(err: &mut E) -> Status
     ensures { SaysTo E.held E.passed E.faults err.old err.new out_of_memory exits.memory result.0 }
 {

@@ -34,10 +34,10 @@ impl Status {
     pub const CONSOLE: Status = Status(70);
     /// `out` or `err` failed.
     pub const SINK: Status = Status(71);
-    /// Memory is wanting.
+    /// Memory ran out.
     pub const MEMORY: Status = Status(75);
 
-    /// This status, unless what had to be said of it was not said.
+    /// This status, or that of a failed sink where its text was not printed.
     pub fn once(self, said: Result<(), SinkFailed>) -> Status
         ensures { result.0 ≡ (if is_ok said then self.0 else exits.sink) }
     {

@@ -17,7 +17,7 @@ pool_rest index pool h =
     let e : drop index pool ≡ get_or pool index 0 ∷ drop (index + 1) pool = rw add-one (drop-cons pool index 0 h) in
     ap (pool_text index) e
 
--- a constant's line is put behind the lines before it
+-- a constant's line is put after the lines before it
 pub pool_step : (index : ℕ) (pool listed whole line : List ℕ) → index < length pool → line ≡ constant_line index (get_or pool index 0) →
     listed ++ pool_text index (drop index pool) ≡ whole → (listed ++ line) ++ pool_text (index + 1) (drop (index + 1) pool) ≡ whole
 pool_step index pool listed whole line h is so =
@@ -28,7 +28,7 @@ pool_step index pool listed whole line h is so =
 where_is : (k n : ℕ) → k < n + 1 → (k < n) ⊎ (k ≡ n)
 where_is k n h = grind arith
 
--- behind the last constant nothing is left
+-- after the last constant nothing is left
 pub pool_end : (index : ℕ) (pool listed whole : List ℕ) → length pool ≤ index → listed ++ pool_text index (drop index pool) ≡ whole → listed ≡ whole
 pool_end index pool listed whole past so =
     sym (append-nil listed) ∙ ap (λ (l : List ℕ). listed ++ l) (sym (ap (pool_text index) (drop_all index pool past))) ∙ so
@@ -58,7 +58,7 @@ more_lines image count lines line are is = record {
     one at other (inr (here, same)) =
         subst (λ (l : List ℕ). IsLineAt image at l) same (subst (λ (n : ℕ). IsLineAt image n line) (sym (here ∙ are.long)) is)
 
--- a line is put behind the lines before it
+-- a line is put after the lines before it
 pub concat_step : (before : List ℕ) (lines : List (List ℕ)) (line : List ℕ) → (before ++ concat lines) ++ line ≡ before ++ concat (lines ++ line ∷ [])
 concat_step before lines line =
     append_assoc before (concat lines) line ∙ ap (λ (l : List ℕ). before ++ l) (sym (concat-append lines (line ∷ []) ∙ ap (λ (l : List ℕ). concat lines ++ l) (append-nil line)))

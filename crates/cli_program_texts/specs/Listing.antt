@@ -36,16 +36,16 @@ pub data IsLineAt (image : ImageView) (at : ℕ) (line : List ℕ) : Type 0 wher
   Within : IsKind image at kinds.Inside → line ≡ [] → IsLineAt image at line
   Byte : IsKind image at kinds.Unreached → line ≡ byte_line image.text at → IsLineAt image at line
 
--- what is printed of an address stands behind what stood before
+-- what is printed of an address follows what was printed before
 abbrev pub AddsLineAt : ImageView → ℕ → List ℕ → List ℕ → Type 0
 AddsLineAt image at old new = (line : List ℕ) × IsLineAt image at line × (new ≡ old ++ line)
 
--- what is printed of so many addresses, from the first on
+-- what is printed of this many addresses, from the first on
 pub record AreListingLines (image : ImageView) (count : ℕ) (lines : List (List ℕ)) : Type 0 where
   pub long : length lines ≡ count
   pub each : (at : ℕ) (line : List ℕ) → slice_get lines at ≡ Some line → IsLineAt image at line
 
--- what is printed of each address stands behind what stood before
+-- what is printed of each address follows what was printed before
 abbrev pub AddsLines : ImageView → List ℕ → List ℕ → Type 0
 AddsLines image old new = (lines : List (List ℕ)) × AreListingLines image (length image.text) lines × (new ≡ old ++ concat lines)
 

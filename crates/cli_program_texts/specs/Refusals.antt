@@ -1,4 +1,4 @@
--- What is said of a file that holds no accepted program: the table of messages. Numbers are decimal, and addresses have 8 hexadecimal digits.
+-- What is printed of a file that holds no accepted program: the table of messages. Numbers are decimal, and addresses have 8 hexadecimal digits.
 use Rattle.std.specs.Prelude.{ℕ, List, ◌++◌, Option, Some, None, codes}
 use Rattle.std.specs.Fmt.{decimal, signed_decimal}
 use Rattle.mic_base.specs.Digits.{hex_text}
@@ -12,11 +12,11 @@ use Rattle.method_linker.specs.declared.error.LinkError.TheVariants as limits
 use Rattle.verifier_facts.specs.declared.error.VerifyError.{VerifyError}
 use Rattle.verifier_facts.specs.declared.error.VerifyError.TheVariants as facts
 
--- what is said of the byte at this address begins so
+-- what is printed of the byte at this address begins so
 abbrev pub of_byte : ℕ → List ℕ
 of_byte at = of_file (hex_text 8 at)
 
--- why a file is no image file, if it was not want of memory
+-- why a file is no image file, unless memory ran out
 abbrev pub image_reason : ImageError → Option (List ℕ)
 image_reason (images.Truncated place) = Some (of_file (codes "truncated at " ++ decimal place))
 image_reason images.BadMagic = Some (of_file (codes "bad magic"))
@@ -25,7 +25,7 @@ image_reason (images.BadSize value) = Some (of_file (codes "bad size " ++ decima
 image_reason (images.Trailing place) = Some (of_file (codes "trailing bytes at " ++ decimal place))
 image_reason images.OutOfMemory = None
 
--- why a text is no source program, if it was not want of memory
+-- why a text is no source program, unless memory ran out
 abbrev pub source_reason : AsmError → Option (List ℕ)
 source_reason (sources.BadToken line) = Some (of_line line (codes "bad token"))
 source_reason (sources.BadLine line) = Some (of_line line (codes "bad line"))
@@ -38,14 +38,14 @@ source_reason (sources.UnknownName line) = Some (of_line line (codes "unknown na
 source_reason sources.NoMain = Some (of_file (codes "no main"))
 source_reason sources.OutOfMemory = None
 
--- why a source program has no image, if it was not want of memory
+-- why a source program has no image, unless memory ran out
 abbrev pub link_reason : LinkError → Option (List ℕ)
 link_reason (limits.PoolTooLong count) = Some (of_file (decimal count ++ codes " constants"))
 link_reason (limits.TextTooLong size) = Some (of_file (decimal size ++ codes " bytes of text"))
 link_reason (limits.JumpTooFar line distance) = Some (of_line line (codes "jump of ") ++ signed_decimal distance ++ codes " is too far")
 link_reason limits.OutOfMemory = None
 
--- why an image is not accepted, if it was not want of memory
+-- why an image is not accepted, unless memory ran out
 abbrev pub verify_reason : VerifyError → Option (List ℕ)
 verify_reason (facts.BadCode at) = Some (of_byte at ++ codes " bad code")
 verify_reason (facts.FallsOff at) = Some (of_byte at ++ codes " falls off")

@@ -1,4 +1,4 @@
-//! What is said of a byte of the text, and of a number.
+//! What is printed of a byte of the text, and of a number.
 
 ghost use Rattle.std.specs.Prelude.{◌≡◌, ◌≤◌, ◌+◌, ◌++◌, length};
 ghost use Rattle.std.specs.Fmt.{decimal};
@@ -7,7 +7,7 @@ ghost use Rattle.cli_program_texts.specs.Refusals.{of_byte};
 use cli_outside::{addressed, number, numbered};
 use mic_base::Line;
 
-/// What is said of the byte at an address.
+/// What is printed of the byte at an address.
 pub fn at_byte(at: u32, text: &str) -> Line
     requires { length text.now ≤ 400 }
     ensures text { result ≡ of_byte at ++ text.now }
@@ -18,7 +18,7 @@ pub fn at_byte(at: u32, text: &str) -> Line
     line
 }
 
-/// What is said of the byte at an address, up to a number.
+/// What is printed of the byte at an address, up to a number.
 pub fn numbered_at(at: u32, text: &str, value: u64) -> Line
     requires { length text.now ≤ 400 }
     ensures text { result ≡ of_byte at ++ text.now ++ decimal value }

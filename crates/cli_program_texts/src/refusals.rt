@@ -12,7 +12,7 @@ use ijvm_verifier::VerifyError;
 use method_linker::LinkError;
 use mic_base::Line;
 
-/// Why a file is no image file, unless memory was wanting.
+/// Why a file is no image file, unless memory ran out.
 pub fn image_reason(error: ImageError) -> Option<Line>
     ensures { result ≡ image_reason error }
 {
@@ -26,7 +26,7 @@ pub fn image_reason(error: ImageError) -> Option<Line>
     }
 }
 
-/// Why a text is no source program, unless memory was wanting.
+/// Why a text is no source program, unless memory ran out.
 pub fn source_reason(error: AsmError) -> Option<Line>
     ensures { result ≡ source_reason error }
 {
@@ -44,7 +44,7 @@ pub fn source_reason(error: AsmError) -> Option<Line>
     }
 }
 
-/// Why a source program has no image, unless memory was wanting.
+/// Why a source program has no image, unless memory ran out.
 pub fn link_reason(error: LinkError) -> Option<Line>
     ensures { result ≡ link_reason error }
 {
@@ -88,7 +88,7 @@ fn depth_differs(at: u32, less: u32, more: u32) -> Line
     line
 }
 
-/// Why an image is not accepted, unless memory was wanting.
+/// Why an image is not accepted, unless memory ran out.
 pub fn verify_reason(error: VerifyError) -> Option<Line>
     ensures { result ≡ verify_reason error }
 {

@@ -1,4 +1,4 @@
--- A file holds one program at most, and is not refused beside.
+-- A file holds at most one program, and is not refused if it holds one.
 use Rattle.std.proofs.Common.{◌≡◌, inl, inr, ◌≤◌, ◌+◌, ◌∙◌, ℕ, List, Some, sym, subst, true, false, arith}
 use Rattle.console_port.specs.declared.map.MemoryMap.{MemoryMap}
 use Rattle.ijvm_image.specs.declared.image.ImageError.{ImageError}

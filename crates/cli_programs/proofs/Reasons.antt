@@ -1,4 +1,4 @@
--- Why no accepted program is had.
+-- Why there is no accepted program.
 use Rattle.std.proofs.Common.{◌≡◌, ◌⊎◌, inl, inr, ℕ, List, Some, refl, sym, ◌∙◌, ap, subst, true, false, Result, Ok, Err}
 use Rattle.std.specs.Prelude.{IfErr}
 use Rattle.console_port.specs.declared.map.MemoryMap.{MemoryMap}
@@ -38,7 +38,7 @@ not_accepted map bytes image e u of (inl short) is =
 not_accepted map bytes image e u of (inr holds) is =
     subst (IsRefusal (IsRefusedProgram map) bytes) (sym is) (by_reason (IsRefusedProgram map) bytes (verify_reason e) (λ text said. NotAccepted image e of holds said))
 
--- a refusal that is told is not want of memory
+-- a refusal with a reason is not out of memory
 is_told : (e : AsmError) (said : List ℕ) → source_reason e ≡ Some said → is_memory e ≡ false
 is_told (sources.BadToken line) said h = refl
 is_told (sources.BadLine line) said h = refl

@@ -58,14 +58,14 @@ pub data IsRefusedProgram (map : MemoryMap) (bytes reason : List ℕ) : Type 0 w
 abbrev pub HasOneProgram : MemoryMap → List ℕ → Type 0
 HasOneProgram map bytes = (p q : VerifiedView) → IsAcceptedProgram map bytes p → IsAcceptedProgram map bytes q → p ≡ q
 
--- bytes of which one is accepted are refused for no reason
+-- bytes of which one is accepted are not refused
 abbrev pub IsNotBoth : MemoryMap → List ℕ → Type 0
 IsNotBoth map bytes = (reason : List ℕ) (p : VerifiedView) → IsAcceptedProgram map bytes p → IsRefusedProgram map bytes reason → ⊥
 
--- nothing is had of a file that should have a program
+-- no program comes from a file that should hold one
 abbrev pub HasNoProgram : MemoryMap → List ℕ → OutsideView → OutsideView → ℕ → Type 0
 HasNoProgram map = IsNotHad (IsRefusedProgram map)
 
--- what it means that no image is had from these bytes: no map has an accepted program then
+-- what it means that no image comes from these bytes: they hold no accepted program for any map
 abbrev pub IsRefusalByAll : List ℕ → Refusal → Type 0
 IsRefusalByAll bytes refusal = (map : MemoryMap) → IsRefusal (IsRefusedProgram map) bytes refusal

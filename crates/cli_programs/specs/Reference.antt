@@ -35,11 +35,11 @@ pub data IsReported (machine : Machine) (bound : ℕ) (program : VerifiedView) (
       IsCutByWrite (verified_program program machine) program.main_locals bound old.console.left old.out.held new.console.left new.out.held r →
       new.console.faults ≡ old.console.faults → Rose old.out.faults new.out.faults → IsReported machine bound program old new r
 
--- A run of the program, and what is said of it on `err`.
+-- A run of the program, and what is printed of it on `err`.
 pub data IsReferenceRun (machine : Machine) (bound : ℕ) (program : VerifiedView) (old new : OutsideView) (status : ℕ) : Type 0 where
   Reported : (r : PlainReport) → IsReported machine bound program old new r → new.files ≡ old.files →
       Says old.err new.err (plain_head r) (status_of (clocked_end r.end)) status → IsReferenceRun machine bound program old new status
-  -- memory was wanting at a boundary; `out` has got a front of the output, and has passed on all that it got
+  -- memory ran out at a boundary; `out` has got a front of the output, and has passed on all that it got
   Short : IsShort (verified_program program machine) program.main_locals bound old.console.left old.out.held new.console.left new.out.held →
       new.console.faults ≡ old.console.faults → new.out.faults ≡ old.out.faults → StaysFlushed old.out.held old.out.passed new.out.held new.out.passed →
       new.files ≡ old.files → Says old.err new.err out_of_memory exits.memory status → IsReferenceRun machine bound program old new status

@@ -77,7 +77,7 @@ fn accepted_program(alloc: Global, bytes: &[u8], map: MemoryMap) -> Result<Verif
     }
 }
 
-/// The accepted program that a file holds; or it is said why none is had, and the status tells.
+/// The accepted program that a file holds. Where there is none, it prints why and returns the status of that.
 pub fn program_in_file<F: Files, S: Source, K: Sink, E: Sink>(
     alloc: Global,
     file: &str,

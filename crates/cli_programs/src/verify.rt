@@ -1,4 +1,4 @@
-//! `verify FILE [--map W]`: whether a program is accepted, and its sizes.
+//! `verify FILE [--map W]`: whether a program is accepted, and its summary.
 
 ghost use Rattle.console_port.specs.Map.{IsMap};
 ghost use Rattle.cli_outside.specs.Outside.{Over};
@@ -13,7 +13,7 @@ use console_port::MemoryMap;
 use mic_base::{Files, Sink, Source};
 use std::alloc::Global;
 
-/// Reads the file, and says whether it is accepted.
+/// Reads the file, and prints the summary of its program, or why none is accepted.
 pub fn verify_file<F: Files, S: Source, K: Sink, E: Sink>(
     alloc: Global,
     file: &str,

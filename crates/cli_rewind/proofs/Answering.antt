@@ -1,4 +1,4 @@
--- The answer to a line, and what is passed on behind it.
+-- The output of a line, and what is passed on after it.
 use Rattle.std.proofs.Common.{◌≡◌, ◌≢◌, inl, inr, ◌-◌, ◌^◌, ◌++◌, ℕ, zero, suc, List, [], ◌∷◌, length, Option, Some, None, Result, Ok, Err, refl, sym, ap, subst, ◌∙◌, arith}
 use Rattle.std.specs.Prelude.{OnErr, OnOk}
 use Rattle.std.specs.Option.{option_map}
@@ -33,12 +33,12 @@ use Rattle.cli_rewind.proofs.Stepping.{front_given, front_lost, stands_with}
 pub in_part : (said said' : Option (List ℕ)) (text : List ℕ) → Got said text said' → GotInPart said text said'
 in_part said said' text is = (length text, is ∙ ap (λ (x : List ℕ). option_map (λ (h : List ℕ). h ++ x) said) (sym (take-length text)))
 
--- what holds anyway holds behind an Err
+-- what holds anyway holds after an Err
 pub on_err_of : {T E : Type 0} (P : Type 0) (r : Result T E) → P → OnErr r P
 on_err_of P (Ok v) p = tt
 on_err_of P (Err e) p = p
 
--- what holds of all files and consoles after an answer holds of these
+-- what holds of all files and consoles after a line holds of these
 pub on_ok_at : {T E A B : Type 0} (P : A → B → Type 0) (r : Result T E) (a : A) (b : B) → OnOk r ((x : A) (y : B) → P x y) → OnOk r (P a b)
 on_ok_at P (Ok v) a b all = all a b
 on_ok_at P (Err e) a b all = tt
@@ -62,12 +62,12 @@ module _ {M State : Type 0} (state : M → State) (m : Meaning State) where
     given_at : (shown_run m words s v.board.end).world.given ≡ (run_at m words s.start s.clocked).world.given
     given_at = given_by left held words v.board s v.board.end refl here.run
 
-    -- it is a front of what was given
+    -- what `out` holds is a front of what was given
     pub front_at : IsFrontOf held (run_at m words s.start s.clocked).world.given
     front_at = subst (λ (g : List ℕ). IsFrontOf held g) given_at (front_given held v.board.bus.console.kept
         (shown_run m words s v.board.end).world.given here.run.world.given)
 
-    -- so it is where the last bytes were lost
+    -- it is such a front where the last bytes were lost
     pub lost_at : (held' : Option (List ℕ)) (kept' : List ℕ) → IsLost held v.board.bus.console.kept held' kept' →
         IsFrontOf held' (run_at m words s.start s.clocked).world.given
     lost_at held' kept' lost =
@@ -106,7 +106,7 @@ module _ {M State : Type 0} (state : M → State) (m : Meaning State) where
         keeps = passed.keeps;
       }
 
-  -- ---- an answer that was put, and then passed on or not
+  -- ---- a text that was put, and then passed on or not
 
   module _ (text : List ℕ) (v v' : RewindView M) (out out' err put err' : SinkState) (passed : IsPassedOn state m v v' out out')
       (got : Got err.held text put.held) (keeps : (front : List ℕ) → Holds front err.held →
@@ -143,7 +143,7 @@ module _ {M State : Type 0} (state : M → State) (m : Meaning State) where
         subst (λ (r : RewindingRules). Does m r.words r.depth r.memory line s text s') (sym is)
         (subst (λ (x : Result (Option (Command Verb)) CommandError). Follows m v.board.store.words v.history.depth x s text s') read_is p)
 
-    -- `out` failed in it
+    -- `out` failed in the line
     pub cut_short : WasCut state m (scene v left out) (scene v' left' out') (IsCutIn m v.board.store.words read) →
         IsCutShort (rewinding state m) line (place old (outside_view files console out err)) (outside_view files console out' err)
     cut_short cut =
@@ -167,7 +167,7 @@ module _ {M State : Type 0} (state : M → State) (m : Meaning State) where
         Does m rules.words rules.depth rules.memory line s text s'
     done rules is s s' p = does line memory read read_is files console v mid left left' out between err err' rules is text s s' p
 
-    -- it was done whole
+    -- the line was done whole
     pub gone : IsTold state m text mid last between out' err err' →
         Gone (rewinding state m) (line ∷ []) (place (rewinding_view v memory left) (outside_view files console out err)) (place
         (rewinding_view last memory left') (outside_view files console out' err'))
@@ -196,7 +196,7 @@ module _ {M State : Type 0} (state : M → State) (m : Meaning State) where
           err = told.faults;
         }
 
-    -- it was done, and then a sink failed
+    -- the line was done, and then a sink failed
     pub told_short : IsToldInPart state m text mid between out' err err' →
         IsCutShort (rewinding state m) line (place (rewinding_view v memory left) (outside_view files console out err)) (outside_view files console out' err')
     told_short told =
@@ -217,7 +217,7 @@ module _ {M State : Type 0} (state : M → State) (m : Meaning State) where
           ];
         }
 
-    -- and so many lines may follow
+    -- this many lines may follow
     pub lasts : IsTold state m text mid last between out' err err' → (n : ℕ) → Lasts (suc n) (rewinding_view v memory left) →
         Lasts n (rewinding_view last memory left')
     lasts told n before =

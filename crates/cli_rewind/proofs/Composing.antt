@@ -130,7 +130,7 @@ module _ {M State : Type 0} {state : M → State} {m : Meaning State} where
         keeps = λ front h. h;
       }
 
-  -- ---- so many cycles forward, one after the other
+  -- ---- this many cycles forward, one after the other
 
   module _ (made n : ℕ) (c d e : Scene M) (end : Option End) (p : Went state m made c d (GoesForward m c.rewind.board.store.words made None)) where
     words_are : d.rewind.board.store.words ≡ c.rewind.board.store.words
@@ -171,7 +171,7 @@ pub here_at : {M State : Type 0} (state : M → State) (m : Meaning State) (left
     StandsAt state m left held v s → v.board.store.words ≡ words → v.history.here ≡ state_here m words s
 here_at state m left held v s words here is = ap (λ (h : HistoryView). h.here) here.history ∙ ap (λ (w : List ℕ). state_here m w s) is
 
--- what is said of the state at the cursor
+-- what is printed of the state at the cursor
 pub said_here : {M State : Type 0} (state : M → State) (m : Meaning State) (left held : Option (List ℕ)) (v : RewindView M) (s : Stand State) (words : List ℕ)
     (says : Snapshot → List ℕ) (text : List ℕ) → StandsAt state m left held v s → v.board.store.words ≡ words → text ≡ says v.history.here →
     text ≡ says (state_here m words s)

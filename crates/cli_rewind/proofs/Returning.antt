@@ -13,7 +13,7 @@ use Rattle.cli_rewind.proofs.Stepping.{stands_with}
 pub back_none : {State : Type 0} (depth : ℕ) (s : Stand State) → back depth 0 s ≡ s
 back_none depth s = let e : s.cursor - min 0 (kept depth s) ≡ s.cursor = omega arith in λ i. record { start = s.start; clocked = s.clocked; cursor = e i }
 
--- one more, where one is kept
+-- one more step back, where one more cycle is kept
 pub back_more : {State : Type 0} (depth n : ℕ) (s : Stand State) → n < kept depth s → back depth 1 (back depth n s) ≡ back depth (n + 1) s
 back_more depth n s some =
     let e : (back depth 1 (back depth n s)).cursor ≡ s.cursor - min (n + 1) (kept depth s) = omega (arith, some) in
@@ -66,7 +66,7 @@ module _ {M State : Type 0} (state : M → State) (m : Meaning State) (left held
   pub none_kept : v.history.before ≡ [] → kept v.history.depth s ≡ 0
   none_kept none = states_none m words s.start first (kept v.history.depth s) (ap (λ (h : HistoryView). h.before) (sym here.history) ∙ none)
 
--- none is kept before the last one that was gone back over
+-- no cycle is kept before the last one that was gone back over
 pub back_ended : {State : Type 0} (depth n : ℕ) (s : Stand State) → n ≤ kept depth s → kept depth (back depth n s) ≡ 0 → n ≡ kept depth s
 back_ended depth n s le none = omega (arith, le, none)
 

@@ -5,7 +5,7 @@ use Rattle.mic_clock.specs.Run.{MicroRun}
 use Rattle.mic_rewind.specs.States.{Snapshot}
 use Rattle.cli_rewind.specs.Stand.{state_at, states_from}
 
--- the last of some states, at most so many
+-- the last of some states, at most this many
 abbrev pub latest : ℕ → List Snapshot → List Snapshot
 latest depth ss = drop (length ss - depth) ss
 
@@ -28,7 +28,7 @@ module _ {State : Type 0} (m : Meaning State) (words : List ℕ) (start : MicroR
   states_length at zero = refl
   states_length at (suc n) = ap suc (states_length (suc at) n)
 
-  -- one state more at the end
+  -- one more state at the end
   pub states_more : (at n : ℕ) → from at n ++ state_at m words start (at + n) ∷ [] ≡ from at (suc n)
   states_more at zero = let e : at + zero ≡ at = omega arith in ap (λ (j : ℕ). state_at m words start j ∷ []) e
   states_more at (suc n) =
@@ -70,7 +70,7 @@ module _ {State : Type 0} (m : Meaning State) (words : List ℕ) (start : MicroR
   states_none at zero e = refl
   states_none at (suc n) e = absurd (cc)
 
-  -- the states that a cycle more leaves, of at most so many
+  -- the states that one more cycle leaves, of at most this many
   pub states_kept : (depth first k clocked : ℕ) → first ≡ clocked - depth → first + k ≡ clocked →
       latest depth (from first k ++ state_at m words start clocked ∷ []) ≡ from (suc clocked - depth) (suc clocked - (suc clocked - depth))
   states_kept depth first k clocked is at =

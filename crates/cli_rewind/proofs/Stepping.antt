@@ -38,7 +38,7 @@ no_fault None (Some (ends.OutOfMap at)) read write = tt
 no_fault None (Some ends.Adrift) read write = tt
 no_fault (Some e) new read write = tt
 
--- what a source that tells may have untaken is one list
+-- only one list may be untaken of a source whose rest is known
 abbrev untaken_of : List ℕ → Bool → List ℕ
 untaken_of left true = []
 untaken_of left false = left
@@ -121,7 +121,7 @@ module _ {M State : Type 0} (state : M → State) (m : Meaning State) (left left
     next_by None is old new = subst (λ (r : MicroRun State). ShowsRun state (Some left') held' v'.board r) (sym (turned m words s.clocked s.start)) new
     next_by (Some e) is old new = subst (λ (r : MicroRun State). ShowsRun state (Some left') held' v'.board r) (stays m words next e (old.its_end ∙ is)) new
 
-    -- a board that was clocked shows the run after a turn more than its cycles
+    -- a board that was clocked shows the run after one more turn than its cycles
     shows_next : NoFault v.board.end v'.board.end → Turned → ShowsRun state (Some left') held' v'.board next
     shows_next well turned_so = next_by v.board.end refl here.run (leads_on (shown_run m words s v.board.end) here.run well turned_so)
 
@@ -149,7 +149,7 @@ module _ {M State : Type 0} (state : M → State) (m : Meaning State) (left left
     abbrev clocked_on : Stand State
     clocked_on = record { start = s.start; clocked = suc s.clocked; cursor = suc s.clocked }
 
-    -- and after one over a kept cycle
+    -- the stand after a step over a kept cycle
     abbrev moved_on : Stand State
     moved_on = record { start = s.start; clocked = s.clocked; cursor = suc s.cursor }
 

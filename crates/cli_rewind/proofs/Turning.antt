@@ -11,7 +11,7 @@ iterate-suc h zero x = refl
 iterate-suc h (suc n) x = iterate-suc h n (h x)
 
 module _ {State : Type 0} (m : Meaning State) (words : List ℕ) where
-  -- one turn more
+  -- one more turn
   pub turned : (n : ℕ) (r : MicroRun State) → turns m words None (suc n) r ≡ turn m words (turns m words None n r)
   turned n r = iterate-suc (λ (x : MicroRun State). turn m words (bounded m None x)) n r
 

@@ -8,7 +8,7 @@ use Rattle.cli_session.specs.Table.{CommandForm, command_form}
 use Rattle.cli_rewind.specs.declared.table.Verb.{Verb}
 use Rattle.cli_rewind.specs.declared.table.Verb.TheVariants as verbs
 
--- the word of each command, and what stands behind it
+-- the word of each command, and what follows it
 abbrev pub forms : List (CommandForm Verb)
 forms =
     command_form verbs.Micro "micro" arguments.Count
@@ -18,7 +18,7 @@ forms =
     ∷ command_form verbs.Quit "quit" arguments.Nothing
     ∷ []
 
--- what a line says over a memory of so many words
+-- what a line says over a memory of this many words
 abbrev pub command_of : ℕ → List ℕ → Result (Option (Command Verb)) CommandError
 command_of = command_in forms
 
@@ -33,6 +33,6 @@ is_quit_in (Ok (Some c)) = is_quit_verb c.verb
 is_quit_in (Ok None) = false
 is_quit_in (Err e) = false
 
--- over a memory of so many words
+-- over a memory of this many words
 abbrev pub is_quit : ℕ → List ℕ → Bool
 is_quit memory line = is_quit_in (command_of memory line)

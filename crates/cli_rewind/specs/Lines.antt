@@ -20,7 +20,7 @@ end_text (Some end) = end_line end
 abbrev pub forward_text : Option End → Moment → List ℕ
 forward_text end at = cycle_line at ++ end_text end
 
--- after cycles back, which were all that were asked for, or fewer
+-- after cycles back, which were as many as were asked for, or fewer
 abbrev pub back_text : Bool → Moment → List ℕ
 back_text all at = cycle_line at ++ (if all then [] else codes "? history ends\n")
 

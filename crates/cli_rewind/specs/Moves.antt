@@ -25,7 +25,7 @@ pub record Scene (M : Type 0) : Type 0 where
 abbrev pub scene : {M : Type 0} → RewindView M → List ℕ → SinkState → Scene M
 scene rewind input out = record { rewind = rewind; input = input; out = out }
 
--- what a session goes by stays; the board clocked at most so many cycles, and came to no fault of `out`
+-- what a session goes by stays; the board clocked at most this many cycles, and came to no fault of `out`
 pub record IsMoved {M : Type 0} (most : ℕ) (old new : RewindView M) : Type 0 where
   pub store : new.board.store ≡ old.board.store
   pub depth : new.history.depth ≡ old.history.depth
@@ -50,13 +50,13 @@ module _ {M State : Type 0} (state : M → State) (m : Meaning State) where
     pub keeps : (front : List ℕ) → Holds front old.out.held → Holds front new.out.held
     pub rose : Rose old.out.faults new.out.faults
 
-  -- each stand that was shown is followed by the one so many cycles back, whatever the input has left and `out` holds
+  -- each stand that was shown is followed by the one this many cycles back, whatever the input has left and `out` holds
   abbrev pub GoesBack : ℕ → RewindView M → RewindView M → Bool → Type 0
   GoesBack times old new all =
       (left held : Option (List ℕ)) (s : Stand State) → StandsAt state m left held old s →
       StandsAt state m left held new (back old.history.depth times s) × (all ≡ nat_le times (kept old.history.depth s))
 
-  -- so the line `back` is obeyed, which prints this text
+  -- the line `back` is obeyed, and prints this text
   abbrev pub ObeysBack : ℕ → RewindView M → List ℕ → RewindView M → Type 0
   ObeysBack times old text new =
       (left held : Option (List ℕ)) (s : Stand State) → StandsAt state m left held old s →
@@ -69,7 +69,7 @@ module _ {M State K : Type 0} (state : M → State) (m : Meaning State) (held pa
   scene_at rewind input out = scene rewind (plain_left input) (sink_of held passed faults out)
 
   module _ (n : ℕ) (old : RewindView M) (input : PlainSource) (out : K) (new : RewindView M) (input' : PlainSource) (out' : K) where
-    -- it went forward by n cycles, or to this end
+    -- the session went forward by n cycles, or to this end
     abbrev pub WentForward : Option End → Type 0
     WentForward end = Went state m n (scene_at old input out) (scene_at new input' out') (GoesForward m old.board.store.words n end)
 
@@ -78,7 +78,7 @@ module _ {M State K : Type 0} (state : M → State) (m : Meaning State) (held pa
 
   module _ (read : Result (Option (Command Verb)) CommandError)
       (old : RewindView M) (input : PlainSource) (out : K) (new : RewindView M) (input' : PlainSource) (out' : K) where
-    -- it did what was read of a line, and answers this text
+    -- the session did what was read of a line, and returned this text
     abbrev pub WentBy : List ℕ → Type 0
     WentBy text =
         Went state m (2 ^ 32) (scene_at old input out) (scene_at new input' out') (λ s s'. Follows m old.board.store.words old.history.depth read s text s')
@@ -86,7 +86,7 @@ module _ {M State K : Type 0} (state : M → State) (m : Meaning State) (held pa
     abbrev pub WasCutBy : Type 0
     WasCutBy = WasCut state m (scene_at old input out) (scene_at new input' out') (IsCutIn m old.board.store.words read)
 
--- ---- an answer is put to `err`, and both sinks pass on what they have
+-- ---- a text is put to `err`, and both sinks pass on what they have
 
 module _ {M State : Type 0} (state : M → State) (m : Meaning State) where
   -- the console's bytes were put to `out`, and nothing waits
@@ -106,7 +106,7 @@ module _ {M State : Type 0} (state : M → State) (m : Meaning State) where
         IsFrontOf out'.held (run_at m old.board.store.words s.start s.clocked).world.given
     pub keeps : (front : List ℕ) → Holds front out.held → Holds front out'.held
 
-  -- the answer was put whole
+  -- the text was put whole
   pub record IsTold (text : List ℕ) (old new : RewindView M) (out out' err err' : SinkState) : Type 0 where
     pub passed : IsPassedOn old new out out'
     pub got : Got err.held text err'.held
@@ -120,7 +120,7 @@ module _ {M State : Type 0} (state : M → State) (m : Meaning State) where
     pub keeps : (front : List ℕ) → Holds front err.held → Holds front err'.held
     pub rose : Rose out.faults out'.faults ⊎ Rose err.faults err'.faults
 
--- the same of a sink, by what it tells of itself
+-- these relations for a sink, by what it shows of itself
 
 module _ {M State K : Type 0} (state : M → State) (m : Meaning State) (held passed : K → Option (List ℕ)) (faults : K → ℕ) where
   abbrev pub PassesOn : RewindView M → K → RewindView M → K → Type 0

@@ -19,7 +19,7 @@ pub record RewindingView (M : Type 0) : Type 0 where
 abbrev pub rewinding_view : {M : Type 0} → RewindView M → ℕ → List ℕ → RewindingView M
 rewinding_view rewind memory input = record { rewind = rewind; memory = memory; input = input }
 
--- by the input itself
+-- a session's view, by the input itself
 abbrev pub rewinding_at : {M : Type 0} → RewindView M → ℕ → PlainSource → RewindingView M
 rewinding_at rewind memory input = rewinding_view rewind memory (plain_left input)
 
@@ -32,7 +32,7 @@ pub record RewindingRules : Type 0 where
 abbrev pub rules_of : {M : Type 0} → RewindingView M → RewindingRules
 rules_of d = record { words = d.rewind.board.store.words; memory = d.memory; depth = d.rewind.history.depth }
 
--- the board has come to no fault of `out`, and its counts have room for so many lines, each of fewer than 2^32 cycles
+-- the board has come to no fault of `out`, and its counts have room for this many lines, each of fewer than 2^32 cycles
 pub record Lasts {M : Type 0} (n : ℕ) (d : RewindingView M) : Type 0 where
   pub cycles : d.rewind.board.counts.cycles + n * 2 ^ 32 ≤ 2 ^ 62
   pub well : d.rewind.board.end ≢ Some ends.WriteFault

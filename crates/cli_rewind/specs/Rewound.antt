@@ -24,7 +24,7 @@ use Rattle.cli_session.specs.Goes.{Goes}
 use Rattle.cli_rewind.specs.Stand.{StandsAt, at_reset}
 use Rattle.cli_rewind.specs.Rewinding.{RewindingView, rewinding}
 
--- the status by how a session was left
+-- the status, by how a session was left
 abbrev pub status_after : Step → ℕ
 status_after steps.On = exits.done
 status_after steps.Over = exits.done
@@ -43,7 +43,7 @@ module _ {M State : Type 0} (state : M → State) (m : Meaning State) where
 
   pub data IsRewound (depth : ℕ) (micro : MalView) (program : VerifiedView) (input : List ℕ)
       (old new : OutsideView) (status : ℕ) : Type 0 where
-    -- memory was wanting before the first line
+    -- memory ran out before the first line
     NoRoom : TellsOnErr out_of_memory exits.memory old new status → IsRewound depth micro program input old new status
     -- the lines of the console were done, as far as they go
     Went : (l : Loaded) (first last : RewindingView M) (step : Step) → IsStart depth micro l program first →
@@ -51,11 +51,11 @@ module _ {M State : Type 0} (state : M → State) (m : Meaning State) where
         Goes (rewinding state m) most_lines 0 (place first old) (place last new) step → status ≡ status_after step →
         IsRewound depth micro program input old new status
 
-  -- of a program and a microprogram that are prepared
+  -- the start of a session over a program and a microprogram that are prepared
   abbrev pub IsStartOf : ℕ → Prepared → RewindingView M → Type 0
   IsStartOf depth prepared = IsStart depth prepared.micro.program prepared.micro.loaded prepared.program
 
-  -- an outside that is lent comes to this: of what is prepared, and from the files that have the program and its input
+  -- what is done to an outside that is lent: of what is prepared, and from the files that hold the program and its input
   abbrev pub RewindsPrepared : ℕ → Prepared → List ℕ → LentView → LentView → ℕ → Type 0
   RewindsPrepared depth prepared input = Over (IsRewound depth prepared.micro.program prepared.program input)
 

@@ -32,7 +32,7 @@ at_reset r = record { start = r; clocked = 0; cursor = 0 }
 abbrev pub as_read : Verb → ℕ → Result (Option (Command Verb)) CommandError
 as_read verb number = Ok (Some (record { verb = verb; number = number }))
 
--- ---- back, where so many cycles are kept
+-- ---- back, where this many cycles are kept
 
 -- the kept cycles before the cursor: of the last `depth` that were clocked
 abbrev pub kept : {State : Type 0} → ℕ → Stand State → ℕ
@@ -44,31 +44,31 @@ back depth n s = record { start = s.start; clocked = s.clocked; cursor = s.curso
 
 -- ---- forward, and what is seen there, over the words of a control store
 
--- n cycles were asked for, and so many were made: all; or fewer, since the turn after them comes to this end
+-- n cycles were asked for, and this many were made: all; or fewer, since the turn after them comes to this end
 abbrev pub StopsBy : ℕ → ℕ → Option End → Option End → Type 0
 StopsBy n made None next = made ≡ n
 StopsBy n made (Some end) next = (made < n) × (next ≡ Some end)
 
 module _ {State : Type 0} (m : Meaning State) (words : List ℕ) where
-  -- the run after so many turns
+  -- the run after this many turns
   abbrev pub run_at : MicroRun State → ℕ → MicroRun State
   run_at start n = turns m words None n start
 
   abbrev pub state_at : MicroRun State → ℕ → Snapshot
   state_at start n = snapshot_of (λ (x : State). x) m (run_at start n)
 
-  -- at the cursor
+  -- the state at the cursor
   abbrev pub state_here : Stand State → Snapshot
   state_here s = state_at s.start s.cursor
 
   -- ---- what a rewind keeps at a stand
 
-  -- the run that a board shows: one that has ended made a turn more than its cycles
+  -- the run that a board shows: one that has ended made one more turn than its cycles
   abbrev pub shown_run : Stand State → Option End → MicroRun State
   shown_run s None = run_at s.start s.clocked
   shown_run s (Some end) = run_at s.start (suc s.clocked)
 
-  -- so many states, from this cycle on
+  -- this many states, from this cycle on
   abbrev pub states_from : MicroRun State → ℕ → ℕ → List Snapshot
   states_from start at zero = []
   states_from start at (suc n) = state_at start at ∷ states_from start (suc at) n
@@ -92,7 +92,7 @@ module _ {State : Type 0} (m : Meaning State) (words : List ℕ) where
     pub running : (run_at s.start s'.cursor).end ≡ None
     pub stops : StopsBy n made end (run_at s.start (suc s'.cursor)).end
 
-  -- ---- what a line does, where so many cycles are kept
+  -- ---- what a line does, where this many cycles are kept
 
   module _ (depth : ℕ) where
     -- this command, with this number, leads from one stand to the next and prints this text
@@ -105,13 +105,13 @@ module _ {State : Type 0} (m : Meaning State) (words : List ℕ) where
     Obeys verbs.Regs n s text s' = (s' ≡ s) × (text ≡ state_text (state_here s).moment.registers)
     Obeys verbs.Quit n s text s' = (s' ≡ s) × (text ≡ [])
 
-    -- so does a line that was read
+    -- a line that was read leads from one stand to the next and prints this text
     abbrev pub Follows : Result (Option (Command Verb)) CommandError → Stand State → List ℕ → Stand State → Type 0
     Follows (Ok (Some c)) s text s' = Obeys c.verb c.number s text s'
     Follows (Ok None) s text s' = (s' ≡ s) × (text ≡ [])
     Follows (Err e) s text s' = (s' ≡ s) × (text ≡ refusal_text e)
 
-    -- so does a line, over a memory of so many words
+    -- a line leads from one stand to the next and prints this text, over a memory of this many words
     abbrev pub Does : ℕ → List ℕ → Stand State → List ℕ → Stand State → Type 0
     Does memory line = Follows (command_of memory line)
 

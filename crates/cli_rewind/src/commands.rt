@@ -14,7 +14,7 @@ use mic_clock::Clocked;
 use std::alloc::Global;
 
 /// Reads a program and its input, and steps its run by the microprogram that ships forward and back, as the console's
-/// lines ask. So many of the last cycles are kept, 1 to 65,536, to go back over.
+/// lines ask. This many of the last cycles are kept to go back over, 1 to 65,536.
 pub fn rewind_file<M: Clocked + Drop, F: Files, S: Source, K: Sink, E: Sink>(
     alloc: Global,
     machine: M,

@@ -9,7 +9,7 @@ use mic_base::{PlainSource, Sink, SinkFailed};
 use mic_clock::{Clocked, End, Tick};
 use mic_rewind::Rewind;
 
-/// The end that a cycle answers, if it does.
+/// The end that a cycle returns, if it does.
 fn met(tick: Tick) -> Option<End>
     ensures { (old new : Counts) (end : Option End) → tick ≡ tick_of old new end → result ≡ end }
 {
@@ -28,7 +28,7 @@ fn sink_failed(end: Option<End>) -> bool
     end == Some(End::WriteFault)
 }
 
-/// Goes forward by a cycle, and answers the end that it came to, if it did.
+/// Goes forward by a cycle, and returns the end that it came to, if it did.
 fn step<M: Clocked, K: Sink>(
     rewind: &mut Rewind<M>,
     input: &mut PlainSource,
@@ -46,7 +46,7 @@ fn step<M: Clocked, K: Sink>(
     Ok(end)
 }
 
-/// Goes forward by so many cycles, or to an end, which it answers.
+/// Goes forward by this many cycles, or to an end, which it returns.
 pub(crate) fn go_forward<M: Clocked, K: Sink>(
     rewind: &mut Rewind<M>,
     times: u32,
@@ -67,7 +67,7 @@ pub(crate) fn go_forward<M: Clocked, K: Sink>(
     Ok(None)
 }
 
-/// Goes back by so many cycles, or by all that are kept; answers whether these were as many.
+/// Goes back by this many cycles, or by all that are kept; returns whether enough were kept.
 pub(crate) fn go_back<M: Clocked>(rewind: &mut Rewind<M>, times: u32) -> bool
     ensures goes { GoesBack M.state M.meaning times rewind.old rewind.new result }
     ensures board { rewind.new.board ≡ rewind.old.board }

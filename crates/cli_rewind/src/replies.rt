@@ -1,4 +1,4 @@
-//! What a line does, and its answer.
+//! What a line does, and what it prints.
 
 ghost use Rattle.std.specs.Prelude.{◌≡◌, ◌≢◌, ◌≤◌, ◌+◌, ◌^◌, Some, Ok, OnErr, IfOk};
 ghost use Rattle.cli_session.specs.Texts.{state_text, word_line};
@@ -14,7 +14,7 @@ use mic_base::{Line, PlainSource, Sink, SinkFailed};
 use mic_clock::{Clocked, End};
 use mic_rewind::Rewind;
 
-/// Goes forward, and says where that came to.
+/// Goes forward, and returns the text of where that led.
 fn micro<M: Clocked, K: Sink>(
     rewind: &mut Rewind<M>,
     times: u32,
@@ -46,7 +46,7 @@ fn regs<M: Clocked>(rewind: &Rewind<M>) -> Line
     state_text(&rewind.registers())
 }
 
-/// Goes back, and says where that came to.
+/// Goes back, and returns the text of where that led.
 fn back<M: Clocked>(rewind: &mut Rewind<M>, times: u32) -> Line
     ensures leads { ObeysBack M.state M.meaning times rewind.old result rewind.new }
     ensures board { rewind.new.board ≡ rewind.old.board }

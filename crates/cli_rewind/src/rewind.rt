@@ -41,7 +41,7 @@ fn begun<M: Clocked + Drop>(
     })
 }
 
-/// The status of a session that was left so.
+/// The status of a session that was left in this way.
 fn status_after(step: Step) -> Status
     ensures { result.0 ≡ status_after step }
 {

@@ -23,7 +23,7 @@ pub(crate) struct Rewinding<M: Clocked> {
     pub(crate) words: u32,
 }
 
-/// Does a line between the two sinks, and answers whether it quits.
+/// Does a line between the two sinks, and returns whether it quits.
 fn do_line<M: Clocked, K: Sink, E: Sink>(
     rewind: &mut Rewind<M>,
     line: &[u8],

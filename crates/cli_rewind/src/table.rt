@@ -1,4 +1,4 @@
-//! The table of a session's commands: the word of each, and what stands behind it.
+//! The table of a session's commands: the word of each, and what follows it.
 
 ghost use Rattle.std.specs.Prelude.{◌≡◌};
 ghost use Rattle.cli_rewind.specs.Commands.{command_of, is_quit_in};
@@ -8,9 +8,9 @@ use cli_session::{Argument, Command, CommandError, CommandRow};
 /// The commands, each by its word.
 #[derive(Clone, Copy, Debug, PartialEq, Eq)]
 pub enum Verb {
-    /// Goes forward by so many cycles, or to an end.
+    /// Goes forward by this many cycles, or to an end.
     Micro,
-    /// Goes back by so many cycles, or as far as cycles are kept.
+    /// Goes back by this many cycles, or as far as cycles are kept.
     Back,
     /// Shows a memory word.
     Word,
@@ -39,7 +39,7 @@ const COMMANDS: [CommandRow<Verb>; 5] = rows! {
     Quit     "quit"   Nothing
 };
 
-/// Reads a line of a session over a memory of so many words: none where it has no word.
+/// Reads a line of a session over a memory of this many words: None where the line has no word.
 pub(crate) fn read_command(line: &[u8], words: u32) -> Result<Option<Command<Verb>>, CommandError>
     ensures { result ≡ command_of words line.now }
 {

@@ -1,4 +1,4 @@
-//! The answer to a line.
+//! The output of a line.
 
 ghost use Rattle.std.specs.Prelude.{OnOk, OnErr};
 ghost use Rattle.mic_base.specs.Causes.{Rose};
@@ -21,7 +21,7 @@ fn pass_on<M: Clocked, K: Sink>(rewind: &mut Rewind<M>, out: &mut K) -> Result<(
     }
 }
 
-/// Puts an answer to `err`, and lets both sinks pass on what they have.
+/// Puts a line's text to `err`, and lets both sinks pass on what they have.
 pub(crate) fn tell<M: Clocked, K: Sink, E: Sink>(
     rewind: &mut Rewind<M>,
     answer: &[u8],

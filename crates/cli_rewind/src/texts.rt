@@ -37,7 +37,7 @@ pub(crate) fn forward_text<M: Clocked>(rewind: &Rewind<M>, end: Option<End>) -> 
     line
 }
 
-/// What is printed after cycles back, which were all that were asked for, or fewer.
+/// What is printed after cycles back, which were as many as were asked for, or fewer.
 pub(crate) fn back_text<M: Clocked>(rewind: &Rewind<M>, all: bool) -> Line
     ensures { result ≡ back_text all rewind.now.history.here.moment }
 {

@@ -16,7 +16,7 @@ boundary_line None = codes "boundary none\n"
 boundary_line (Some b) =
     codes "boundary " ++ decimal b.cycles ++ codes " at " ++ hex_text 8 b.at ++ codes " sp " ++ hex_text 8 b.sp ++ codes " lv " ++ hex_text 8 b.lv ++ codes "\n"
 
--- what stands behind the name of the end: the counts, and the last boundary
+-- what follows the name of the end: the counts, and the last boundary
 abbrev pub counts_text : ℕ → ℕ → Option Boundary → List ℕ
 counts_text cycles instructions boundary =
     codes "\ncycles " ++ decimal cycles ++ codes " instructions " ++ decimal instructions ++ codes "\n"
@@ -31,7 +31,7 @@ abbrev pub cycles_of : End → ℕ → Option Boundary → ℕ
 cycles_of ends.StackLimit cycles (Some b) = b.cycles
 cycles_of end cycles boundary = cycles
 
--- those lines of a clocked run, and of a run of the plain machine
+-- the first three lines of a clocked run, and of a run of the plain machine
 
 abbrev pub clocked_head : End → Counts → List ℕ
 clocked_head end c = head end (cycles_of end c.cycles c.boundary) c.instructions c.boundary

@@ -26,7 +26,7 @@ pub fn end_name(line: &mut Line, end: End)
     }
 }
 
-/// The status of a run that ended so.
+/// The status of a run with this end.
 pub fn status_of(end: End) -> Status
     ensures { result.0 ≡ status_of end }
 {

@@ -26,7 +26,7 @@ fn boundary_line(line: &mut Line, boundary: Option<Boundary>)
     }
 }
 
-/// Appends the counts and the last boundary, behind the name of the end.
+/// Appends the counts and the last boundary, after the name of the end.
 fn add_counts(line: &mut Line, cycles: u64, instructions: u64, boundary: Option<Boundary>)
     requires { length line.old + 130 ≤ 512 }
     ensures text { line.new ≡ line.old ++ counts_text cycles instructions boundary }

@@ -1,4 +1,4 @@
--- Lines that are done one behind the other.
+-- Lines that are done one after the other.
 use Rattle.std.proofs.Common.{◌≡◌, ◌≢◌, ◌<◌, ◌+◌, ◌-◌, ◌∙◌, ℕ, zero, suc, Bool, true, false, List, [], ◌∷◌, ◌++◌, length, Option, Some, None, refl, sym, ap, subst, append_assoc, arith}
 use Rattle.std.specs.Prelude.{if◌then◌else◌, IfSome, Ok}
 use Rattle.std.specs.Option.{option_map}
@@ -64,7 +64,7 @@ open_then quits most mid more lines others p q =
     let two = q.count in
     record { count = omega (arith, sum, one, two); unquit = All-append (λ l. quits l ≡ false) lines others p.unquit q.unquit }
 
--- what is known of the bytes before and behind some lines
+-- what is known of the bytes before and after some lines
 then_told : (left mid : Option (List ℕ)) (P : List ℕ → List ℕ → Type 0) (Q R : List ℕ → Type 0) →
     IfSome left (λ bytes. (rest : List ℕ) × (mid ≡ Some rest) × P bytes rest) → IfSome mid Q →
     ((bytes rest : List ℕ) → P bytes rest → Q rest → R bytes) → IfSome left R
@@ -78,7 +78,7 @@ told_as (Some bytes) P Q p f = f bytes p
 -- ---- one line of some bytes
 
 module _ (quits : List ℕ → Bool) (n : ℕ) (bytes line : List ℕ) (left : Option (List ℕ)) where
-  -- it quits
+  -- the line quits
   quit_at : quits line ≡ true → IsFirstLine bytes line left → IsReadOut quits (suc n) bytes (line ∷ []) left
   quit_at is first =
       record {
@@ -88,7 +88,7 @@ module _ (quits : List ℕ → Bool) (n : ℕ) (bytes line : List ℕ) (left : O
             ∙ ap (λ (q : Bool). if q then behind_line 256 bytes else left_after quits n (behind_line 256 bytes)) is));
       }
 
-  -- it does not
+  -- the line does not quit
   on_at : quits line ≡ false → IsFirstLine bytes line left → IsReadOn quits (suc n) n bytes (line ∷ []) (behind_line 256 bytes)
   on_at is first =
       record {
@@ -99,7 +99,7 @@ module _ (quits : List ℕ → Bool) (n : ℕ) (bytes line : List ℕ) (left : O
             ∙ ap (λ (q : Bool). if q then behind_line 256 bytes else left_after quits n (behind_line 256 bytes)) is;
       }
 
-  -- nothing stands after it
+  -- nothing follows the line
   last_at : quits line ≡ false → IsFirstLine bytes line left → behind_line 256 bytes ≡ [] → IsReadOut quits (suc n) bytes (line ∷ []) left
   last_at is first none =
       let on = on_at is first in
@@ -237,7 +237,7 @@ module _ {Seen Rules Stand : Type 0} {m : SessionMeaning Seen Rules Stand} where
       )))
       cut
 
-  -- a line more
+  -- one more line
   pub goes_more : (most n : ℕ) {old mid new : Place Seen} (before step : Step) → before ≡ steps.On → Goes m most (suc n) old mid before →
       Goes m (suc n) n mid new step → Goes m most n old new step
   goes_more most n {old = old} {mid = mid} {new = new} before step e (On lines done quiet told) next = go_on most n old mid new step lines done quiet told next
@@ -319,7 +319,7 @@ module _ {Seen Rules Stand : Type 0} {m : SessionMeaning Seen Rules Stand} where
   kept_on most n old new step e (ConsoleFailed lines done rose told) = absurd (cc)
   kept_on most n old new step e (SinkFailed lines line at done quiet told cut) = absurd (cc)
 
-  -- where it does not, it does not matter how many lines might have followed
+  -- where a session does not go on, it does not matter how many lines might have followed
   pub goes_over : (most n k : ℕ) {old new : Place Seen} (step : Step) → (step ≢ steps.On) → Goes m most n old new step → Goes m most k old new step
   goes_over most n k step other (On lines done quiet told) = absurd (other refl)
   goes_over most n k step other (Over lines done quiet told) = Over lines done quiet told

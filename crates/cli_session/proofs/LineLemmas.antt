@@ -7,7 +7,7 @@ use Rattle.std.proofs.lemmas.List.{append-nil, length-append}
 use Rattle.cli_session.specs.declared.line.Read.TheVariants as reads
 use Rattle.cli_session.specs.Told.{IsFirstLine, ReadsLine, behind_line, line_in}
 
--- so many bytes of the line were read, and these are left
+-- the bytes of the line that were read so far, and those that are left
 pub record IsUnderway (told line rest : List ℕ) : Type 0 where
   pub told_is : told ≡ line ++ rest
   pub small : length line ≤ 256
@@ -30,7 +30,7 @@ behind_end n b rest e = rw e refl
 room : (n : ℕ) → n < 256 → 256 - n ≡ suc (256 - (n + 1))
 room n less = omega (arith, less)
 
--- a byte more
+-- one more byte
 pub underway_more : (told line : List ℕ) (b : ℕ) (rest : List ℕ) → (b == 10) ≡ false → length line < 256 → IsUnderway told line (b ∷ rest) → IsUnderway told (line ++ b ∷ []) rest
 underway_more told line b rest other less u =
     let grown : length (line ++ b ∷ []) ≡ length line + 1 = length-append line (b ∷ []) in
@@ -44,7 +44,7 @@ underway_more told line b rest other less u =
       behind = u.behind ∙ ap (λ (n : ℕ). behind_line n (b ∷ rest)) left ∙ behind_more (256 - length (line ++ b ∷ [])) b rest other;
     }
 
--- a newline ends it
+-- a newline ends the line
 pub first_ended : (told line : List ℕ) (b : ℕ) (rest : List ℕ) → (b == 10) ≡ true → length line < 256 → IsUnderway told line (b ∷ rest) → IsFirstLine told line (Some rest)
 first_ended told line b rest is less u =
     let n : ℕ = 256 - (length line + 1) in
@@ -54,7 +54,7 @@ first_ended told line b rest is less u =
       rest = ap Some (sym (u.behind ∙ ap (λ (k : ℕ). behind_line k (b ∷ rest)) (room (length line) less) ∙ behind_end n b rest is));
     }
 
--- so does its last byte
+-- the 256th byte ends the line
 pub first_full : (told line rest : List ℕ) → 256 ≤ length line → IsUnderway told line rest → IsFirstLine told line (Some rest)
 first_full told line rest full u =
     let none : 256 - length line ≡ 0 = omega (arith, full, u.small) in
@@ -72,7 +72,7 @@ behind_nothing : (n : ℕ) → behind_line n [] ≡ []
 behind_nothing zero = refl
 behind_nothing (suc n) = refl
 
--- and the end, where something stands before it
+-- the end of the bytes ends the line, where it has a byte
 pub first_last : (told line : List ℕ) → 0 < length line → IsUnderway told line [] → IsFirstLine told line (Some []) × (behind_line 256 told ≡ [])
 first_last told line some u =
     let over : behind_line 256 told ≡ [] = u.behind ∙ behind_nothing (256 - length line) in (
@@ -89,7 +89,7 @@ none_told told line none u = u.told_is ∙ append-nil line ∙ none
 
 -- ---- between a source and what it has left
 
--- where the console tells, so far the line was read
+-- the line was read so far, where the console's bytes are known
 abbrev pub Reading : Option (List ℕ) → List ℕ → Option (List ℕ) → Type 0
 Reading old line left = IfSome old (λ told. (rest : List ℕ) × (left ≡ Some rest) × IsUnderway told line rest)
 

@@ -23,11 +23,11 @@ is_word_byte b = not (is_blank b)
 abbrev pub unindented : List ℕ → List ℕ
 unindented line = drop (prefix_len is_blank line) line
 
--- its first word, empty where it has none
+-- the first word of a line, empty where it has none
 abbrev pub first_word : List ℕ → List ℕ
 first_word line = take (prefix_len is_word_byte (unindented line)) (unindented line)
 
--- what stands behind that word
+-- what follows that word
 abbrev pub behind_word : List ℕ → List ℕ
 behind_word line = drop (prefix_len is_word_byte (unindented line)) (unindented line)
 
@@ -48,7 +48,7 @@ module _ {V : Type 0} where
   numbered v (Some n) e = Ok (Some (record { verb = v; number = n }))
   numbered v None e = Err e
 
-  -- the command whose argument is a word that is there
+  -- the command whose argument is a word that exists
   abbrev pub with_word : ℕ → V → Argument → List ℕ → Result (Option (Command V)) CommandError
   with_word words v arguments.Nothing word = Err BadCommand
   with_word words v argument word = numbered v (ranged (least_of argument) (most_of words argument) (number_of word)) BadNumber
@@ -61,8 +61,8 @@ module _ {V : Type 0} where
   with_row words None word = Err BadCommand
   with_row words (Some form) word = with_argument words form word
 
-  -- What a line says by a table, over a memory of so many words. It has at most 255 bytes; a line without a word says
-  -- nothing; behind a command's word stands at most its argument.
+  -- What a line says by a table, over a memory of this many words. It has at most 255 bytes; a line without a word says
+  -- nothing; after a command's word comes at most its argument.
   unfoldable pub command_in : List (CommandForm V) → ℕ → List ℕ → Result (Option (Command V)) CommandError
   command_in forms words line =
       if nat_lt 255 (length line) then Err BadCommand else

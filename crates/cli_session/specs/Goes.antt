@@ -14,13 +14,13 @@ step_of reads.Line = steps.On
 step_of reads.Last = steps.Over
 step_of reads.Nothing = steps.Over
 
--- how a session goes on behind a line: one that quits, or is the last, is followed by none
+-- how a session goes on after a line: one that quits, or is the last, is followed by none
 abbrev pub step_behind : Read → Bool → Step
 step_behind read true = steps.Over
 step_behind read false = step_of read
 
 module _ {Seen Rules Stand : Type 0} (m : SessionMeaning Seen Rules Stand) where
-  -- the lines that a place is gone to by, of at most `most`, where at most `more` may follow
+  -- the lines by which a session comes to a place, of at most `most`, where at most `more` may follow
   pub data Goes (most more : ℕ) (old new : Place Seen) : Step → Type 0 where
     On : (lines : List (List ℕ)) → Gone m lines old new → new.seen.console.faults ≡ old.seen.console.faults →
         IfSome old.seen.console.left (λ bytes. (rest : List ℕ) × (new.seen.console.left ≡ Some rest)
@@ -31,12 +31,12 @@ module _ {Seen Rules Stand : Type 0} (m : SessionMeaning Seen Rules Stand) where
     ConsoleFailed : (lines : List (List ℕ)) → Gone m lines old new → Rose old.seen.console.faults new.seen.console.faults →
         IfSome old.seen.console.left (λ bytes. IsCutIn (m.quits old.session) most bytes lines new.seen.console.left) →
         Goes most more old new steps.ConsoleFailed
-    -- in the line behind these
+    -- a sink failed in the line after these
     SinkFailed : (lines : List (List ℕ)) (line : List ℕ) (mid : Place Seen) → Gone m lines old mid →
         new.seen.console.faults ≡ old.seen.console.faults →
         IfSome old.seen.console.left (λ bytes. IsNext (m.quits old.session) most bytes lines line) →
         IsCutShort m line mid new.seen → Goes most more old new steps.SinkFailed
 
-  -- the same of a session and an outside that is lent, by what is seen of both
+  -- the lines of a session and an outside that is lent, by what is seen of both
   abbrev pub GoesOver : {D : Type 0} → (D → Seen) → ℕ → ℕ → D → LentView → D → LentView → Step → Type 0
   GoesOver seen most more session outside session' outside' = Goes most more (place (seen session) outside.seen) (place (seen session') outside'.seen)

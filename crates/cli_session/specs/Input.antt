@@ -1,4 +1,4 @@
--- The input of a program whose session has its lines from the console, and how a command ends that has that input of a file.
+-- The input of a program whose session takes its lines from the console, and how a command ends that takes that input from a file.
 use Rattle.std.specs.Prelude.{◌≡◌, ℕ, List, [], Option, Some, None}
 use Rattle.cli_outside.specs.Outside.{OutsideView}
 use Rattle.cli_outside.specs.Work.{IsFileRead, IsUnread}
@@ -8,7 +8,7 @@ abbrev pub IsInput : Option (List ℕ) → OutsideView → List ℕ → Type 0
 IsInput None o input = input ≡ []
 IsInput (Some name) o input = IsFileRead name input o
 
--- they are not had
+-- the bytes of the named file are not available
 abbrev pub IsNoInput : Option (List ℕ) → OutsideView → OutsideView → ℕ → Type 0
 IsNoInput None old new status = ⊥
 IsNoInput (Some name) old new status = IsUnread name old new status

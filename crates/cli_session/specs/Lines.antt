@@ -8,7 +8,7 @@ most_lines = 65536
 
 -- `quits` says which lines quit.
 module _ (quits : List ℕ → Bool) where
-  -- the lines of these bytes that are done: at most so many, up to the first that quits
+  -- the lines of these bytes that are done: at most this many, up to the first that quits
   abbrev pub lines_of : ℕ → List ℕ → List (List ℕ)
   lines_of zero bytes = []
   lines_of (suc n) [] = []
@@ -22,7 +22,7 @@ module _ (quits : List ℕ → Bool) where
   left_after (suc n) (b ∷ bytes) =
       if quits (line_in 256 (b ∷ bytes)) then behind_line 256 (b ∷ bytes) else left_after n (behind_line 256 (b ∷ bytes))
 
-  -- none of these lines quits, and so many more may follow of at most `most`
+  -- none of these lines quits, and this many more may follow of at most `most`
   pub record MayGoOn (most more : ℕ) (lines : List (List ℕ)) : Type 0 where
     pub count : length lines + more ≡ most
     pub unquit : All (λ line. quits line ≡ false) lines
@@ -38,7 +38,7 @@ module _ (quits : List ℕ → Bool) where
     pub whole : lines ≡ lines_of most bytes
     pub left_is : left ≡ Some (left_after most bytes)
 
-  -- a failing console cuts the line behind these bytes of it; before it, these lines are whole, and a line may follow them
+  -- a failing console cuts the line after these bytes of it; before it, these lines are whole, and a line may follow them
   pub record IsCutIn (most : ℕ) (bytes : List ℕ) (lines : List (List ℕ)) (left : Option (List ℕ)) : Type 0 where
     pub before : ℕ
     pub some : 0 < before

@@ -5,7 +5,7 @@ use Rattle.mic_base.specs.Streams.{Holds}
 use Rattle.console_port.specs.Console.{StaysFlushed}
 use Rattle.cli_outside.specs.Outside.{Got, LentView, OutsideView}
 
--- what a sink that tells it holds is a front of these bytes
+-- what a sink holds is a front of these bytes, where that is known
 abbrev pub IsFrontOf : Option (List ℕ) → List ℕ → Type 0
 IsFrontOf held bytes = IfSome held (λ h. (more : List ℕ) × (bytes ≡ h ++ more))
 
@@ -15,9 +15,9 @@ pub record SessionMeaning (Seen Rules Stand : Type 0) : Type 1 where
   pub quits : Seen → List ℕ → Bool
   -- the rules that it goes by, which no line changes
   pub GoesBy : Seen → Rules → Type 0
-  -- where it stands, by what `out` holds
+  -- where a session stands, by what `out` holds
   pub StandsAt : Option (List ℕ) → Seen → Stand → Type 0
-  -- so many lines may still be done
+  -- this many lines may still be done
   pub Lasts : ℕ → Seen → Type 0
   -- what `out` has not got yet of what was given
   pub waiting : Seen → List ℕ
@@ -53,7 +53,7 @@ module _ {Seen Rules Stand : Type 0} (m : SessionMeaning Seen Rules Stand) where
       ((s : Stand) → m.StandsAt old.seen.out.held old.session s →
       (s' : Stand) × DoesAll rules lines s text s' × m.StandsAt new.seen.out.held new.session s')
 
-  -- a failing sink breaks a line off: so it does from each stand of the session
+  -- a failing sink breaks a line off, from whichever stand the session has
   abbrev pub BreaksOff : List ℕ → Place Seen → OutsideView → Type 0
   BreaksOff line old new =
       (rules : Rules) → m.GoesBy old.session rules → (s : Stand) → m.StandsAt old.seen.out.held old.session s →

@@ -1,4 +1,4 @@
--- A table of commands: the word of each, and what stands behind it.
+-- A table of commands: the word of each, and what follows it.
 use Prim.Native.String.{String as Literal}
 use Rattle.std.specs.Prelude.{ℕ, ◌-◌, List, Option, Some, None, codes, find}
 use Rattle.std.specs.Str.{bytes_eq}
@@ -6,7 +6,7 @@ use Rattle.cli_session.specs.declared.table.Argument.{Argument}
 use Rattle.cli_session.specs.declared.table.Argument.TheVariants as arguments
 use Rattle.cli_session.specs.declared.table.CommandRow.{CommandRow}
 
--- a command, its word, and what stands behind the word
+-- a command, its word, and what follows the word
 pub record CommandForm (V : Type 0) : Type 0 where
   pub verb : V
   pub word : List ℕ
@@ -15,7 +15,7 @@ pub record CommandForm (V : Type 0) : Type 0 where
 abbrev pub command_form : {V : Type 0} → V → Literal → Argument → CommandForm V
 command_form verb word argument = record { verb = verb; word = codes word; argument = argument }
 
--- what a row says
+-- the command, the word and the argument of a row
 abbrev pub form_of : {V : Type 0} → CommandRow V → CommandForm V
 form_of row = record { verb = row.verb; word = row.word.now; argument = row.argument }
 
@@ -23,7 +23,7 @@ form_of row = record { verb = row.verb; word = row.word.now; argument = row.argu
 abbrev pub row_in : {V : Type 0} → List ℕ → List (CommandForm V) → Option (CommandForm V)
 row_in word = find (λ form. bytes_eq form.word word)
 
--- ---- the range of each argument, over a memory of so many words, and what it is where it is left out
+-- ---- the range of each argument, over a memory of this many words, and its number where it is left out
 
 abbrev pub least_of : Argument → ℕ
 least_of arguments.Nothing = 0

@@ -16,6 +16,6 @@ state_text r = state_line r ++ codes "\n"
 abbrev pub word_text : ℕ → ℕ → List ℕ
 word_text at value = hex_text 8 at ++ codes " " ++ hex_text 8 value ++ codes "\n"
 
--- those of a word of a memory
+-- the address and the value of a word of a memory
 abbrev pub word_line : List ℕ → ℕ → List ℕ
 word_line memory at = word_text at (unwrap_or (slice_get memory at) 0)

@@ -1,15 +1,15 @@
--- The lines that a console tells. A newline ends a line; so do its 256th byte, and the end.
+-- The lines of a console's bytes. A newline ends a line; so do its 256th byte, and the end of the bytes.
 use Rattle.std.specs.Prelude.{◌≡◌, ◌<◌, ℕ, zero, suc, ◌-◌, ◌==◌, if◌then◌else◌, List, [], ◌∷◌, ◌++◌, length, Result, Ok, Err, Option, Some, IfSome}
 use Rattle.cli_session.specs.declared.line.Read.{Read}
 use Rattle.cli_session.specs.declared.line.Read.TheVariants as reads
 
--- the first line of some bytes, of at most so many
+-- the first line of some bytes, of at most this many
 abbrev pub line_in : ℕ → List ℕ → List ℕ
 line_in zero bytes = []
 line_in (suc n) [] = []
 line_in (suc n) (b ∷ bytes) = if b == 10 then [] else b ∷ line_in n bytes
 
--- what stands behind it, and behind the newline that ended it
+-- what follows that line, and the newline that ended it
 abbrev pub behind_line : ℕ → List ℕ → List ℕ
 behind_line zero bytes = bytes
 behind_line (suc n) [] = []
@@ -21,7 +21,7 @@ pub record IsFirstLine (told line : List ℕ) (left : Option (List ℕ)) : Type 
   pub line_is : line ≡ line_in 256 told
   pub rest : left ≡ Some (behind_line 256 told)
 
--- a failing console cuts a line behind these bytes of it
+-- a failing console cuts a line after these bytes of it
 pub record IsCutLine (told line : List ℕ) (left : Option (List ℕ)) : Type 0 where
   pub rest : List ℕ
   pub left_is : left ≡ Some rest
@@ -35,6 +35,6 @@ ReadsLineOf told line (Ok reads.Last) left = IsFirstLine told line left × (behi
 ReadsLineOf told line (Ok reads.Nothing) left = (told ≡ []) × (left ≡ Some [])
 ReadsLineOf told line (Err e) left = IsCutLine told line left
 
--- what came of reading a line, where the console tells its bytes
+-- what came of reading a line, where the console's bytes are known
 abbrev pub ReadsLine : {E : Type 0} → Option (List ℕ) → List ℕ → Result Read E → Option (List ℕ) → Type 0
 ReadsLine old line result new = IfSome old (λ told. ReadsLineOf told line result new)

@@ -1,4 +1,4 @@
-//! Sessions: the lines of the console are read and done one after the other, and a line is read as a command of a table.
+//! Sessions: the lines of the console are read and done one after the other. A line is read as a command of a table.
 #![tactic(auto)]
 
 mod input;

@@ -10,14 +10,14 @@ use mic_base::{Source, SourceFailed};
 /// The bytes of a line that are kept: one more than a command may have.
 pub const LINE_BYTES: usize = 256;
 
-/// What was read of the console.
+/// What was read from the console.
 #[derive(Clone, Copy, Debug, PartialEq, Eq)]
 pub enum Read {
     /// A line, and more may follow.
     Line,
-    /// A line that the end cut.
+    /// A line that ends at the end of the console.
     Last,
-    /// Nothing: the end was met at once.
+    /// Nothing: the console is at its end.
     Nothing,
 }
 
@@ -44,7 +44,7 @@ pub(crate) fn read_line<S: Source>(
     Ok(Read::Line)
 }
 
-/// What the end leaves of a line.
+/// What is read where the console is at its end: the line so far, or nothing.
 fn cut(is_empty: bool) -> Read
     ensures { result ≡ (if is_empty then Read.Nothing else Read.Last) }
 {

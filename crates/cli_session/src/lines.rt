@@ -14,17 +14,17 @@ use mic_base::{Files, Sink, Source};
 /// The most lines of a session.
 pub const MOST_LINES: u32 = 65_536;
 
-/// How a session goes on behind a line.
+/// How a session goes on after a line.
 #[derive(Clone, Copy, Debug, PartialEq, Eq)]
 pub enum Step {
     On,
-    /// It was left, or the lines are at their end.
+    /// The session was left, or its lines are at their end.
     Over,
     ConsoleFailed,
     SinkFailed,
 }
 
-/// How it goes on behind a line that was done.
+/// How a session goes on after a line that was done.
 fn step_behind(read: Read, quits: bool) -> Step
     ensures { result ≡ step_behind read quits }
 {

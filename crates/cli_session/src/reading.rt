@@ -20,9 +20,9 @@ pub struct Command<V> {
 /// Why a line is no command.
 #[derive(Clone, Copy, Debug, PartialEq, Eq)]
 pub enum CommandError {
-    /// It has more than 255 bytes, or its words are those of no command.
+    /// The line has more than 255 bytes, or its words are those of no command.
     BadCommand,
-    /// The command's number does not read, or is out of its range.
+    /// The command's number cannot be read, or is out of its range.
     BadNumber,
 }
 
@@ -68,7 +68,7 @@ fn first_word(line: &[u8]) -> &[u8]
     &line[..end]
 }
 
-/// What stands behind the first word of a line.
+/// What follows the first word of a line.
 fn behind_word(line: &[u8]) -> &[u8]
     ensures { result.now ≡ behind_word line.now }
 {
@@ -117,7 +117,7 @@ fn with_argument<V: Copy>(
     }
 }
 
-/// Reads a line by a table: none where it has no word.
+/// Reads a line by a table: None where the line has no word.
 #[tactic(auto, unfolding(crate::specs::Commands::command_in))]
 pub fn read_command<V: Copy>(
     rows: &[CommandRow<V>],

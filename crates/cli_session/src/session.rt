@@ -24,7 +24,7 @@ pub trait LineSession {
 
     ghost seen: { Self → Seen };
 
-    /// Does a line, and answers whether it quits. Its output goes to `out`, its answer to `err`, and both are flushed.
+    /// Does a line, and returns whether it quits. Its output goes to `out`, its answer to `err`, and both are flushed.
     fn answer<F: Files, S: Source, K: Sink, E: Sink>(
         &mut self,
         line: &[u8],

@@ -1,10 +1,10 @@
-//! A table of commands: the word of each, and what stands behind it.
+//! A table of commands: the word of each, and what follows it.
 
 ghost use Rattle.std.specs.Prelude.{◌≡◌, find, map, option_map};
 ghost use Rattle.std.specs.Str.{bytes_eq};
 ghost use Rattle.cli_session.specs.Table.{default_of, form_of, least_of, most_of, row_in};
 
-/// What stands behind a command's word.
+/// What follows a command's word.
 #[derive(Clone, Copy, Debug, PartialEq, Eq)]
 pub enum Argument {
     Nothing,
@@ -43,7 +43,7 @@ pub(crate) fn row_of<V: Copy>(rows: &[CommandRow<V>], word: &[u8]) -> Option<Com
 }
 
 impl Argument {
-    /// The least number that it may be.
+    /// The least number that the argument may be.
     pub fn least(self) -> u32
         ensures { result ≡ least_of self }
     {
@@ -53,7 +53,7 @@ impl Argument {
         }
     }
 
-    /// The greatest number that it may be, over a memory of so many words.
+    /// The greatest number that the argument may be, over a memory of this many words.
     pub fn most(self, words: u32) -> u32
         ensures { result ≡ most_of words self }
     {
@@ -65,7 +65,7 @@ impl Argument {
         }
     }
 
-    /// The number that it is where it is left out, if it may be.
+    /// The number of an argument that is left out, if it may be.
     pub fn default(self) -> Option<u32>
         ensures { result ≡ default_of self }
     {

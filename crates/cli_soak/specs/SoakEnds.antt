@@ -1,4 +1,4 @@
--- How `soak` ends: the generated program's run on a machine, with no input and its output thrown away, and its summary; or memory is wanting.
+-- How `soak` ends: the generated program's run on a machine, with no input and its output thrown away, and its summary; or memory ran out.
 use Rattle.std.specs.Prelude.{◌≡◌, ℕ, List, [], length, Option, Some, None}
 use Rattle.console_port.specs.declared.map.TheConstants.MemoryMap.{STANDARD}
 use Rattle.mic_clock.specs.Meaning.{Meaning}

@@ -1,4 +1,4 @@
--- Why no compiled program is had.
+-- Why there is no compiled program.
 use Rattle.std.proofs.Common.{◌≡◌, ℕ, List, Some, refl, sym, subst, false}
 use Rattle.cli_outside.specs.declared.refusal.Refusal.{Refusal}
 use Rattle.cli_outside.specs.Work.{IsRefusal, refusal_by}
@@ -9,7 +9,7 @@ use Rattle.tiny_parser.specs.declared.error.TinyError.TheVariants as errors
 use Rattle.tiny_compiler.specs.Compiled.{HasNoCode}
 use Rattle.cli_tiny.specs.Refusals.{IsRefusedTiny, tiny_reason}
 
--- a refusal that is told is not want of memory
+-- a refusal with a reason is not out of memory
 is_told : (e : TinyError) (said : List ℕ) → tiny_reason e ≡ Some said → is_memory e ≡ false
 is_told (errors.BadToken line) said h = refl
 is_told (errors.BadNumber line) said h = refl

@@ -1,4 +1,4 @@
--- What is said of a text that is no Tiny program, or that has no code: the table of messages. A limit of the image is told as that of a source.
+-- What is printed of a text that is no Tiny program, or that has no code: the table of messages. A limit of the image has the message that it has for a source.
 use Rattle.std.specs.Prelude.{◌≡◌, ℕ, List, Option, Some, None, codes}
 use Rattle.cli_outside.specs.Messages.{of_file, of_line}
 use Rattle.method_linker.specs.declared.error.LinkError.TheVariants as limits
@@ -7,7 +7,7 @@ use Rattle.tiny_parser.specs.declared.error.TinyError.{TinyError}
 use Rattle.tiny_parser.specs.declared.error.TinyError.TheVariants as errors
 use Rattle.tiny_compiler.specs.Compiled.{HasNoCode}
 
--- why a text is no Tiny program or has no code, if it was not want of memory
+-- why a text is no Tiny program or has no code, unless memory ran out
 abbrev pub tiny_reason : TinyError → Option (List ℕ)
 tiny_reason (errors.BadToken line) = Some (of_line line (codes "bad token"))
 tiny_reason (errors.BadNumber line) = Some (of_line line (codes "bad number"))

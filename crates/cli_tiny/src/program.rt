@@ -25,7 +25,7 @@ fn compiled(alloc: Global, text: &[u8]) -> Result<VerifiedImage, Refusal>
     }
 }
 
-/// The program that a Tiny file compiles to; or it is said why none is had, and the status tells.
+/// The program that a Tiny file compiles to. Where there is none, it prints why and returns the status of that.
 pub fn program_in_tiny<F: Files, S: Source, K: Sink, E: Sink>(
     alloc: Global,
     tiny: &str,

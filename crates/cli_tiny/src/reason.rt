@@ -9,7 +9,7 @@ use method_linker::LinkError;
 use mic_base::Line;
 use tiny_compiler::TinyError;
 
-/// Why a text is no Tiny program or has no code, unless memory was wanting.
+/// Why a text is no Tiny program or has no code, unless memory ran out.
 pub fn tiny_reason(error: TinyError) -> Option<Line>
     ensures { result ≡ tiny_reason error }
 {

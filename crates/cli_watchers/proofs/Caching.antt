@@ -23,14 +23,14 @@ use Rattle.cli_watchers.specs.Cached.{CacheKept, SaysNothing, access_at, access_
 
 -- ---- one access
 
--- an access behind the memory is not counted
+-- an access after the end of the memory is not counted
 pub read_past : (size at : ℕ) (t : Tally) → nat_lt at size ≡ false → counted size (Read at) t ≡ t
 read_past size at t past = rw past refl
 
 pub fetch_past : (size byte : ℕ) (t : Tally) → nat_lt (byte / 4) size ≡ false → counted size (Fetch byte) t ≡ t
 fetch_past size byte t past = rw past refl
 
--- at most one hit or one miss more
+-- at most n more hits and misses together
 pub record IsFew (n : ℕ) (t t' : Tally) : Type 0 where
   pub hits : t'.counts.hits ≤ t.counts.hits + n
   pub misses : t'.counts.misses ≤ t.counts.misses + n

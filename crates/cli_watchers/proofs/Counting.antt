@@ -148,7 +148,7 @@ module _ (t : Bool) (all : ℕ) where
           let count = are.0.count in
           all_from cs (n + 1) (record { at = at; cycles = c.counts.cycles }) are.1 (omega arith) (omega arith)
 
-  -- no more instructions are completed than cycles are clocked, and one
+  -- at most one more instruction is completed than cycles are clocked
   few_from : (cs : List Cycle) (r : Reached) → length (completed_from r (boundaries_of cs) end) ≤ length cs + 1
   few_from [] r = last t
     where
@@ -174,7 +174,7 @@ module _ (t : Bool) (all : ℕ) where
 tally_is : (ts : List RowCount) (row : ℕ) → tally_at ts row ≡ get_or ts row no_tally
 tally_is ts row = unwrap_or-slice_get ts row no_tally
 
--- a tally of so many instructions and cycles more
+-- a tally of this many more instructions and cycles
 abbrev grown : RowCount → ℕ → ℕ → RowCount
 grown t count cycles = record { count = t.count + count; cycles = t.cycles + cycles }
 
@@ -186,7 +186,7 @@ pub record HasRoom (t : RowCount) (is : List Completed) : Type 0 where
 plus_is : (a b : ℕ) → a + b < 2 ^ 64 → plus a b ≡ a + b
 plus_is a b less = omega arith
 
--- one instruction more, before others of which this is known
+-- one more instruction, before others of which this is known
 module _ (rows : List ℕ) (row : ℕ) (one : Completed) (is : List Completed) (ts : List RowCount) (inside : row < length ts) (room : HasRoom (tally_at ts row) (one ∷ is)) where
   abbrev place : ℕ
   place = row_at rows one.at

@@ -11,7 +11,7 @@ rows_rest row ts d h =
     let e : drop row ts ≡ get_or ts row d ∷ drop (row + 1) ts = rw add-one (drop-cons ts row d h) in
     ap (rows_text row) e
 
--- a row's line is put behind the lines before it
+-- a row's line is put after the lines before it
 pub rows_step : (row : ℕ) (ts : List RowCount) (d : RowCount) (done whole line : List ℕ) → row < length ts → line ≡ row_line row (get_or ts row d) →
     done ++ rows_text row (drop row ts) ≡ whole → (done ++ line) ++ rows_text (row + 1) (drop (row + 1) ts) ≡ whole
 rows_step row ts d done whole line h is so =
@@ -19,7 +19,7 @@ rows_step row ts d done whole line h is so =
     ∙ ap (λ (l : List ℕ). done ++ (l ++ rows_text (row + 1) (drop (row + 1) ts))) is
     ∙ ap (λ (l : List ℕ). done ++ l) (sym (rows_rest row ts d h)) ∙ so
 
--- behind the last row nothing is left
+-- after the last row nothing is left
 pub rows_end : (row : ℕ) (ts : List RowCount) (done whole : List ℕ) → length ts ≤ row → done ++ rows_text row (drop row ts) ≡ whole → done ≡ whole
 rows_end row ts done whole past so =
     sym (append-nil done) ∙ ap (λ (l : List ℕ). done ++ l) (sym (ap (rows_text row) (drop_all row ts past))) ∙ so

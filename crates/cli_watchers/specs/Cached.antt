@@ -40,7 +40,7 @@ abbrev pub accesses_of : Machine → List ℕ → List Cycle → List Access
 accesses_of machine words [] = []
 accesses_of machine words (c ∷ cs) = accesses_by (access_in machine (slice_index words c.mpc)) c.registers ++ accesses_of machine words cs
 
--- the hits and the misses of accesses, by a cache of so many lines that begins empty, before so many words of memory
+-- the hits and the misses of accesses, by a cache of this many lines that begins empty, in front of this many words of memory
 abbrev pub counts_of : ℕ → ℕ → List Access → CacheCounts
 counts_of lines size accesses = record { hits = hits_of lines size accesses; misses = misses_of lines size accesses }
 
@@ -49,7 +49,7 @@ abbrev pub cache_line : ℕ → CacheCounts → List ℕ
 cache_line lines counts =
     codes "cache lines " ++ decimal lines ++ codes " hits " ++ decimal counts.hits ++ codes " misses " ++ decimal counts.misses ++ codes "\n"
 
--- What a watcher keeps that repeats them.
+-- What a watcher that repeats them keeps.
 
 pub record CacheKept : Type 0 where
   -- what the word at each address asks of memory
@@ -83,7 +83,7 @@ abbrev pub kept_after : CacheKept → Cycle → CacheKept
 kept_after k c =
     if has_room k.tally.counts then record k { tally = all_counted k.size (accesses_by (access_at k.accesses c.mpc) c.registers) k.tally } else k
 
--- nothing is said of a cycle
+-- nothing is printed of a cycle
 abbrev pub SaysNothing : CacheKept → Cycle → List ℕ → Type 0
 SaysNothing k c text = text ≡ []
 

@@ -19,12 +19,12 @@ pub record Completed : Type 0 where
 
 -- ---- the cycles of a run
 
--- the cycle is clocked after so many, and the counts have the boundary that it reaches
+-- the cycle is clocked after this many, and the counts have the boundary that it reaches
 pub record IsClockedAfter (before : ℕ) (c : Cycle) : Type 0 where
   pub count : c.counts.cycles ≡ before + 1
   pub reached : (at : ℕ) → c.boundary ≡ Some at → (b : Boundary) × (c.counts.boundary ≡ Some b) × (b.at ≡ at) × (b.cycles ≡ c.counts.cycles)
 
--- these cycles are clocked one after the other, after so many
+-- these cycles are clocked one after the other, after this many
 abbrev pub AreClockedAfter : ℕ → List Cycle → Type 0
 AreClockedAfter before [] = Unit {0}
 AreClockedAfter before (c ∷ cs) = IsClockedAfter before c × AreClockedAfter (before + 1) cs

@@ -29,7 +29,7 @@ bus_line d c =
     codes "  a " ++ hex_text 8 d.a ++ codes " b " ++ hex_text 8 d.b ++ codes " alu " ++ hex_text 8 c.alu.value ++ codes " c " ++ hex_text 8 c.c
     ++ flag_text (codes " n ") c.alu.n ++ flag_text (codes " z ") c.alu.z ++ codes "\n"
 
--- the buses, where they are asked for and the cycle was no stall, and the registers behind the edge
+-- the buses, where they are asked for and the cycle was no stall, and the registers after the edge
 abbrev pub state_lines : Bool → Cycle → List ℕ
 state_lines buses c =
     (if buses && not c.drive.stalled then bus_line c.drive c.computed else []) ++ codes "  " ++ state_line c.registers ++ codes "\n"
@@ -38,12 +38,12 @@ state_lines buses c =
 abbrev pub reached_line : ℕ → List ℕ → List ℕ
 reached_line at instruction = codes "at " ++ hex_text 8 at ++ codes " " ++ instruction ++ codes "\n"
 
--- where a boundary was reached
+-- the line of the boundary that a cycle reached, or nothing where it reached none
 abbrev pub IsBoundaryLine : ImageView → Option ℕ → List ℕ → Type 0
 IsBoundaryLine image None text = text ≡ []
 IsBoundaryLine image (Some at) text = (instruction : List ℕ) × IsInstruction image at instruction × (text ≡ reached_line at instruction)
 
--- a call behind another that has put a text puts one of these texts behind it
+-- a call after another that has put a text puts one of these texts after it
 abbrev pub PutsOneBehind : {E : Type 0} → (List ℕ → Type 0) → Result Unit E → Option (List ℕ) → Result Unit E → Option (List ℕ) → Type 0
 PutsOneBehind IsOne said old result new =
     (first : Option (List ℕ)) (text : List ℕ) → Puts first text said old → (one : List ℕ) × IsOne one × Puts first (text ++ one) result new

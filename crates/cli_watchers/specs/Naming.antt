@@ -35,7 +35,7 @@ abbrev pub labelled_text : Bool → List ℕ → List ℕ → List ℕ
 labelled_text true label parts = label ++ codes " stall"
 labelled_text false label parts = label ++ codes " " ++ parts
 
--- a line gets the word at an address so
+-- a line gets the label and the text of the word at an address
 abbrev pub AddsWord : MalView → List ℕ → ℕ → Bool → List ℕ → List ℕ → Type 0
 AddsWord p addresses mpc stalled old new =
     (label parts : List ℕ) × IsWord p addresses mpc label parts × (new ≡ old ++ labelled_text stalled label parts)
@@ -49,7 +49,7 @@ abbrev pub text_of : Option Instr → ℕ → List ℕ
 text_of (Some i) at = instr_text i at
 text_of None at = codes "?"
 
--- its text, or `?` where none begins there
+-- the text of the reached instruction at an address, or `?` where none begins there
 pub record IsInstruction (image : ImageView) (at : ℕ) (text : List ℕ) : Type 0 where
   pub instr : Option Instr
   pub reached : IsReached image at instr

@@ -34,7 +34,7 @@ plus a b = min (a + b) (2 ^ 64 - 1)
 abbrev pub more : ℕ → RowCount → RowCount
 more cycles t = record { count = plus t.count 1; cycles = plus t.cycles cycles }
 
--- the row of an address; behind the text there is no instruction
+-- the row of an address; after the text there is no instruction
 abbrev pub row_at : List ℕ → ℕ → ℕ
 row_at rows at = unwrap_or (slice_get rows at) other
 
@@ -88,7 +88,7 @@ profile_text p e c =
 abbrev pub start_profile : List ℕ → Profile
 start_profile rows = record { rows = rows; boot = 0; last = None; tallies = replicate 27 no_tally }
 
--- nothing is said of a cycle
+-- nothing is printed of a cycle
 abbrev pub Silent : Profile → Cycle → List ℕ → Type 0
 Silent p c text = text ≡ []
 

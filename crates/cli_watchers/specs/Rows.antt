@@ -43,7 +43,7 @@ pub record IsRowAt (image : ImageView) (at row : ℕ) : Type 0 where
   pub reached : IsReached image at instr
   pub is : row ≡ row_in instr
 
--- the rows of so many addresses, from the first on
+-- the rows of this many addresses, from the first on
 pub record AreRowsUpTo (image : ImageView) (count : ℕ) (rows : List ℕ) : Type 0 where
   pub long : length rows ≡ count
   pub each : (at row : ℕ) → slice_get rows at ≡ Some row → IsRowAt image at row

@@ -58,7 +58,7 @@ pub fn bus_line(drive: &Drive, computed: &Computed, line: &mut Line)
     line.text("\n");
 }
 
-/// The line of the buses, where it is asked for and the cycle was no stall, and the line of the registers behind the edge.
+/// The line of the buses, if it is asked for and the cycle was no stall, and the line of the registers after the edge.
 pub fn state_lines(buses: bool, cycle: &Cycle) -> Line
     requires { cycle.now.registers.mpc < 512 }
     ensures { result ≡ state_lines buses cycle.now }

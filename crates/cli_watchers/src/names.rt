@@ -38,7 +38,7 @@ fn print_default(program: &MalProgram, line: &mut Line)
     }
 }
 
-/// Appends a statement's label, and behind a space its parts, or `stall` in place of them.
+/// Appends a statement's label, and after a space its parts, or `stall` in place of them.
 fn print_placed_word(program: &MalProgram, s: u16, stalled: bool, line: &mut Line)
     requires below { s < length program.now.statements }
     requires room { length line.old + 321 ≤ 512 }
@@ -54,7 +54,7 @@ fn print_placed_word(program: &MalProgram, s: u16, stalled: bool, line: &mut Lin
     }
 }
 
-/// The same of an unused word.
+/// Appends the label of an unused word, and after a space what it holds, or `stall` in place of that.
 fn print_unused_word(program: &MalProgram, stalled: bool, line: &mut Line)
     requires { length line.old + 321 ≤ 512 }
     ensures text { line.new ≡ line.old ++ labelled_text stalled (codes ".default") (default_text program.now) }
@@ -69,7 +69,7 @@ fn print_unused_word(program: &MalProgram, stalled: bool, line: &mut Line)
     }
 }
 
-/// Appends the label of the word at an address, and behind a space its text, or `stall` in place of it.
+/// Appends the label of the word at an address, and after a space its text, or `stall` in place of it.
 #[tactic(auto, using(crate::proofs::Placed::placed_count))]
 pub fn print_word(
     program: &MalProgram,

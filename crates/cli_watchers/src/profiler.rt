@@ -50,7 +50,7 @@ fn row_at(rows: &[u8], at: u32) -> u8
     }
 }
 
-/// One more instruction of this row, in so many cycles.
+/// One more instruction of this row, in this many cycles.
 fn add(tallies: &mut [RowCount], row: u8, cycles: u64)
     ensures { tallies.new ≡ slice_set tallies.old row (more cycles (tally_at tallies.old row)) }
 {
@@ -74,7 +74,7 @@ pub(crate) fn complete(rows: &[u8], tallies: &mut [RowCount], last: Option<Bound
 }
 
 impl<'a> Profiler<'a> {
-    /// Nothing was counted yet.
+    /// A profiler that has counted nothing.
     pub fn new(rows: &'a [u8]) -> Profiler<'a>
         ensures rows { result.rows.now ≡ rows.now }
         ensures boot { result.boot ≡ 0 }

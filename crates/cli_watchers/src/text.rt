@@ -38,7 +38,7 @@ fn row_line(row: usize, tally: &RowCount) -> Line
     line
 }
 
-/// Puts the lines of all rows behind what was put, unless that failed.
+/// Puts the lines of all rows after what was put, unless that failed.
 fn put_rows<E: Sink>(
     before: Result<(), SinkFailed>,
     err: &mut E,
@@ -54,7 +54,7 @@ fn put_rows<E: Sink>(
     said
 }
 
-/// The tallies of a run that ended so.
+/// The tallies of a run with this end.
 fn tallies_at(profiler: &Profiler<'_>, end: End, counts: &Counts) -> [RowCount; 27]
     ensures { result ≡ tallies_at (profile_in profiler.now) end counts.now.cycles }
 {
@@ -65,7 +65,7 @@ fn tallies_at(profiler: &Profiler<'_>, end: End, counts: &Counts) -> [RowCount; 
     tallies
 }
 
-/// Puts the profile of a run that ended so with these counts.
+/// Puts the profile of a run with this end and these counts.
 pub fn put_profile<E: Sink>(
     profiler: &Profiler<'_>,
     end: End,

@@ -26,7 +26,7 @@ pub struct Tracer<'a> {
     ghost placed: { Places (demands_of program.now) placement.now },
 }
 
-/// Puts the line of a boundary behind what was put, if one was reached.
+/// Puts the line of a boundary after what was put, if one was reached.
 fn put_boundary<E: Sink>(
     said: Result<(), SinkFailed>,
     err: &mut E,

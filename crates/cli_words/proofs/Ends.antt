@@ -1,4 +1,4 @@
--- What clap does after its walk, and the agreement of its answer with the reading of the words.
+-- What clap does after its walk, and the agreement of its result with the reading of the words.
 use Rattle.std.proofs.Common.{◌≡◌, ℕ, ◌+◌, ◌≤◌, ◌∙◌, ap, refl, Bool, true, false, not, List, [], ◌∷◌, ◌++◌, length, Option, Some, None, inl, inr, ◌⊎◌, ◌||◌, ◌&&◌, IsUtf8}
 use Rattle.std.specs.Prelude.{if◌then◌else◌, codes, fold, option_map}
 use Rattle.std.specs.List.{All, list_all, list_any}
@@ -176,7 +176,7 @@ known_from c (n ∷ ns) h = (h n (rw (own_text n) refl), known_from c ns (λ m e
         go true = refl
         go false = e
 
--- of the walk's end
+-- what clap holds at the walk's end
 abbrev walk_end : Form → List Text → Held
 walk_end f words = (walk (rules_for f) [] nothing_held words).held
 

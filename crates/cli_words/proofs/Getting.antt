@@ -39,7 +39,7 @@ first_other n r (m ∷ fs) h = go (bytes_eq m n) refl (has_row m r) refl (λ q k
     go false e true t rec = rw t (rec r (rw e at h))
     go false e false t rec = rw t (rec (r ++ default_row m ∷ []) (rw e at h) ∙ other_row n m r e)
 
--- a row behind one of its name changes nothing
+-- a row after one of its name changes nothing
 row_behind : (n m : Text) (r : List Row) → has_row n r ≡ true → first_of n (r ++ default_row m ∷ []) ≡ first_of n r
 row_behind n m [] h = cc
 row_behind n m (x ∷ r) h = go (bytes_eq x.id n) refl (row_behind n m r)

@@ -249,7 +249,7 @@ fits_all required i (n ∷ ns) rest room none =
 pub fits : (f : Form) → 1 + length f.plain ≤ usize_max → Fits f.is_whole (rules_for f) 1 f.plain
 fits f room = fits_all f.is_whole 1 f.plain _ room (options_by_index f.options f.flags)
 
--- ---- the command is one of which clap says what a parse answers
+-- ---- the command is one of which clap says what a parse returns
 
 simple_flags : (ns : List Text) → list_all (λ (a : Rule). a.is_simple) (flag_rules ns) ≡ true
 simple_flags [] = refl

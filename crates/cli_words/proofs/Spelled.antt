@@ -36,7 +36,7 @@ word_of (x ∷ rest) = by (x == 45) refl
     by true is = subst (λ (y : ℕ). WordOf (look_after_one rest) (y ∷ rest)) (sym (eqb-true x 45 is)) (word_of_one rest)
     by false is = tt
 
--- ---- a word before and behind its first `=`
+-- ---- a word before and after its first `=`
 
 abbrev is_equals : ℕ → Bool
 is_equals x = x == 61
@@ -142,7 +142,7 @@ module _ (f : Form) where
   abbrev FindsAll : List Text → Rest → Type 0
   FindsAll words next = (names : List Text) (place : NextWord) → Waits place → FindsOn place names words (next names place)
 
-  -- ---- a piece more
+  -- ---- one more piece
 
   finds_more : (e : Entry) (given es result : List Entry) → result ≡ (given ++ e ∷ []) ++ es → result ≡ given ++ e ∷ es
   finds_more e given es result h = h ∙ append_assoc given (e ∷ []) es

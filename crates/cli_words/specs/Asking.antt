@@ -8,6 +8,6 @@ use Rattle.cli_words.specs.Words.{Asked, asked}
 use Rattle.cli_words.specs.declared.table.CommandName.{CommandName}
 use Rattle.cli_words.specs.declared.request.Request.{Request}
 
--- the request read from a command's matches is what the entries ask for that they hold
+-- the request read from a command's matches is what the entries that they hold ask for
 abbrev pub IsAskedBy : CommandName → (List Entry → Option Asked) → ArgMatches → Option Request → Type 0
 IsAskedBy command asks matches request = (given : List Entry) → HoldsGiven (form_for command) given matches → option_map asked request ≡ asks given

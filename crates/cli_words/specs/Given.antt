@@ -6,7 +6,7 @@ use Rattle.cli_words.specs.Reading.{Entry, Form, has, is_complete, is_filled}
 abbrev pub IsNew : List Entry → Entry → Type 0
 IsNew before e = (has e.0 before ≡ false) × (is_filled e.1 ≡ true)
 
--- so is that of each of these, one after the other
+-- each of these is new after those before it
 abbrev pub AreNewAfter : List Entry → List Entry → Type 0
 AreNewAfter before [] = Unit {0}
 AreNewAfter before (e ∷ es) = IsNew before e × AreNewAfter (before ++ e ∷ []) es

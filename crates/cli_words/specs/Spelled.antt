@@ -9,13 +9,13 @@ pub data Piece : Type 0 where
   Plain : Text → Text → Piece
   -- an option, and its value in the next word
   Apart : Text → Text → Piece
-  -- an option, and its value behind `=` in the same word
+  -- an option, and its value after `=` in the same word
   Joined : Text → Text → Piece
   Flag : Text → Piece
-  -- two dashes: behind them each word is plain
+  -- two dashes: after them each word is plain
   Dashes : Piece
 
--- as it is written
+-- the words of a piece, as it is written
 abbrev pub written : Piece → List Text
 written (Plain name word) = word ∷ []
 written (Apart name v) = (45 ∷ 45 ∷ name) ∷ v ∷ []
@@ -23,7 +23,7 @@ written (Joined name v) = (45 ∷ 45 ∷ name ++ 61 ∷ v) ∷ []
 written (Flag name) = (45 ∷ 45 ∷ name) ∷ []
 written Dashes = (45 ∷ 45 ∷ []) ∷ []
 
--- what it gives
+-- the entries that a piece gives
 abbrev pub entries : Piece → List Entry
 entries (Plain name word) = (name, Some word) ∷ []
 entries (Apart name v) = (name, Some v) ∷ []

@@ -62,7 +62,7 @@ abbrev pub AreTableRows : List Row → Type 0
 AreTableRows [] = Unit {0}
 AreTableRows (row ∷ rows) = IsTableRow row × AreTableRows rows
 
--- it is the row of the command that is named, and there is none where none is
+-- the row of the command that is named; none where none is named
 abbrev pub IsRowOf : Option CommandName → Option Row → Type 0
 IsRowOf named None = named ≡ None
 IsRowOf named (Some row) = (named ≡ Some row.command) × IsTableRow row

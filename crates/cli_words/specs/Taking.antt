@@ -1,4 +1,4 @@
--- The command that the parser of the command line is given for a row of the table, and what it answers.
+-- The command that the parser of the command line is given for a row of the table, and what the parser returns.
 use Rattle.std.specs.Prelude.{◌≡◌, true, List, [], map, Option, Some, None, Result}
 use Rattle.std.specs.Prelude.{Ok, Err, String, string_bytes, fold, unwrap_or, codes}
 use Rattle.std.specs.Borrow.{Bor}

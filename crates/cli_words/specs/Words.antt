@@ -1,4 +1,4 @@
--- What the words of a command line ask for: a command's name, and then what the entries behind it say, by the table.
+-- What the words of a command line ask for: a command's name, and then what the entries after it say, by the table.
 use Rattle.std.specs.Prelude.{◌≡◌, ◌≤◌, ◌<◌, ℕ, ℤ, pos, Bool, false, ◌&&◌, nat_le, if◌then◌else◌, List, [], ◌∷◌, Option, Some, None, Result, Ok, Err, codes, is_some, option_and_then, option_map, unwrap_or}
 use Rattle.std.specs.Str.{bytes_eq}
 use Rattle.mic_base.specs.Number.{number_of}
@@ -31,20 +31,20 @@ pub data Asked : Type 0 where
   RunPipeline : (file : Text) (bound : ℕ) (map : MemoryMap) → Asked
   -- with a person's own microprogram
   RunOwn : (file : Text) (machine : Machine) (bound : ℕ) (map : MemoryMap) (micro : Text) → Asked
-  -- without a file of its own the microprogram that ships is clocked
+  -- a trace; it clocks the microprogram that ships where no file is named
   Trace : (file : Text) (machine : Machine) (bound : ℕ) (map : MemoryMap) (micro : Option Text) (buses : Bool) → Asked
   Profile : (file : Text) (machine : Machine) (bound : ℕ) (map : MemoryMap) (micro : Option Text) → Asked
-  -- the lines come from the console, the program's input from a file, or there is none
+  -- the lines come from the console; the program's input comes from a file, or there is none
   Debug : (file : Text) (machine : Machine) (bound : ℕ) (map : MemoryMap) (micro input : Option Text) → Asked
   Reference : (file : Text) (machine : Machine) (bound : ℕ) (map : MemoryMap) → Asked
   Micro : (mal store : Text) (machine : Machine) → Asked
-  -- without a file the microprogram that ships is asked for
+  -- the microprogram that ships, where no file is named
   PrintMicro : (file : Option Text) (machine : Machine) → Asked
-  -- a generated program of so many blocks
+  -- a generated program of this many blocks
   Soak : (seed size : ℕ) (machine : Machine) → Asked
-  -- a run on Mic-1 with a cache of so many lines
+  -- a run on Mic-1 with a cache of this many lines
   Cache : (file : Text) (lines bound : ℕ) (map : MemoryMap) → Asked
-  -- a session that goes back by at most so many cycles; its lines and the program's input come as in `Debug`
+  -- a session that goes back by at most this many cycles; its lines and the program's input come as in `Debug`
   Rewind : (file : Text) (machine : Machine) (input : Option Text) (depth : ℕ) (map : MemoryMap) → Asked
   -- the image of a Tiny program
   Compile : (tiny image : Text) → Asked
@@ -112,11 +112,11 @@ HasMap map = IsMap map.stack_end
 abbrev pub HasJobLimits : Job → Type 0
 HasJobLimits job = (job.bound ≤ most_cycles) × HasMap job.map
 
--- a cache has a line, and at most the most
+-- a cache has at least one line, and at most the most lines
 abbrev pub IsLineCount : ℕ → Type 0
 IsLineCount lines = (0 < lines) × (lines ≤ most_lines)
 
--- a session goes back by a cycle, and at most by the most
+-- a session can go back by at least one cycle, and at most by the most cycles
 abbrev pub IsDepth : ℕ → Type 0
 IsDepth depth = (0 < depth) × (depth ≤ most_depth)
 
@@ -204,7 +204,7 @@ pub record AskedJob : Type 0 where
 abbrev pub asked_job : Text → Machine → ℕ → MemoryMap → AskedJob
 asked_job file machine bound map = record { file = file; machine = machine; bound = bound; map = map }
 
--- by these values of its four words
+-- the job by these values of its four words
 abbrev pub job_by : Option Text → Option Text → Option Text → Option Text → Option AskedJob
 job_by file machine bound map = option_and_then (λ f. option_and_then (λ m. option_and_then (λ b.
     option_map (asked_job f m b)
@@ -214,7 +214,7 @@ abbrev pub job_of : List Entry → Option AskedJob
 job_of given =
     job_by (text_in (codes "FILE") given) (text_in (codes "machine") given) (text_in (codes "bound") given) (text_in (codes "map") given)
 
--- of the matches of a parse
+-- the job of the matches of a parse
 abbrev pub job_in : ArgMatches → Option AskedJob
 job_in m =
     job_by (first_value (found_of m) (codes "FILE")) (first_value (found_of m) (codes "machine"))
@@ -324,7 +324,7 @@ abbrev pub request_of : List Text → Option Asked
 request_of [] = None
 request_of (command ∷ words) = asked_by (name_for command) words
 
--- the words are answered with what they ask for, or as a usage fault where they ask for nothing
+-- the result is the request of what the words ask for, or a usage error where they ask for nothing
 abbrev pub AnswersAs : Option Asked → Result Request WordsError → Type 0
 AnswersAs asks (Ok request) = asks ≡ Some (asked request)
 AnswersAs asks (Err error.Usage) = asks ≡ None

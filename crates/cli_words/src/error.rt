@@ -1,4 +1,4 @@
-//! Why words are not taken.
+//! Why words are refused.
 
 /// Why the words of a command line ask for nothing.
 #[derive(Clone, Copy, Debug, PartialEq, Eq)]

@@ -30,7 +30,7 @@ pub const DEFAULT_DEPTH: u32 = 4_096;
 /// The greatest depth that can be given.
 pub const MOST_DEPTH: u32 = 65_536;
 
-/// Mic-1 where no machine is given.
+/// The machine that is named; Mic-1 where none is.
 pub(crate) fn machine_in(value: Option<&str>) -> Option<Machine>
     ensures { result ≡ machine_in (option_map (λ value. value.now) value.entry) }
 {
@@ -108,7 +108,7 @@ pub(crate) fn lines_in(word: &str) -> Option<u16>
     Some(lines as u16)
 }
 
-/// The standard map where none is given.
+/// The map that is named; the standard map where none is.
 pub(crate) fn map_in(value: Option<&str>) -> Option<MemoryMap>
     ensures value { result ≡ map_in (option_map (λ value. value.now) value.entry) }
     ensures is { IfSome result HasMap }

@@ -223,7 +223,7 @@ fn tiny<'a>(matches: &ArgMatches<'a>) -> Option<Request<'a>>
     })
 }
 
-/// What a command asks for, or nothing where a value is none of its option's.
+/// What a command asks for, or None where a value is not one of its option's.
 fn request_in<'a>(command: CommandName, matches: &ArgMatches<'a>) -> Option<Request<'a>>
     ensures limits { IfSome result HasLimits }
     ensures asks { IsAskedBy command (asked_of command) matches.now result }

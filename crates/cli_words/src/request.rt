@@ -21,7 +21,7 @@ pub enum Mode<'a> {
     Own {
         micro: &'a str,
     },
-    /// Without a file of its own the microprogram that ships is clocked.
+    /// A trace; it clocks the microprogram that ships where no file is named.
     Trace {
         micro: Option<&'a str>,
         buses: bool,
@@ -29,7 +29,7 @@ pub enum Mode<'a> {
     Profile {
         micro: Option<&'a str>,
     },
-    /// The lines of the session come from the console, the program's input from a file, or there is none.
+    /// The lines of the session come from the console. The program's input comes from a file, or there is none.
     Debug {
         micro: Option<&'a str>,
         input: Option<&'a str>,
@@ -68,26 +68,26 @@ pub enum Request<'a> {
         store: &'a str,
         machine: Machine,
     },
-    /// Without a file the microprogram that ships is asked for.
+    /// The canonical text of a file's microprogram, or of the one that ships where no file is named.
     PrintMicro {
         file: Option<&'a str>,
         machine: Machine,
     },
-    /// A generated program of so many blocks.
+    /// A generated program of this many blocks.
     Soak {
         seed: u32,
         size: u16,
         machine: Machine,
     },
-    /// A run on Mic-1 whose accesses of memory a cache of so many lines repeats.
+    /// A run on Mic-1 whose accesses of memory a cache of this many lines repeats.
     Cache {
         file: &'a str,
         lines: u16,
         bound: u64,
         map: MemoryMap,
     },
-    /// A session that goes back by at most so many cycles.
-    /// Its lines come from the console, the program's input from a file, or there is none.
+    /// A session that goes back by at most this many cycles.
+    /// Its lines come from the console. The program's input comes from a file, or there is none.
     Rewind {
         file: &'a str,
         machine: Machine,

@@ -69,7 +69,7 @@ fn command_of<'a>(alloc: Global, row: &Row) -> Result<Command<'a>, AllocError>
     with_each(alloc, command, Kind::Flag, row.flags)
 }
 
-// A `String` is UTF-8, which a clause does not know of the texts in a slice.
+// A `String` is UTF-8, but a clause does not know that of the texts in a slice.
 fn note_text(word: &String)
     ensures { IsUtf8 (string_bytes word.now) }
 {
@@ -84,7 +84,7 @@ fn note_texts(words: &[String])
     }
 }
 
-/// Takes the words behind a command's name by its row.
+/// Takes the words after a command's name by its row.
 fn take_words<'a>(
     alloc: Global,
     row: &Row,
@@ -108,7 +108,7 @@ fn take_words<'a>(
     }
 }
 
-/// Takes the words behind the name of a command.
+/// Takes the words after the name of a command.
 pub(crate) fn take_command<'a>(
     alloc: Global,
     row: &Row,

@@ -44,7 +44,7 @@ prefix_passes p (b ∷ xs) = go (p b) refl (prefix_passes p xs)
     go true h rec = let k : 1 + prefix_len p xs ≡ suc (prefix_len p xs) = omega arith in rw (k, h) rec
     go false h rec = refl
 
--- ---- what stands behind an expression
+-- ---- what follows an expression
 
 Shifts : Token → Token → Option Tail → Type 0
 Shifts s n None = Unit {0}
@@ -185,7 +185,7 @@ all_last m some dests (d ∷ ds) body t are all not_empty =
     go true = refl
     go false = refl
 
--- what is spelled is read, behind such destinations
+-- what is spelled is read, after such destinations
 linked_again : (m : Machine) (some : Bool) (dests : ℕ) (ts : List Token) (a : Assignment) → IsLinked m some dests ts a → chain_at m some dests ts ≡ Some a
 linked_again m some dests ts a l =
     let e = all_last m some dests l.dests l.body l.tail l.are l.expr l.not_empty in
@@ -226,7 +226,7 @@ more_linked m some dests t u rest w a d l = record {
   coded = l.coded;
 }
 
--- what is read behind such destinations is spelled
+-- what is read after such destinations is spelled
 chain_linked : (m : Machine) (some : Bool) (dests : ℕ) (ts : List Token) (a : Assignment) → chain_at m some dests ts ≡ Some a → IsLinked m some dests ts a
 unfolding chain_at Dests
 chain_linked m some dests [] a h = last_linked m some dests [] a h

@@ -160,7 +160,7 @@ go_fetch m ps rec s t (x ∷ xs) are b = step s.next s.fetch refl refl b.last
         let h2 : 1 + fetch_count ps ≡ counted t.fetch = omega (arith, h) in
         adds_one m (at s) (at u) found.Fetch x xs are.0 k ∙ rec u t xs are.1 (record { assignment = b.assignment; memory = b.memory; fetch = h2; next = b.next; last = rw e l })
 
--- behind a jump
+-- after a jump
 went : (s t : Tree) (j : Jump) (ps : List Kind) → s.next ≡ None → AreNothing ps → Becomes s (jump j ∷ ps) t → Becomes (record s { next = Some j }) ps t
 unfolding LastAfter
 went s t j ps e l b =
@@ -221,7 +221,7 @@ Found m s xs t = (ps : List Kind) × AreParts m xs ps × Becomes s ps t
 Rest : Machine → List (List Token) → Type 0
 Rest m xs = (s t : Tree) → adds m (at s) xs ≡ Some t → Found m s xs t
 
--- behind an `if`
+-- after an `if`
 Fork : Machine → List (List Token) → Type 0
 Fork m xs = (h : PendingIf) (u t : Tree) → adds m (record { tree = u; waiting = Some h }) xs ≡ Some t
     → (n : List ℕ) × (x2 : List Token) × (xs2 : List (List Token)) × (xs ≡ x2 ∷ xs2) × IsElse x2 n × Found m (record u { next = Some (jumps.Branch h.test h.high n) }) xs2 t

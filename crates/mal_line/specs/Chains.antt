@@ -87,7 +87,7 @@ abbrev pub is_filled : List Word → Bool
 is_filled [] = false
 is_filled (d ∷ ds) = true
 
--- the bits of all of them: one that is named twice has its bit once
+-- the bits of all destinations; one that is named twice has its bit once
 abbrev pub dest_bits : ℕ → List Word → ℕ
 dest_bits = fold (λ bits d. bit_or bits (bit d))
 
@@ -96,7 +96,7 @@ pub record LoadsNamed (c : ℕ) (dests : List Word) : Type 0 where
   pub within : c < 512
   pub each : (register : Destination) → IsTrue (loads c register) ↔ Contains dests (register_word register)
 
--- the coding of an expression with what stands behind it, or none where it has none
+-- the coding of an expression and its tail; None where it has none
 abbrev pub HasCoding : Machine → List Token → Tail → Option Operation → Type 0
 HasCoding machine body tail (Some o) = IsCoded machine body tail o
 HasCoding machine body tail None = (o : Operation) → IsCoded machine body tail o → ⊥

@@ -104,7 +104,7 @@ tail_with shifts.None = tails.Nothing
 tail_with shifts.Left8 = tails.Left (pos 8)
 tail_with shifts.Right1 = tails.Right (pos 1)
 
--- an expression with what stands behind it has this coding
+-- an expression and its tail have this coding
 pub record IsCoded (machine : Machine) (body : List Token) (tail : Tail) (o : Operation) : Type 0 where
   pub fitting : fits machine o ≡ true
   pub spelled : IsOneOf body (spellings machine o)

@@ -59,7 +59,7 @@ on_a Mic2 x = false
 abbrev pub from_one_source : Machine → AluOp → AluOp → BusSource → Operation
 from_one_source machine op_a op_b x = if on_a machine x then work op_a (Some x) None else work op_b None (Some x)
 
--- of two sources the first stands on the A side, on Mic-1 the one that is H
+-- of two sources, the first stands on the A side; on Mic-1, the one that is H
 abbrev pub on_b : Machine → BusSource → Bool
 on_b Mic1 x = not (is_h x)
 on_b Mic2 x = false

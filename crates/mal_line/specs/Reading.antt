@@ -1,4 +1,4 @@
--- The reading of a line, token by token. It computes what `Lines` states: `line_from` answers what a line spells, or the first refusal that it has.
+-- The reading of a line, token by token. It computes what `Lines` states: `line_from` returns what a line spells, or its first refusal.
 use Rattle.std.specs.Prelude.{ℕ, Bool, true, false, List, [], ◌∷◌, Option, Some, None, Result, Ok, Err, if◌then◌else◌, ◌==◌, length, take, drop, bit_or, is_some, option_map, option_and_then, ◌≡◌, ◌↔◌}
 use Rattle.std.specs.List.{prefix_len}
 use Rattle.mic_words.specs.declared.machine.Machine.{Machine}
@@ -114,7 +114,7 @@ abbrev pub alone : Piece → List Token → Option Piece
 alone piece [] = Some piece
 alone piece _ = None
 
--- what stands behind `goto`
+-- what follows `goto`
 abbrev pub goto_of : List Token → Option Piece
 goto_of (label ∷ []) = option_map (λ n. found.Goto n) (name_of label)
 goto_of (open_sign ∷ word ∷ close_sign ∷ []) = if is_byte_in open_sign word close_sign then Some (found.Dispatch (Some false)) else None
@@ -131,13 +131,13 @@ abbrev pub branch_on : Option Test → Option (List ℕ) → Option Piece
 branch_on (Some test) (Some label) = Some (found.If test label)
 branch_on _ _ = None
 
--- what stands behind `if`
+-- what follows `if`
 abbrev pub if_of : List Token → Option Piece
 if_of (open_sign ∷ test ∷ close_sign ∷ goto_word ∷ label ∷ []) =
     if is_test_in open_sign close_sign goto_word then branch_on (test_of test) (name_of label) else None
 if_of _ = None
 
--- what stands behind `else`
+-- what follows `else`
 abbrev pub else_of : List Token → Option Piece
 else_of (goto_word ∷ label ∷ []) = if is_goto goto_word then option_map (λ n. found.Else n) (name_of label) else None
 else_of _ = None
@@ -166,7 +166,7 @@ abbrev pub is_access : Mem → Bool
 is_access mems.None = false
 is_access _ = true
 
--- a part where no `if` waits and no jump was there
+-- adds a part where no `if` waits and there is no jump yet
 abbrev pub add_free : Tree → Piece → Option Gathered
 add_free tree found.Nothing = Some (record { tree = tree; waiting = None })
 add_free tree (found.Assign a) = if is_some tree.assignment then None else Some (record { tree = record tree { assignment = Some a }; waiting = None })
@@ -182,7 +182,7 @@ abbrev pub add_else : Tree → PendingIf → Piece → Option Gathered
 add_else tree half (found.Else label) = Some (gathered_jump tree (jumps.Branch half.test half.high label))
 add_else tree half _ = None
 
--- behind a jump all is empty
+-- after a jump all parts are empty
 abbrev pub add_behind : Tree → Piece → Option Gathered
 add_behind tree found.Nothing = Some (record { tree = tree; waiting = None })
 add_behind tree _ = None

@@ -109,7 +109,7 @@ jumps_of [] = []
 jumps_of (jump j ∷ ps) = j ∷ jumps_of ps
 jumps_of (_ ∷ ps) = jumps_of ps
 
--- behind a jump all parts are empty
+-- after a jump all parts are empty
 abbrev pub AreNothing : List Kind → Type 0
 AreNothing [] = Unit {0}
 AreNothing (nothing ∷ ps) = AreNothing ps

@@ -60,7 +60,8 @@ abbrev pub OfOne : Machine → AluOp → AluOp → BusSource → Operation → T
 OfOne Mic1 op_a op_b x o = ((x ≡ bus.H) × Does o op_a (Some bus.H) None) ⊎ (OnB Mic1 x × Does o op_b None (Some x))
 OfOne Mic2 op_a op_b x o = OnB Mic2 x × Does o op_b None (Some x)
 
--- of X and Y: on Mic-1 one of them is H and the other is not; on Mic-2 X is on side A, Y on side B, and one byte of the queue stands not beside two
+-- of X and Y: on Mic-1 one of them is H and the other is not; on Mic-2 X is on side A and Y on side B, and a one-byte source
+-- of the queue does not stand with a two-byte one
 abbrev pub OfTwo : Machine → AluOp → BusSource → BusSource → Operation → Type 0
 OfTwo Mic1 op x y o = ((x ≡ bus.H) × OnB Mic1 y × Does o op (Some bus.H) (Some y)) ⊎ ((y ≡ bus.H) × OnB Mic1 x × Does o op (Some bus.H) (Some x))
 OfTwo Mic2 op x y o = OnB Mic2 x × OnB Mic2 y × (is_mixed (Some x) (Some y) ≡ false) × Does o op (Some x) (Some y)
@@ -84,7 +85,7 @@ RowDoes machine zero x y o = Does o ops.Zero None None
 RowDoes machine one x y o = Does o ops.One None None
 RowDoes machine minus_one x y o = Does o ops.MinusOne None None
 
--- the tokens are a row of the table, and the operation is the one that it has there
+-- the tokens are a row of the table, and the operation is that of the row
 pub record IsRow (machine : Machine) (body : List Token) (o : Operation) : Type 0 where
   pub row : Spelling
   pub x : BusSource

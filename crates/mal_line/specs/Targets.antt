@@ -2,7 +2,7 @@
 use Rattle.mal_line.specs.declared.next.Next.{Next}
 use Rattle.mal_line.specs.declared.next.Next.TheVariants as nexts
 
--- the same place, with its targets named otherwise
+-- the same destination, with its targets named otherwise
 abbrev pub by_targets : {A B : Type 0} → (A → B) → Next A → Next B
 by_targets f nexts.Following = nexts.Following
 by_targets f (nexts.Goto to) = nexts.Goto (f to)

@@ -1,4 +1,4 @@
-//! Assignments: their destinations, and the expression behind them.
+//! Assignments: their destinations, and the expression after them.
 ghost use Rattle.std.specs.Prelude.{◌≡◌, ◌≤◌, false, length};
 ghost use Rattle.std.specs.List.{prefix_len};
 ghost use Rattle.mal_line.specs.Chains.{bit, is_dest, is_expr, register_of};
@@ -9,7 +9,7 @@ use crate::operation::Operation;
 use mal_tokens::{Sign, Token, Word};
 use micro_word::{Destination, Machine};
 
-/// What may stand behind an expression: a shift and its number.
+/// What may follow an expression: a shift and its number.
 #[derive(Clone, Copy)]
 pub enum Tail {
     Nothing,
@@ -54,7 +54,7 @@ pub fn bit(word: Word) -> u16
     }
 }
 
-/// N and Z assign nothing.
+/// Whether a word is a destination; N and Z are, and assign nothing.
 fn is_dest(word: Word) -> bool
     ensures { result ≡ is_dest word }
 {
@@ -152,7 +152,7 @@ fn last(machine: Machine, some: bool, dests: u16, tokens: &[Token]) -> Option<As
     }
 }
 
-/// The assignment that these tokens are.
+/// The assignment that these tokens spell.
 pub(crate) fn chain_of(machine: Machine, tokens: &[Token]) -> Option<Assignment>
     ensures { result ≡ chain_at machine false 0 tokens.now }
 {

@@ -81,7 +81,7 @@ fn from_one_source(machine: Machine, op_a: AluOp, op_b: AluOp, source: BusSource
     }
 }
 
-/// Of two sources the first stands on the A side, on Mic-1 the one that is H.
+/// Of two sources, the first stands on the A side; on Mic-1, the one that is H.
 fn paired(machine: Machine, op: AluOp, x: BusSource, y: BusSource) -> Operation
     ensures { result ≡ paired machine op x y }
 {
@@ -252,7 +252,7 @@ fn shift_of(tail: Tail) -> Option<Shift>
     }
 }
 
-/// The coding of an expression with what stands behind it.
+/// The coding of an expression and its tail.
 pub(crate) fn coding_of(machine: Machine, body: &[Token], tail: Tail) -> Option<Operation>
     ensures { result ≡ coding_of machine body.now tail }
 {

@@ -42,7 +42,7 @@ fn gathered_jump(tree: Tree, next: Jump) -> Option<Gathered>
     })
 }
 
-/// A part where no `if` waits and no jump was there.
+/// Adds a part where no `if` waits and there is no jump yet.
 fn add_free(tree: Tree, piece: Piece) -> Option<Gathered>
     ensures { result ≡ add_free tree piece }
 {
@@ -88,7 +88,7 @@ fn add_else(tree: Tree, half: PendingIf, piece: Piece) -> Option<Gathered>
     }
 }
 
-/// Behind a jump all is empty.
+/// After a jump all parts are empty.
 fn add_behind(tree: Tree, piece: Piece) -> Option<Gathered>
     ensures { result ≡ add_behind tree piece }
 {
@@ -145,7 +145,7 @@ fn piece_len(tokens: &[Token]) -> usize
         .count()
 }
 
-/// The parts of a statement that these tokens are.
+/// The parts of the statement that these tokens spell.
 pub(crate) fn tree_of(machine: Machine, tokens: &[Token]) -> Option<Tree>
     ensures { result ≡ tree_of machine tokens.now }
 {

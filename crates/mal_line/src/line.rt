@@ -1,4 +1,4 @@
-//! A line, by its form.
+//! A line and its form.
 ghost use Rattle.std.specs.Prelude.{◌≡◌, IfOk, IfErr};
 ghost use Rattle.mal_line.specs.Lines.{HasPart, is_foreign, IsRefused, names_foreign, SpellsLine};
 ghost use Rattle.mal_line.specs.Reading.{behind_colon, fix_of, form_of, labelled, line_from};

@@ -194,7 +194,7 @@ fn else_of(rest: &[Token]) -> Option<Piece>
     }
 }
 
-/// What these tokens between two semicolons are.
+/// What these tokens between two semicolons spell.
 pub(crate) fn piece_of(machine: Machine, tokens: &[Token]) -> Option<Piece>
     ensures { result ≡ piece_of machine tokens.now }
 {

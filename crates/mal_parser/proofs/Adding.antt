@@ -1,4 +1,4 @@
--- The lines of a source say something together where none is refused behind the others.
+-- The lines of a source say something together where none is refused after the others.
 use Rattle.std.proofs.Common.{◌≡◌, ℕ, suc, ◌+◌, ◌≤◌, Bool, true, false, List, [], ◌∷◌, ◌++◌, Option, Some, None, length, refl, sym, ap, subst, ◌∙◌, arith, inl, inr, cond, append_assoc, length-append}
 use Rattle.std.specs.Prelude.{Result, Ok, Err, map, nat_le, ◌||◌, ◌⊎◌, is_some, option_map, option_to_list, IsSome}
 use Rattle.std.specs.List.{cons_option}
@@ -118,7 +118,7 @@ fix_among : (fs : List Fix) (l : List ℕ) → has_fix fs l ≡ is_among l (map 
 fix_among [] l = refl
 fix_among (f ∷ fs) l = ap (λ b. bytes_eq f.label l || b) (fix_among fs l)
 
--- ---- lines that are fine behind others
+-- ---- lines that are fine after others
 
 pub record IsFineFrom (s : Sketch) (k : ℕ) (cs : List Content) : Type 0 where
   pub labels : AreDistinct (labels_of (s.statements ++ statements_from k cs))
@@ -142,7 +142,7 @@ joined_none s k = one (s.statements ++ []) s.statements (s.fixes ++ []) s.fixes 
         → ◌≡◌ {A = Sketch} (record { machine = s.machine; statements = a; fixes = b; fallback = c }) (record { machine = s.machine; statements = a2; fixes = b2; fallback = c2 })
     one a a2 b b2 c c2 p q r = rw (p, q, r) refl
 
--- one line, and those behind it
+-- one line, and those after it
 record Steps (k : ℕ) (s : Sketch) (c : Content) (u : Sketch) (cs : List Content) : Type 0 where
   machine : u.machine ≡ s.machine
   statements : u.statements ++ statements_from (k + 1) cs ≡ s.statements ++ statements_from k (c ∷ cs)

@@ -151,7 +151,7 @@ module _ (test : Content → List Content → Bool) where
   at_later : (k n : ℕ) (c : Content) (cs : List Content) → IsAt test (k + 1) cs n → IsAt test k (c ∷ cs) n
   at_later k n c cs a = record { front = c ∷ a.front; content = a.content; behind = a.behind; split = ap (λ xs. c ∷ xs) a.split; number = omega (arith, a.number); passes = a.passes }
 
-  -- it is at the first line only where that passes
+  -- where the first line does not pass, the line is one of the rest
   at_rest : (k n : ℕ) (c : Content) (cs : List Content) → test c cs ≡ false → IsAt test k (c ∷ cs) n → IsAt test (k + 1) cs n
   at_rest k n c cs f a = go a.front a.split a.number
     where

@@ -35,7 +35,7 @@ pub fixed_is : (fs : List Fix) (o : Option (List ℕ)) → IsFixedBy fs o (fixed
 fixed_is fs None = λ i g at own. cc
 fixed_is fs (Some label) = address_is label fs
 
--- ---- there is one at most
+-- ---- there is at most one
 
 abbrev pub fix_labels : List Fix → List (List ℕ)
 fix_labels fs = map (λ (f : Fix). f.label) fs

@@ -1,4 +1,4 @@
--- What an answer says of the parts that it was made from.
+-- What a result says of the parts that it was made from.
 use Rattle.std.proofs.Common.{◌≡◌, Option, Some, None, refl}
 use Rattle.std.specs.Prelude.{option_map}
 

@@ -36,7 +36,7 @@ split_line (b ∷ l) rest h =
     let p = and_parts (is_plain b) (list_all is_plain l) h in
     ap (λ w. cond w ([] ∷ parts (l ++ 10 ∷ rest)) (onto_first b (parts (l ++ 10 ∷ rest)))) (no_newline b p.0) ∙ ap (onto_first b) (split_line l rest p.1)
 
--- it ends with no carriage return
+-- such a line ends with no carriage return
 byte_at : (l : List ℕ) (i : ℕ) → list_all is_plain l ≡ true → (get_or l i 0 == 13) ≡ false
 byte_at [] i h = refl
 byte_at (b ∷ l) zero h = no_return b (and_parts (is_plain b) (list_all is_plain l) h).0
@@ -45,7 +45,7 @@ byte_at (b ∷ l) (suc i) h = byte_at l i (and_parts (is_plain b) (list_all is_p
 whole_line : (l : List ℕ) → list_all is_plain l ≡ true → strip_carriage_return l ≡ l
 whole_line l h = ap (λ w. cond w (take (length l - 1) l) l) (byte_at l (length l - 1) h)
 
--- it has no comment
+-- such a line has no comment
 no_comment : (l : List ℕ) → list_all is_plain l ≡ true → without_comment l ≡ l
 no_comment [] h = refl
 no_comment (b ∷ l) h =

@@ -1,4 +1,4 @@
--- What does not fit behind others is refused, and nothing else is.
+-- What does not fit after others is refused, and nothing else is.
 use Rattle.std.proofs.Common.{◌≡◌, ℕ, ◌<◌, true, List, [], ◌∷◌, Option, Some, None, length, refl, sym, ap, ◌∙◌, arith, inl, inr, cond}
 use Rattle.std.specs.Prelude.{Ok, Err, nat_le, is_some}
 use Rattle.std.proofs.lemmas.Bool.{le-leb, leb-true}

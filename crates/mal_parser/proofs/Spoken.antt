@@ -93,7 +93,7 @@ pub each_at : {A : Type 0} (P : A → Type 0) (xs : List A) → ((i : ℕ) (x : 
 each_at P [] h = tt
 each_at P (x ∷ xs) h = (h zero x refl, each_at P xs (λ i y e. h (suc i) y e))
 
--- a canonical line spells what it was printed from, as its printer says by a law
+-- a canonical line spells what it was printed from, as the law of its printer says
 pub record LinesSpell : Type 0 where
   pub statements : StatementsAreReadBack
   pub fallbacks : FallbacksAreReadBack

@@ -47,7 +47,7 @@ address_of (negsuc n) = None
 abbrev pub AreNumbers : List Draft → BTreeMap (List ℕ) ℕ → Type 0
 AreNumbers ds map = (label : List ℕ) → get (slice_cmp nat_cmp) map label ≡ position (is_labelled label) ds
 
--- the number kept for a label, where one more has this number
+-- the number kept for a label, once a statement with this label has this number
 abbrev pub with_number : Option (List ℕ) → ℕ → List ℕ → Option ℕ → Option ℕ
 with_number own number label kept = if is_label label own then Some number else kept
 

@@ -27,7 +27,7 @@ by_labels ss next = by_targets (by_label ss) next
 abbrev pub next_by_labels : MalView → Statement → Next Target
 next_by_labels p s = by_labels p.statements s.next
 
--- by their addresses
+-- the next statements of a placed one, by their addresses
 abbrev pub by_addresses : PlacedNext → Next Target
 by_addresses (placed.Goto to) = nexts.Goto (targets.Address to)
 by_addresses (placed.Dispatch high) = nexts.Dispatch high
@@ -35,15 +35,15 @@ by_addresses (placed.Branch test low) = nexts.Branch test (targets.Address (low 
 
 -- ---- the texts of one statement
 
--- its parts, `;` where it has none
+-- the parts of a statement, `;` where it has none
 abbrev pub parts_of : MalView → Statement → List ℕ
 parts_of p s = printed (or_semicolon (printed_tokens p.machine s.part (next_by_labels p s)))
 
--- its label and its parts
+-- the label and the parts of a statement
 abbrev pub labelled_line : MalView → Statement → List ℕ
 labelled_line p s = printed (statement p.machine s.label s.part (next_by_labels p s))
 
--- the same of the statement with a number
+-- the parts, or the label and the parts, of the statement with this number
 abbrev pub parts_text : MalView → ℕ → List ℕ
 parts_text p s = unwrap_or (option_map (parts_of p) (slice_get p.statements s)) []
 
@@ -88,7 +88,7 @@ statement_lines p = map (labelled_line p) p.statements
 abbrev pub canonical_lines : MalView → List (List ℕ)
 canonical_lines p = fix_lines p ++ (default_lines p ++ statement_lines p)
 
--- each line with a newline behind it
+-- each line with a newline after it
 abbrev pub text_of : List (List ℕ) → List ℕ
 text_of [] = []
 text_of (l ∷ ls) = l ++ 10 ∷ text_of ls

@@ -33,7 +33,7 @@ use Rattle.mal_parser.specs.Labels.{address_of, AreDistinct, has_fix, has_label,
 use Rattle.mal_parser.specs.Program.{MalView}
 use Rattle.mal_parser.specs.Text.{fallbacks, falls, fixes, refusals, statements}
 
--- a line is read as what it spells, as the crates below say by their laws
+-- a line is read as what it spells, as the laws of the crates below say
 pub record ReadsLines : Type 0 where
   pub tokens_read : (line : List ℕ) (ts : List Token) → (read line ≡ Some ts) ↔ tokens.SpellsTokens line ts
   pub said : LinesReadAsSpelled
@@ -72,11 +72,12 @@ add_content k s (contents.Fix label number) = add_fix k s label (address_of numb
 add_content k s (contents.Fallback parts) = add_fallback k s parts
 add_content k s (contents.Statement label parts) = add_statement k s label parts
 
--- what lines that say this leave
+-- the first of a list, where it has one
 abbrev pub first : {A : Type 0} → List A → Option A
 first [] = None
 first (x ∷ xs) = Some x
 
+-- what lines that say this leave
 abbrev pub sketch_of : Machine → List Content → Sketch
 sketch_of machine cs = record { machine = machine; statements = statements cs; fixes = fixes cs; fallback = first (fallbacks cs) }
 

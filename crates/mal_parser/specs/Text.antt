@@ -104,7 +104,7 @@ pub record IsProgramOf (machine : Machine) (cs : List Content) (p : MalView) : T
 
 -- ---- refusals
 
--- behind lines that say this, line `k` may not say that: `.label` with an address above 511 or a second time, a second `.default`, a statement with
+-- after lines that say this, line `k` may not say that: `.label` with an address above 511 or a second time, a second `.default`, a statement with
 -- the label of an earlier one, or the 513th statement
 abbrev pub IsMisfit : ℕ → List Content → Content → MalError → Type 0
 IsMisfit k cs said.Nothing e = ⊥
@@ -121,7 +121,7 @@ at_line k faults.NoSuchOperation = errors.NoSuchOperation k
 abbrev pub refusals : LineRefusals LineFault MalError
 refusals = record { bad_token = errors.BadToken; at_line = at_line }
 
--- of lines that are counted from `k` on, line `n` says what passes the test with what the lines behind it say
+-- of lines that are counted from `k` on, line `n` says what passes the test with what the lines after it say
 pub record IsAt (test : Content → List Content → Bool) (k : ℕ) (cs : List Content) (n : ℕ) : Type 0 where
   pub front : List Content
   pub content : Content
@@ -157,7 +157,7 @@ names_unknown ds c behind = list_any (λ label. not (has_label ds label)) (label
 abbrev pub NamesUnknown : List Content → ℕ → Type 0
 NamesUnknown cs = IsAt (names_unknown (statements cs)) 1 cs
 
--- it has no goto
+-- the statement has no goto
 abbrev pub falls : Next (List ℕ) → Bool
 falls nexts.Following = true
 falls _ = false
@@ -204,11 +204,11 @@ SpellsProgram machine = text.SpellsProgram (grammar machine)
 abbrev pub IsRefused : Machine → List ℕ → MalError → Type 0
 IsRefused machine = text.IsRefused (grammar machine)
 
--- want of memory, which may come at any time
+-- the refusal is out of memory, which may happen at any time
 abbrev pub is_memory : MalError → Bool
 is_memory errors.OutOfMemory = true
 is_memory _ = false
 
--- this is the answer, unless memory ran out
+-- this is the result, unless memory ran out
 abbrev pub Answers : {A : Type 0} → Result A MalError → Result A MalError → Type 0
 Answers result answer = (result ≡ answer) ⊎ (result ≡ Err errors.OutOfMemory)

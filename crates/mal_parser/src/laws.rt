@@ -27,7 +27,7 @@ pub(crate) fn reads_texts()
     source_text::a_text_says_one_thing::<SourceReader>();
 }
 
-/// A text spells at most one program, and not also a refusal, of which it has at most one.
+/// A text spells at most one program, has at most one refusal, and never has both.
 pub fn reads_what_is_spelled()
     ensures one { (machine : Machine) → AtMostOneProgram (grammar machine) }
     ensures apart { (machine : Machine) → NeverBoth (grammar machine) }

@@ -25,7 +25,7 @@ fn read(alloc: Global, machine: Machine, text: &[u8]) -> Result<MalProgram, MalE
     resolved_program(&reader)
 }
 
-/// The program that the text spells, or the first refusal of the text: that of the first line with one, and where no
+/// The program that the text spells, or the first refusal of the text: that of the first line with one or, where no
 /// line has one, that of all lines together.
 pub fn parse_mal(alloc: Global, machine: Machine, text: &[u8]) -> Result<MalProgram, MalError>
     requires { length text.now < 2 ^ 32 }

@@ -53,7 +53,7 @@ fn by_addresses(next: PlacedNext) -> Next<Target>
     }
 }
 
-/// Appends the canonical parts of a statement without its label, `;` where it has none.
+/// Appends the canonical parts of a statement without its label, `;` where it has no parts.
 pub fn print_statement(program: &MalProgram, s: u16, line: &mut Line)
     requires below { s < length program.now.statements }
     requires room { length line.old + 256 ≤ 512 }

@@ -1,4 +1,5 @@
-//! A microprogram as it is read: statements that lead by numbers, not yet placed; its type keeps that each may stand there.
+//! A microprogram as it is read: statements that refer to others by number, not yet placed. Its type keeps that each
+//! statement may stand there.
 
 ghost use Rattle.std.specs.Prelude.{◌≡◌, ◌<◌, length, slice_get, option_copied, IfSome, Some};
 ghost use Rattle.mal_parser.specs.Program.{IsFallback, IsMalProgram, IsStatement, program_of};
@@ -65,7 +66,7 @@ impl MalProgram {
         &self.statements[s as usize]
     }
 
-    /// A statement, and that it may stand there.
+    /// A statement, with the fact that it may stand there.
     pub(crate) fn held(&self, s: u16) -> &Statement
         requires { s < length self.now.statements }
         ensures value { slice_get self.now.statements s ≡ Some result.now }
@@ -74,7 +75,7 @@ impl MalProgram {
         &self.statements[s as usize]
     }
 
-    /// What unused words hold, and that it may.
+    /// What unused words hold, with the fact that it may stand there.
     pub(crate) fn held_fallback(&self) -> Option<&Statement>
         ensures value { option_copied result ≡ self.now.fallback }
         ensures stands { IfSome self.now.fallback (IsFallback self.now) }

@@ -217,7 +217,7 @@ hex_name (suc n) value = all_append is_name_byte (hex_text n (value / 16)) (digi
     digit_name : (d : ℕ) → d < 16 → (is_name_byte (digit_char d) && true) ≡ true
     digit_name d h = grind arith
 
--- digits behind `0x` are read as their value
+-- digits after `0x` are read as their value
 abbrev pub ReadsHex : Type 0
 ReadsHex = (digits value : ℕ) → 1 ≤ digits → value < 16 ^ digits → value < 2 ^ 32 → number_of (codes "0x" ++ hex_text digits value) ≡ Ok (pos value)
 

@@ -102,7 +102,7 @@ whole_parts m part next =
 
 -- ---- the parts between the semicolons
 
--- a part, and those behind it
+-- a part, and those after it
 split_others : (ts : List Token) (ps : List (List PrintedToken)) → is_whole ts ≡ true → AreWhole ps → statements.pieces (ts ++ tokens_of (joined_behind true ps)) ≡ ts ∷ map tokens_of ps
 split_others [] [] h g = refl
 split_others [] (p ∷ ps) h g =

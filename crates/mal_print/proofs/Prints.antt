@@ -1,4 +1,4 @@
--- The texts of pieces one behind the other, and how long they are.
+-- The texts of pieces one after the other, and how long they are.
 use Rattle.std.proofs.Common.{◌≡◌, ℕ, Bool, true, false, List, [], ◌∷◌, ◌++◌, refl, sym, ap, ◌∙◌, append_assoc, cond}
 use Rattle.std.proofs.lemmas.List.{append-nil}
 use Rattle.mic_words.specs.declared.machine.Machine.{Machine}
@@ -70,7 +70,7 @@ parts_print m part next =
     (behind_print a (memory_part part.mem) (fetch_part part.fetch ++ next_parts m next)
     ∙ ap (λ rest. printed (joined_behind a (memory_part part.mem)) ++ rest) (behind_print b (fetch_part part.fetch) (next_parts m next)))
 
--- one text behind the other
+-- one text after the other
 pub three_texts : (z a b c x y w : List ℕ) → x ≡ z ++ a → y ≡ x ++ b → w ≡ y ++ c → w ≡ z ++ (a ++ (b ++ c))
 three_texts z a b c x y w e f g = rw (g, f, e) (simp append_assoc)
 

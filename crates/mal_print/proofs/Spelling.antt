@@ -22,7 +22,7 @@ is_wordy (tokens.Sign signs.Label) = true
 is_wordy (tokens.Sign signs.Default) = true
 is_wordy (tokens.Sign _) = false
 
--- no two words meet, in what stands behind a word or not
+-- no two words meet, in what follows a word or not
 abbrev pub apart : Bool → List PrintedToken → Bool
 apart after [] = true
 apart after (p ∷ ps) = (not (is_wordy p.token) || (p.spaced || not after)) && apart (is_wordy p.token) ps
@@ -73,7 +73,7 @@ bare_ends (tokens.Sign s) text h is = ap (ends_with is_name_byte) is ∙ sign_en
 
 -- ---- what is printed spells its tokens
 
--- what stands behind a word begins with no letter or digit
+-- what follows a word begins with no letter or digit
 begins_fine : (ps : List PrintedToken) → apart true ps ≡ true → AreLexemes ps → begins_with is_name_byte (printed ps) ≡ false
 begins_fine [] h l = refl
 begins_fine (p ∷ ps) h l = go p.spaced (is_wordy p.token) refl (and_parts (not (is_wordy p.token) || (p.spaced || false)) (apart (is_wordy p.token) ps) h).0
@@ -98,7 +98,7 @@ prints after (p ∷ ps) h l = (cond p.spaced (32 ∷ []) [], p.text, printed ps,
     ends true e h g = begins_fine ps (ap (λ w. apart w ps) (sym e) ∙ h) l.1
     ends false e h g = absurd (let k = bare_ends p.token p.text e l.0 in cc)
 
--- ---- what stands behind others
+-- ---- what follows others
 
 pub apart_weak : (ps : List PrintedToken) → apart true ps ≡ true → apart false ps ≡ true
 apart_weak [] h = refl

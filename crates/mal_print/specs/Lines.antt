@@ -27,12 +27,12 @@ StatementsAreReadBack = (machine : Machine) (label : Option (List ℕ)) (parts :
     IsTrue (is_part machine parts.part) → IfSome label IsLabelText → HasLabels parts.next →
     IsLineOf machine (printed (statement machine label parts.part (labelled parts.next))) (contents.Statement label parts)
 
--- so of what unused words hold
+-- the line of what unused words hold is read back
 abbrev pub FallbacksAreReadBack : Type 0
 FallbacksAreReadBack = (machine : Machine) (parts : Parts) → IsTrue (is_part machine parts.part) → HasLabels parts.next →
     IsLineOf machine (printed (fallback machine parts.part (labelled parts.next))) (contents.Fallback parts)
 
--- and of the address of a label
+-- the line that fixes a label's address is read back
 abbrev pub FixesAreReadBack : Type 0
 FixesAreReadBack = (machine : Machine) (label : List ℕ) (address : ℕ) → IsLabelText label → address < 512 →
     IsLineOf machine (printed (fix label address)) (contents.Fix label (pos address))

@@ -1,4 +1,4 @@
--- Tokens written one behind the other, some with a space before them.
+-- Tokens written one after the other, some with a space before them.
 use Rattle.std.specs.Prelude.{ℕ, ℤ, Bool, true, false, List, [], ◌∷◌, ◌++◌, map, if◌then◌else◌}
 use Rattle.mal_tokens.specs.declared.word.Word.{Word}
 use Rattle.mal_tokens.specs.declared.sign.Sign.{Sign}
@@ -26,7 +26,7 @@ number value text = record { spaced = false; token = tokens.Number value; text =
 abbrev pub spaced : PrintedToken → PrintedToken
 spaced p = record p { spaced = true }
 
--- with a space before the first
+-- the tokens with a space before the first
 abbrev pub behind_space : List PrintedToken → List PrintedToken
 behind_space [] = []
 behind_space (p ∷ ps) = spaced p ∷ ps

@@ -90,7 +90,7 @@ is_unshifted _ = false
 abbrev pub is_idle : Part → Bool
 is_idle part = is_zero part.op && is_unshifted part.shift
 
--- what a value is assigned to that no register takes: N where the statement tests N, and Z otherwise
+-- the destination of a value that no register takes: N where the statement tests N, and Z otherwise
 abbrev pub tested : Next Target → Word
 tested (nexts.Branch tests.N high low) = words.N
 tested _ = words.Z
@@ -165,7 +165,7 @@ next_parts machine (nexts.Branch test high low) = if_part test high ∷ else_par
 
 -- ---- all parts
 
--- what stands behind other parts is behind a semicolon
+-- a part after others follows a semicolon
 abbrev pub divided : Bool → List PrintedToken → List PrintedToken
 divided false ps = ps
 divided true ps = sign signs.Semicolon ∷ behind_space ps
@@ -183,7 +183,7 @@ printed_tokens machine part next = joined_behind false (parts machine part next)
 
 -- ---- lines
 
--- by its labels
+-- where a statement goes next, with labels as targets
 abbrev pub labelled : Next (List ℕ) → Next Target
 labelled next = by_targets (λ label. targets.Label label) next
 
@@ -218,16 +218,16 @@ abbrev pub is_access : Mem → Bool
 is_access mems.None = false
 is_access _ = true
 
--- it says where it goes
+-- the statement says where it goes
 abbrev pub is_led : Next Target → Bool
 is_led nexts.Following = false
 is_led _ = true
 
--- some part is there
+-- there is some part
 abbrev pub has_parts : Part → Next Target → Bool
 has_parts part next = not (is_absent part) || (is_access part.mem || (part.fetch || is_led next))
 
--- with the parts that were there before
+-- whether there are parts so far: those before, or one of these
 abbrev pub are_before : Bool → List (List PrintedToken) → Bool
 are_before others [] = others
 are_before others (p ∷ ps) = true

@@ -161,7 +161,7 @@ fn print_expression(op: AluOp, a: Option<BusSource>, b: Option<BusSource>, line:
     }
 }
 
-/// Appends a side and a text behind it.
+/// Appends a side and a text after it.
 fn print_behind(source: Option<BusSource>, behind: &str, line: &mut Line)
     requires { length line.old + 5 + length behind.now ≤ 512 }
     ensures text { line.new ≡ line.old ++ (printed (side source) ++ behind.now) }
@@ -198,14 +198,14 @@ fn is_idle(part: &Part) -> bool
     matches!((part.op, part.shift), (AluOp::Zero, Shift::None))
 }
 
-/// Nothing is computed, and nothing assigned.
+/// Whether nothing is computed and nothing assigned.
 pub(crate) fn is_absent(part: &Part) -> bool
     ensures { result ≡ is_absent part.now }
 {
     is_nothing(part.dests, &DESTS) && is_idle(part)
 }
 
-/// What a value is assigned to that no register takes.
+/// The destination of a value that no register takes.
 fn tested(next: &Next<Target>) -> Word
     ensures { result ≡ tested next.now }
 {
@@ -228,7 +228,7 @@ fn print_heads(dests: u16, next: &Next<Target>, line: &mut Line)
     }
 }
 
-/// Appends the assignment, and tells whether there is one.
+/// Appends the assignment, and returns whether there is one.
 #[tactic(auto, using(crate::proofs::Prints::no_chain_prints))]
 pub(crate) fn print_chain(part: &Part, next: &Next<Target>, line: &mut Line) -> bool
     requires { length line.old + 75 ≤ 512 }

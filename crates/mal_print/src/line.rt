@@ -35,7 +35,7 @@ pub fn print_lone(machine: Machine, part: &Part, next: &Next<Target>, line: &mut
     }
 }
 
-/// Appends the parts behind a space, and nothing where there are none.
+/// Appends a space and the parts, or nothing where there are none.
 #[tactic(auto, using(crate::proofs::Bare::spaced_some, crate::proofs::Bare::spaced_none))]
 fn print_behind_space(machine: Machine, part: &Part, next: &Next<Target>, line: &mut Line)
     requires room { length line.old + 257 ≤ 512 }

@@ -11,7 +11,7 @@ use mal_tokens::Word;
 use mic_base::Line;
 use micro_word::{Machine, Mem, Part, Test};
 
-/// Appends what divides a part from those before it.
+/// Appends the separator between a part and those before it.
 fn divide(others: bool, line: &mut Line)
     requires { length line.old + 2 ≤ 512 }
     ensures text { line.new ≡ line.old ++ (if others then codes "; " else []) }
@@ -105,7 +105,7 @@ fn print_branch(test: Test, yes: &Target, no: &Target, line: &mut Line)
     print_else(no, line);
 }
 
-/// Appends rd or wr behind others, and tells whether any part is there now.
+/// Appends rd or wr after the others, and returns whether there is any part now.
 fn print_memory(mem: Mem, others: bool, line: &mut Line) -> bool
     requires { length line.old + 4 ≤ 512 }
     ensures text { line.new ≡ line.old ++ printed (joined_behind others (memory_part mem)) }

@@ -6,6 +6,6 @@ use mic_base::Name;
 #[derive(Clone, Copy)]
 pub enum Target {
     Label(Name),
-    /// Three hexadecimal digits behind `0x`.
+    /// Three hexadecimal digits after `0x`.
     Address(u16),
 }

@@ -186,7 +186,7 @@ table1 =
     row 0x075 (codes "wide_iinc10") None 0x002 ops.Sum (Some sources.H) (Some sources.Mdr) Unshifted Write false (nexts.Goto 0) (to.Goto 0x002) ∷
     []
 
--- the table, which opens where a proof asks for it
+-- the table, unfolded only where a proof asks for it
 unfoldable pub rows1 : List ListingRow
 rows1 = table1
 

@@ -148,7 +148,7 @@ found_word text w h = sym ((bytes_eq-Decides (word_text w) text).0 (find_passes 
 found_sign : (text : List ℕ) (s : Sign) → find_sign text ≡ Some s → text ≡ sign_text s
 found_sign text s h = sym ((bytes_eq-Decides (sign_text s) text).0 (find_passes (λ s. bytes_eq (sign_text s) text) all_signs s h))
 
--- none of the words is spelled so, where all of them pass a test that the text does not
+-- none of the words has this spelling, where all of them pass a test that the text does not
 none_among : (t : List ℕ → Bool) (text : List ℕ) → t text ≡ false → (ws : List Word) → list_all (λ w. t (word_text w)) ws ≡ true → find_among ws text ≡ None
 none_among t text h [] all = refl
 none_among t text h (w ∷ ws) all = go (bytes_eq (word_text w) text) refl (none_among t text h ws (and_parts (t (word_text w)) (list_all (λ w. t (word_text w)) ws) all).1)
@@ -186,7 +186,7 @@ found_small text h = sym (behind_front text capital_words small_words (none_amon
 pub found_capital : (text : List ℕ) → begins_small text ≡ false → find_among capital_words text ≡ find_word text
 found_capital text h = sym (in_front text capital_words small_words (none_among begins_small text h small_words refl))
 
--- a reserved word has five bytes at most
+-- a reserved word has at most five bytes
 word_short : (w : Word) → nat_le (length (word_text w)) 5 ≡ true
 word_short w = elim w as (λ w. nat_le (length (word_text w)) 5 ≡ true) [
   | words.Mar ↦ refl
@@ -367,7 +367,7 @@ digit_first : (b n : ℕ) (rest : List ℕ) → begins_digit (take n (b ∷ rest
 digit_first b zero rest h = absurd (cc)
 digit_first b (suc n) rest h = rw h refl
 
--- ---- what the walk over tokens asks
+-- ---- what the walk over tokens needs
 
 some : (b : ℕ) (rest : List ℕ) → 0 < extent (b ∷ rest)
 some b rest = go (is_name_byte b) (b == 46) ((b == 60 || b == 62) && begins b rest)

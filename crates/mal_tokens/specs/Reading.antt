@@ -15,7 +15,7 @@ abbrev pub begins : ℕ → List ℕ → Bool
 begins b [] = false
 begins b (c ∷ rest) = c == b
 
--- a run of letters, digits and `_`, such a run behind a dot, `<<` or `>>`, or one byte
+-- a run of letters, digits and `_`, such a run after a dot, `<<` or `>>`, or one byte
 abbrev pub extent : List ℕ → ℕ
 extent [] = 0
 extent (b ∷ rest) = if is_name_byte b then name_len rest + 1

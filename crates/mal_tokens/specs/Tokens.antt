@@ -17,13 +17,13 @@ IsLexeme (tokens.Sign s) text = text ≡ sign_text s
 IsLexeme (tokens.Name n) text = (text ≡ n) × IsLabelText n
 IsLexeme (tokens.Number v) text = (begins_digit text ≡ true) × (list_all is_name_byte text ≡ true) × (number_of text ≡ Ok v)
 
--- behind a letter, a digit or `_` no such byte follows
+-- after a letter, a digit or `_` no such byte follows
 abbrev pub EndsLexeme : List ℕ → List ℕ → Type 0
 EndsLexeme text rest = ends_with is_name_byte text ≡ true → begins_with is_name_byte rest ≡ false
 
 abbrev pub mal : Lexicon Token
 mal = record { IsLexeme = IsLexeme; EndsLexeme = EndsLexeme }
 
--- the line is the tokens in order, with blanks before, between and behind them
+-- the line is the tokens in order, with blanks before, between and after them
 abbrev pub SpellsTokens : List ℕ → List Token → Type 0
 SpellsTokens = source.Spells mal

@@ -57,7 +57,7 @@ abbrev pub all_signs : List Sign
 all_signs = signs.Equals ∷ signs.Plus ∷ signs.Minus ∷ signs.Semicolon ∷ signs.Colon ∷ signs.Open ∷ signs.Close
     ∷ signs.Left ∷ signs.Right ∷ signs.Label ∷ signs.Default ∷ []
 
--- the reserved word that is spelled so
+-- the reserved word with this spelling
 abbrev pub find_word : List ℕ → Option Word
 find_word text = find (λ w. bytes_eq (word_text w) text) all_words
 
@@ -67,11 +67,11 @@ find_sign text = find (λ s. bytes_eq (sign_text s) text) all_signs
 abbrev pub is_reserved : List ℕ → Bool
 is_reserved text = is_some (find_word text)
 
--- a label is a name, and no reserved word
+-- a label is a name that is not reserved
 abbrev pub IsLabelText : List ℕ → Type 0
 IsLabelText label = (is_name label ≡ true) × (is_reserved label ≡ false)
 
--- the one of these words that is spelled so
+-- the one of these words with this spelling
 abbrev pub find_among : List Word → List ℕ → Option Word
 find_among ws text = find (λ w. bytes_eq (word_text w) text) ws
 

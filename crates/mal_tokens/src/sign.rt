@@ -52,7 +52,7 @@ impl Sign {
         }
     }
 
-    /// The sign that is spelled so.
+    /// The sign with this spelling.
     pub fn find(text: &[u8]) -> Option<Sign>
         ensures { result ≡ find_sign text.now }
     {

@@ -21,7 +21,7 @@ pub enum Token {
     Word(Word),
     Sign(Sign),
     Name(Name),
-    /// Its value.
+    /// The value of the number.
     Number(i64),
 }
 
@@ -117,7 +117,7 @@ fn sign_or_name(text: &[u8]) -> Option<Token>
     }
 }
 
-/// The tokens that a line without its comment spells; BadToken where it spells none.
+/// The tokens that a line without its comment spells; BadToken if it does not spell tokens.
 #[tactic(auto, using(crate::proofs::Lexemes::agrees))]
 pub fn tokens_of(alloc: Global, line: &[u8]) -> Result<Vec<Token>, TokenError>
     ensures ok { IfOk result (λ tokens. SpellsTokens line.now tokens.items) }

@@ -3,7 +3,7 @@
 ghost use Rattle.std.specs.Prelude.{◌≡◌};
 ghost use Rattle.mal_tokens.specs.Words.{begins_small, find_among, find_word, word_text};
 
-/// A reserved word of the microassembly language, which is no label.
+/// A reserved word of the microassembly language, which cannot be a label.
 #[derive(Clone, Copy, Debug, PartialEq, Eq)]
 pub enum Word {
     Mar,
@@ -34,10 +34,10 @@ pub enum Word {
     Else,
 }
 
-/// The length of the longest one.
+/// The length of the longest reserved word.
 const LONGEST: usize = 5;
 
-/// Those that begin with a capital.
+/// The reserved words that begin with a capital.
 const CAPITAL: [Word; 20] = [
     Word::Mar,
     Word::Mdr,
@@ -104,7 +104,7 @@ impl Word {
         }
     }
 
-    /// The reserved word that is spelled so.
+    /// The reserved word with this spelling.
     pub fn find(text: &[u8]) -> Option<Word>
         ensures { result ≡ find_word text.now }
     {

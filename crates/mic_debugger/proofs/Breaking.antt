@@ -106,7 +106,7 @@ module _ {State : Type 0} (m : Meaning State) (book : Book) (words breaks : List
   Told k n = (mid : Option (List ℕ)) × Got said (printed m book words breaks bound u k r) mid
       × GotInPart mid (turn_lines m book words breaks bound u (after m book words breaks bound u k r) (after m book words breaks bound u n r)) said'
 
-  -- it got all
+  -- `err` got all the lines
   told_all : (k n : ℕ) → suc k ≡ n → Got said (printed m book words breaks bound u n r) said' → Told k n
   told_all k n e got = subst (λ (j : ℕ). Got said (printed m book words breaks bound u j r) said' → Told k j) e told_suc got
     where
@@ -116,7 +116,7 @@ module _ {State : Type 0} (m : Meaning State) (book : Book) (words breaks : List
           let parts = got_split said said' (printed m book words breaks bound u k r) lines all in
           (parts.0, parts.1, in_part parts.0 said' lines parts.2)
 
-  -- it got all but those of the last turn
+  -- `err` got all the lines but those of the last turn
   told_last : (mid : Option (List ℕ)) (n k : ℕ) → suc k ≡ suc n → Got said (printed m book words breaks bound u n r) mid →
       GotInPart mid (turn_lines m book words breaks bound u (after m book words breaks bound u n r) (after m book words breaks bound u (suc n) r)) said' → Told k (suc n)
   told_last mid n k e got part = let same : n ≡ k = omega arith in subst (λ (j : ℕ). Told j (suc n)) same (mid, got, part)
@@ -126,7 +126,7 @@ module _ {M State : Type 0} (state : M → State) (m : Meaning State) (book : Bo
       (text : List ℕ) (w : ℕ) (program : board.store.words ≡ words) (live : board.end ≡ None) (some : 0 < w)
       (led : IsLedTo state left0 held0 board0 left board (λ r rest. (n : ℕ) × IsUnderway state m book words breaks bound u times left held board rest text w n r))
       (said0 said said' : Option (List ℕ)) (prints : Got said0 text said) where
-    -- behind the turn, where a text is put
+    -- after the turn, where a text is put
     broken_behind : NoFault board.end board'.end → IsTurned state m left held board left' held' board' (Some bound) → GotInPart said (text_between state m book breaks u board board') said' →
         IsLedTo state left0 held0 board0 left' board' (λ r rest. (n : ℕ) × IsBroken state m book words breaks bound u times held' board' said0 said' n r)
     broken_behind well turned front rest fits =
@@ -161,7 +161,7 @@ module _ {M State : Type 0} (state : M → State) (m : Meaning State) (book : Bo
               ),
         )
 
-    -- in the turn, behind k turns that count no cycle
+    -- in the turn, after k turns that count no cycle
     broken_at : (r : MicroRun State) (rest : List ℕ) (n k : ℕ) → IsUnderway state m book words breaks bound u times left held board rest text w n r → said' ≡ said →
         StandsAfter state board' (turns m words (Some bound) k (after m book words breaks bound u n r)) →
         IsFrontOf held' (turns m words (Some bound) k (after m book words breaks bound u n r)).world.given →
@@ -219,7 +219,7 @@ module _ {M State : Type 0} (state : M → State) (m : Meaning State) (book : Bo
               (ap (λ (x : MicroRun State). x.counts.cycles) (sym here) ∙ ap (λ (c : Counts). c.cycles) cut.counts ∙ cycles),
         )
 
-    -- in a turn more
+    -- in one more turn
     pub broken_more : EndsUncounted board board' → board'.end ≢ Some ends.ReadFault →
         IsTurned state m left held board left' held' board' (Some bound) → TurnIsCut state m bound left held board left' held' board' →
         (board'.end ≢ Some ends.WriteFault → GotInPart said (text_between state m book breaks u board board') said') → (board'.end ≡ Some ends.WriteFault → said' ≡ said) →
@@ -265,7 +265,7 @@ module _ {M State : Type 0} (state : M → State) (m : Meaning State) (line : Li
         failed = broken.failed;
       }
 
-  -- one whose plan was carried out, and then the flush failed
+  -- a line whose plan was carried out before the flush failed
   pub flush_broken : (board : BoardView M) (mid : Streams) → IsCarriedOut state m old board at mid (plan_in old line) → at'.input.left ≡ mid.input.left → at'.err.held ≡ mid.err.held →
       board'.bus.console.ended ≡ board.bus.console.ended → board'.end ≡ board.end →
       ((r : MicroRun State) → ShowsRun state mid.input.left mid.out.held board r → StandsAfter state board' r) →
@@ -310,7 +310,7 @@ module _ {M State : Type 0} (state : M → State) (m : Meaning State) (v : Sessi
         sinks = record { flushed = λ h. h; out = refl; err = quiet };
       }
 
-  -- where `err` fails, it breaks it off
+  -- where `err` fails, it breaks the plan off
   pub shown_broken : ((book : Book) → IsBookOf v.listing book →
       GotInPart at.err.held (shown_text book v.listing.memory (m.registers (state v.board.machine)) v.board.counts v.board.bus.words shown) err.held) → Rose at.err.faults err.faults →
       IsPlanBroken state m v v.board at (record at { err = err }) (plans.Show shown)
@@ -351,7 +351,7 @@ front_flushed state held held' board board' (Ok done) shows err is left r here =
 front_flushed state held held' board board' (Err e) shows err is left r here =
     front_lost held held' board.bus.console.kept board'.bus.console.kept r.world.given ((err left).lost is) here.world.given
 
--- what holds anyway holds behind an Err
+-- what holds anyway holds after an Err
 pub on_err_of : {T E : Type 0} (P : Type 0) (r : Result T E) → P → OnErr r P
 on_err_of P (Ok v) p = tt
 on_err_of P (Err e) p = p

@@ -23,7 +23,7 @@ use Rattle.mic_debugger.specs.Stand.{Carries, IsWhole, plan_at, rules_of, stand_
 use Rattle.mic_debugger.specs.Outcome.{GoesThrough, NoSinkFailed, SinkFailed, Streams}
 use Rattle.mic_debugger.specs.View.{SessionView}
 
--- what holds where a call answers Ok or Err
+-- what holds where a call returns Ok or Err
 
 pub on_ok_map : {T E : Type 0} (P Q : Type 0) (r : Result T E) → (P → Q) → OnOk r P → OnOk r Q
 on_ok_map P Q (Ok v) f h = f h
@@ -51,7 +51,7 @@ module _ {M State : Type 0} (state : M → State) where
       plan_in v line ≡ plan_at m (rules_of v book) (stand_in v r) line
   same_plan m line book v left held r here = λ i. plan_of (sym here.its_end i) v.breaks v.watched (sym here.world.words i) (command_of v.listing.memory line)
 
-  -- and so does what is shown
+  -- the same is shown in a session and at each stand that it shows
   pub same_shown : (m : Meaning State) (book : Book) (v : SessionView M) (left held : Option (List ℕ)) (r : MicroRun State) → ShowsRun state left held v.board r → (shown : Shown) →
       shown_text book v.listing.memory (m.registers (state v.board.machine)) v.board.counts v.board.bus.words shown
       ≡ shown_text book v.listing.memory (m.registers r.state) r.counts r.world.words shown

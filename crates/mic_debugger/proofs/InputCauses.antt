@@ -9,7 +9,7 @@ use Rattle.mic_debugger.specs.Session.{HasReadCause}
 pub cause_start : (n : ℕ) (end : Option End) → end ≡ None → HasReadCause n n end
 cause_start n end live = record { rose = λ p. absurd (cc); same = λ q. refl }
 
--- a turn more
+-- one more turn
 pub cause_more : {a b c k k' : ℕ} {end end' : Option End} → end ≡ None → HasReadCause a b end → HasEndCause b c k k' end end' → HasReadCause a c end'
 cause_more {a = a} {b = b} {c = c} live before now =
     let still : b ≡ a = before.same (λ p. cc) in

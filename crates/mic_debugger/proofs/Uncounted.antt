@@ -64,7 +64,7 @@ module _ {State : Type 0} (m : Meaning State) where
         let first = one_cycles bound r in
         let rest = turns_cycles bound n (turn m words (bounded m (Some bound) r)) in omega (arith, first, rest)
 
-    -- one that does not end counts a cycle
+    -- a turn that does not end the run counts a cycle
     stepped_counted : (r : MicroRun State) (o : Outcome State) → (after_step m words r o).end ≡ None → (after_step m words r o).counts.cycles ≡ r.counts.cycles + 1
     stepped_counted r (Done s w) live = counted_once (m.is_boundary s) r.counts (m.drives (word_at m words r.state) r.state).stalled (m.address s) (m.registers s)
     stepped_counted r (Refused why) live = absurd (cc)
@@ -83,7 +83,7 @@ module _ {State : Type 0} (m : Meaning State) where
         let x = bounded m (Some bound) r in
         turn_counted x.end x refl live ∙ ap (λ (c : Counts). c.cycles + 1) (bounded_counts r.end bound r)
 
-    -- turns that count none are one that ends
+    -- turns that count no cycle are one turn that ends the run
     pub uncounted : (bound n : ℕ) (r : MicroRun State) → (turns m words (Some bound) (suc n) r).counts.cycles ≡ r.counts.cycles →
         turns m words (Some bound) (suc n) r ≡ turn m words (bounded m (Some bound) r)
     uncounted bound n r still = by (turn m words (bounded m (Some bound) r)).end refl

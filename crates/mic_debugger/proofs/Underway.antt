@@ -13,7 +13,7 @@ use Rattle.mic_debugger.specs.Clocking.{turn_text, counted_turn, after, turn_lin
 use Rattle.mic_debugger.specs.Session.{text_between, IsUnderway, IsStopped}
 
 module _ {M State : Type 0} (state : M → State) (m : Meaning State) (book : Book) (words breaks : List ℕ) (bound : ℕ) (u : Until) (times : ℕ) where
-  -- one turn more
+  -- one more turn
   pub after-suc : (n : ℕ) (r : MicroRun State) → after m book words breaks bound u (suc n) r ≡ turn m words (bounded m (Some bound) (after m book words breaks bound u n r))
   after-suc zero r = refl
   after-suc (suc n) r = after-suc n (turn m words (bounded m (Some bound) r))
@@ -89,7 +89,7 @@ module _ {M State : Type 0} (state : M → State) (m : Meaning State) (book : Bo
               ),
         )
 
-    -- a failing source stops it in a turn more
+    -- a failing source stops it in one more turn
     pub underway_stopped : board'.end ≡ Some ends.ReadFault →
         IsLedTo state left held board left' board'
         (λ r rest. (k : ℕ) × Leads state m board.store.words (Some bound) board' board.buses rest k r (IsCutByRead state m board.store.words (Some bound) left' held' board')) →
@@ -123,7 +123,7 @@ module _ {M State : Type 0} (state : M → State) (m : Meaning State) (book : Bo
               ),
         )
 
-  -- it is done where the board has ended or nothing more is waited for
+  -- the command is done where the board has ended or nothing more is waited for
   pub clocked_of : (left0 held0 : Option (List ℕ)) (board0 : BoardView M) (left held : Option (List ℕ)) (board : BoardView M) (text : List ℕ) (w : ℕ) →
       IsSome board.end ⊎ (w ≡ 0) →
       IsLedTo state left0 held0 board0 left board (λ r rest. (n : ℕ) × IsUnderway state m book words breaks bound u times left held board rest text w n r) →

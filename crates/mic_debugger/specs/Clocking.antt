@@ -44,7 +44,7 @@ comes breaks until.Cycle c memory = true
 comes breaks until.Boundary c memory = is_at_boundary c
 comes breaks (until.Cause watched) c memory = is_at_boundary c && (has_break breaks c || has_changed watched memory)
 
--- 1 where it is, and its end is none
+-- 1 where it is waited for and does not end the run, else 0
 abbrev pub counted_turn : List ℕ → Until → Counts → List ℕ → Option End → ℕ
 counted_turn breaks u c memory (Some e) = 0
 counted_turn breaks u c memory None = number_of (comes breaks u c memory)
@@ -55,7 +55,7 @@ abbrev pub cause_line : List ℕ → Counts → List ℕ
 cause_line breaks c = if has_break breaks c then codes "break\n" else codes "watch\n"
 
 module _ (book : Book) (breaks : List ℕ) where
-  -- of one that is waited for, which began at the word at `mpc`: two pieces
+  -- of a turn that is waited for, which began at the word at `mpc`: two pieces
   abbrev pub first_piece : Until → ℕ → Bool → Counts → List ℕ
   first_piece until.Cycle mpc stalled c = clocked_line book c.cycles mpc stalled
   first_piece until.Boundary mpc stalled c = place_line book c
@@ -74,7 +74,7 @@ module _ (book : Book) (breaks : List ℕ) where
 -- ---- how a command goes on
 
 module _ {State : Type 0} (m : Meaning State) (book : Book) (words : List ℕ) (breaks : List ℕ) (bound : ℕ) (u : Until) where
-  -- the run after so many turns
+  -- the run after this many turns
   abbrev pub after : ℕ → MicroRun State → MicroRun State
   after n r = turns m words (Some bound) n r
 
@@ -83,27 +83,27 @@ module _ {State : Type 0} (m : Meaning State) (book : Book) (words : List ℕ) (
   turn_lines r q =
       turn_text book breaks u (m.registers r.state).mpc (m.drives (word_at m words r.state) r.state).stalled q.counts (m.registers q.state) q.world.words q.end
 
-  -- what is printed of so many turns
+  -- what is printed of this many turns
   abbrev pub printed : ℕ → MicroRun State → List ℕ
   printed zero r = []
   printed (suc n) r = printed n r ++ turn_lines (after n r) (after (suc n) r)
 
-  -- how many of them were waited for
+  -- how many of these turns were waited for
   abbrev pub passed : ℕ → MicroRun State → ℕ
   passed zero r = 0
   passed (suc n) r = passed n r + counted_turn breaks u (after (suc n) r).counts (after (suc n) r).world.words (after (suc n) r).end
 
-  -- a command that waits so often is not done before so many turns
+  -- a command that waits for `times` turns is not done before n turns
   pub record IsGoing (times n : ℕ) (r : MicroRun State) : Type 0 where
     pub running : (k : ℕ) → k < n → (after k r).end ≡ None
     pub waiting : (k : ℕ) → k < n → passed k r < times
 
-  -- it is done after so many turns, and not before
+  -- the command is done after n turns, and not before
   pub record IsDone (times n : ℕ) (r : MicroRun State) : Type 0 where
     pub going : IsGoing times n r
     pub over : IsSome (after n r).end ⊎ (passed n r ≡ times)
 
-  -- `err` got the lines of all turns but the last whole, and what it got of those of the last: so no turn was made after one of whose lines it got less
+  -- `err` got the lines of all turns but the last whole, and those of the last at least in part: no turn follows one whose lines it got only in part
   abbrev pub IsTold : Option (List ℕ) → Option (List ℕ) → ℕ → MicroRun State → Type 0
   IsTold said said' n r =
       (k : ℕ) → suc k ≡ n → (mid : Option (List ℕ)) × Got said (printed k r) mid × GotInPart mid (turn_lines (after k r) (after n r)) said'

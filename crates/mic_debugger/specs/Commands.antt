@@ -8,7 +8,7 @@ use Rattle.cli_session.specs.Table.{CommandForm, command_form}
 use Rattle.mic_debugger.specs.declared.table.Verb.{Verb}
 use Rattle.mic_debugger.specs.declared.table.Verb.TheVariants as verbs
 
--- the word of each command, and what stands behind it
+-- the word of each command, and what follows it
 abbrev pub forms : List (CommandForm Verb)
 forms =
     command_form verbs.Micro "micro" arguments.Count
@@ -23,6 +23,6 @@ forms =
     ∷ command_form verbs.Quit "quit" arguments.Nothing
     ∷ []
 
--- what a line says over a memory of so many words
+-- what a line says over a memory of this many words
 abbrev pub command_of : ℕ → List ℕ → Result (Option (Command Verb)) CommandError
 command_of = command_in forms

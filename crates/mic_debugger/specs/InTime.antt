@@ -4,7 +4,7 @@ use Rattle.mic_clock.specs.declared.counts.Counts.{Counts}
 use Rattle.mic_clock.specs.declared.end.End.{End}
 use Rattle.mic_clock.specs.Run.{last_cycles}
 
--- none is more than 1,024 behind the last boundary, which is at most `top` unless the board stands there
+-- at most 1,024 cycles follow the last boundary, which is at cycle `top` or before, unless the board stands there or has ended
 pub record InTime (top : ℕ) (c : Counts) (is_boundary : Bool) (end : Option End) : Type 0 where
   pub cycles : c.cycles ≤ top + 1024
   pub ordered : last_cycles c.boundary ≤ c.cycles

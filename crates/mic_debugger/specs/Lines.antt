@@ -9,7 +9,7 @@ use Rattle.mic_clock.specs.State.{state_line}
 use Rattle.cli_session.specs.Texts.{word_line}
 use Rattle.mic_debugger.specs.Book.{Book}
 
--- the text of a cycle's statement, `stall` where it was one
+-- the text of a cycle's statement, `stall` where the cycle was a stall
 abbrev pub cycle_text : Book → ℕ → Bool → List ℕ
 cycle_text book mpc stalled = if stalled then codes "stall" else book.text mpc
 
@@ -18,7 +18,7 @@ unfoldable pub clocked_line : Book → ℕ → ℕ → Bool → List ℕ
 clocked_line book cycles mpc stalled =
     decimal cycles ++ codes " " ++ hex_text 3 mpc ++ codes " " ++ book.label mpc ++ codes " " ++ cycle_text book mpc stalled ++ codes "\n"
 
--- the registers behind a cycle
+-- the registers after a cycle
 unfoldable pub registers_line : Registers → List ℕ
 registers_line r = codes "  " ++ state_line r ++ codes "\n"
 
@@ -31,19 +31,19 @@ place_text book (Some b) = hex_text 8 b.at ++ codes " " ++ book.instruction b.at
 unfoldable pub place_line : Book → Counts → List ℕ
 place_line book c = codes "cycle " ++ decimal c.cycles ++ codes " at " ++ place_text book c.boundary
 
--- and the word that comes next
+-- the word that comes next
 unfoldable pub next_line : Book → ℕ → List ℕ
 next_line book mpc = codes " mpc " ++ hex_text 3 mpc ++ codes " " ++ book.label mpc ++ codes " " ++ book.text mpc ++ codes "\n"
 
 abbrev pub where_line : Book → Counts → ℕ → List ℕ
 where_line book c mpc = place_line book c ++ next_line book mpc
 
--- so many memory words from an address on
+-- this many memory words, from an address on
 abbrev pub word_lines : List ℕ → ℕ → ℕ → List ℕ
 word_lines memory first zero = []
 word_lines memory first (suc n) = word_lines memory first n ++ word_line memory (first + n)
 
--- the words from LV up to SP of a memory that has so many, at most the 64 highest of them
+-- the words from LV up to SP of a memory that has this many, at most the 64 highest of them
 unfoldable pub stack_text : List ℕ → ℕ → ℕ → ℕ → List ℕ
 stack_text memory count lv sp =
     let over = min (sp + 1) count in

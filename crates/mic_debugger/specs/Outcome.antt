@@ -16,7 +16,7 @@ pub record Streams : Type 0 where
   pub out : SinkState
   pub err : SinkState
 
--- by what a source and two sinks tell of themselves
+-- the streams, by what a source and two sinks show of themselves
 abbrev pub streams : {S K E : Type 0} → (S → Option (List ℕ)) → (S → ℕ) → S → (K → Option (List ℕ)) → (K → Option (List ℕ)) → (K → ℕ) → K →
     (E → Option (List ℕ)) → (E → Option (List ℕ)) → (E → ℕ) → E → Streams
 streams left fails input held passed faults out held' passed' faults' err =
@@ -40,7 +40,7 @@ EitherRose out out' err err' = Rose out out' ⊎ Rose err err'
 abbrev pub SinkFailed : Streams → Streams → Type 0
 SinkFailed old new = EitherRose old.out.faults new.out.faults old.err.faults new.err.faults
 
--- a call fails only where the count of one of its two sinks rose, and every other answer leaves both
+-- a call fails only where the count of one of its two sinks rose, and every other result leaves both
 pub record HasSinkCause {T E : Type 0} (out out' err err' : ℕ) (result : Result T E) : Type 0 where
   pub quiet : OnOk result ((out' ≡ out) × (err' ≡ err))
   pub rose : OnErr result (EitherRose out out' err err')

@@ -99,7 +99,7 @@ reply_text replies.BadNumber = codes "? bad number\n"
 reply_text replies.TooManyBreaks = codes "? too many breaks\n"
 reply_text replies.Ended = codes "? ended\n"
 
--- over so many of these memory words
+-- what is shown, over this many of these memory words
 abbrev pub shown_text : Book → ℕ → Registers → Counts → List ℕ → Shown → List ℕ
 shown_text book memory r c words (shown.Reply reply) = reply_text reply
 shown_text book memory r c words shown.Registers = state_line r ++ codes "\n"

@@ -49,7 +49,7 @@ IsClockedBelow state m bound board board' =
     board'.end ≡ None → m.is_boundary (state board.machine) ≡ true → board.counts.cycles < bound
 
 -- A turn from one board to the next is printed: `err` gets its text, or a front of it where it fails, and nothing where a failing
--- `out` ended the board. The answer says whether the turn is one that is waited for.
+-- `out` ended the board. The result says whether the turn is one that is waited for.
 pub record IsPrinted {M State E X : Type 0} (state : M → State) (m : Meaning State) (held : E → Option (List ℕ)) (faults : E → ℕ)
     (listing : ListingView) (breaks : List ℕ) (u : Until) (board board' : BoardView M) (err err' : E) (result : Result Bool X) : Type 0 where
   pub came : IfOk result (λ came. number_of came ≡ counted_turn breaks u board'.counts board'.bus.words board'.end)
@@ -74,7 +74,7 @@ pub record StandsAfter {M State : Type 0} (state : M → State) (board : BoardVi
   pub its_end : (r.end ≡ board.end) ⊎ (board.end ≡ Some ends.WriteFault)
 
 module _ {M State : Type 0} (state : M → State) (m : Meaning State) (book : Book) (words breaks : List ℕ) (bound : ℕ) (u : Until) (times : ℕ) where
-  -- A clocking command under way: so many turns of the run r were made, which led to this board; `left_over` more are waited for.
+  -- A clocking command under way: n turns of the run r were made, which led to this board; `left_over` more are waited for.
   pub record IsUnderway (left held : Option (List ℕ)) (board : BoardView M) (rest text : List ℕ) (left_over n : ℕ) (r : MicroRun State) : Type 0 where
     pub here : ShowsRun state left held board (after m book words breaks bound u n r)
     pub untaken : (after m book words breaks bound u n r).world.untaken ≡ rest
@@ -82,7 +82,7 @@ module _ {M State : Type 0} (state : M → State) (m : Meaning State) (book : Bo
     pub count : passed m book words breaks bound u n r + left_over ≡ times
     pub lines : text ≡ printed m book words breaks bound u n r
 
-  -- A failing source stopped it: the run is cut k turns behind the n that were made, and the end line is printed.
+  -- A failing source stopped it: the run is cut k turns after the n that were made, and the end line is printed.
   pub record IsStopped (left held : Option (List ℕ)) (board : BoardView M) (rest text : List ℕ) (n k : ℕ) (r : MicroRun State) : Type 0 where
     pub cut : IsCutByRead state m words (Some bound) left held board (turns m words (Some bound) k (after m book words breaks bound u n r))
     pub untaken : (turns m words (Some bound) k (after m book words breaks bound u n r)).world.untaken ≡ rest

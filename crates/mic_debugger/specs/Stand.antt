@@ -40,7 +40,7 @@ abbrev pub stand_in : {M State : Type 0} → SessionView M → MicroRun State �
 stand_in v r = record { run = r; breaks = v.breaks; watched = v.watched }
 
 module _ {State : Type 0} (m : Meaning State) (rules : Rules) where
-  -- so many turns from a stand are all of a clocking command, or are a part of it
+  -- this many turns from a stand are all of a clocking command, or are a part of it
 
   abbrev pub IsWhole : Stand State → Until → ℕ → ℕ → Type 0
   IsWhole s u times n = IsDone m rules.book rules.words s.breaks rules.bound u times n s.run

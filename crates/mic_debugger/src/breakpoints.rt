@@ -61,7 +61,7 @@ impl Breakpoints {
         }
     }
 
-    /// Removes a breakpoint, where it is there.
+    /// Removes the breakpoint at an address, if there is one.
     pub fn clear(&mut self, at: u32)
         ensures { self.new ≡ without_break self.old at }
     {

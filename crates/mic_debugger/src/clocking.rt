@@ -141,7 +141,7 @@ impl Clocking<'_> {
         put_two(err, first.bytes(), second.bytes())
     }
 
-    /// One turn of the board, and what is printed of it. It tells whether the turn is one that is waited for.
+    /// Makes one turn of the board, and puts what is printed of it. Returns whether the turn is one that is waited for.
     fn turn<M: Clocked, S: Source, K: Sink, E: Sink>(
         &self,
         board: &mut Board<M>,
@@ -175,7 +175,7 @@ impl Clocking<'_> {
         }
     }
 
-    /// Turns until so many were waited for, or the board has ended.
+    /// Makes turns until this many were waited for, or the board has ended.
     pub fn clock<M: Clocked, S: Source, K: Sink, E: Sink>(
         &self,
         times: u32,

@@ -2,7 +2,7 @@
 
 use thiserror::Error;
 
-/// A sink failed: the console bytes or the answers did not get out.
+/// A sink failed: the console bytes or the replies were not all written.
 #[derive(Clone, Copy, Debug, PartialEq, Eq, Error)]
 pub enum SessionFault {
     #[error("write fault")]

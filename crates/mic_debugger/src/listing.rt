@@ -110,7 +110,7 @@ impl Listing {
         }
     }
 
-    /// Appends the text of a cycle's statement, `stall` where it was one.
+    /// Appends the text of a cycle's statement, `stall` where the cycle was a stall.
     fn cycle_text(&self, mpc: u16, stalled: bool, line: &mut Line)
         requires { length line.old + 256 ≤ 512 }
         ensures text { ByBook self.now (λ book. line.new ≡ line.old ++ cycle_text book mpc stalled) }

@@ -12,7 +12,7 @@ use console_port::Bus;
 use mic_base::{Line, Sink, SinkFailed};
 use mic_clock::{Registers, print_state};
 
-/// Puts one piece behind another.
+/// Puts one piece after another.
 pub(crate) fn put_two<E: Sink>(err: &mut E, first: &[u8], second: &[u8]) -> Result<(), SinkFailed>
     ensures puts { Puts (E.held err.old) (first.now ++ second.now) result (E.held err.new) }
     ensures keeps { (front : List ℕ) → Holds front (E.held err.old) → Holds front (E.held err.new) }
@@ -23,7 +23,7 @@ pub(crate) fn put_two<E: Sink>(err: &mut E, first: &[u8], second: &[u8]) -> Resu
     put_after(said, err, second)
 }
 
-/// The registers behind a cycle.
+/// The registers after a cycle.
 #[tactic(auto, unfolding(crate::specs::Lines::registers_line))]
 pub(crate) fn registers_line(registers: &Registers) -> Line
     requires { registers.now.mpc < 512 }
@@ -43,7 +43,7 @@ fn word_line(bus: &Bus, at: u32) -> Line
     word_text(at, bus.peek(at).unwrap_or(0))
 }
 
-/// Puts so many memory words from an address on.
+/// Puts this many memory words, from an address on.
 pub(crate) fn put_words<E: Sink>(
     bus: &Bus,
     first: u32,

@@ -9,7 +9,7 @@ use crate::until::Until;
 /// What a line comes to.
 #[derive(Clone, Copy, Debug, PartialEq, Eq)]
 pub enum Plan {
-    /// The board is clocked until so many turns were waited for.
+    /// The board is clocked until this many turns were waited for.
     Clock { until: Until, times: u32 },
     /// Nothing is clocked, and this is shown.
     Show(Shown),
@@ -28,7 +28,7 @@ pub enum Shown {
 }
 
 impl Plan {
-    /// What is answered where it was carried out.
+    /// The reply where the plan was carried out.
     pub(crate) fn reply(self) -> Reply
         ensures { result ≡ reply_of self }
     {

@@ -300,7 +300,7 @@ impl<M: Clocked> Session<M> {
     }
 }
 
-/// One more than the highest place from SP down where a memory of so many words has one.
+/// One more than the highest address from SP down in a memory of this many words.
 fn over_stack(sp: u32, words: u32) -> u32
     ensures { result ≡ min (sp + 1) words }
 {

@@ -1,4 +1,4 @@
-//! The table of a session's commands: the word of each, and what stands behind it.
+//! The table of a session's commands: the word of each, and what follows it.
 
 ghost use Rattle.std.specs.Prelude.{◌≡◌};
 ghost use Rattle.mic_debugger.specs.Commands.{command_of};
@@ -44,7 +44,7 @@ const COMMANDS: [CommandRow<Verb>; 10] = rows! {
     Quit     "quit"   Nothing
 };
 
-/// Reads a line of a session: none where it has no word.
+/// Reads a line of a session: None where the line has no word.
 pub fn read_command(line: &[u8], words: u32) -> Result<Option<Command<Verb>>, CommandError>
     ensures { result ≡ command_of words line.now }
 {

@@ -1,4 +1,4 @@
--- A name more in a list of names.
+-- One more name in a list of names.
 use Rattle.std.proofs.Common.{◌≡◌, ℕ, ◌+◌, ◌<◌, Bool, true, false, List, [], ◌∷◌, ◌++◌, Option, Some, None, length, refl, sym, ap, ◌∙◌, cond, arith}
 use Rattle.std.specs.Prelude.{option_map}
 use Rattle.std.specs.Str.{bytes_eq}
@@ -9,13 +9,13 @@ use Rattle.std.proofs.lemmas.Slice.Eq.{bytes_eq-Decides}
 use Rattle.std.proofs.lemmas.List.{length_push}
 use Rattle.source_names.specs.Places.{ArePlaces, place_of_name}
 
--- a name that is not in a list is not its first one, and not behind it
+-- a name that is not in a list is neither its first name nor one after it
 absent : (b : Bool) (o : Option ℕ) → cond b (Some 0) (option_map (λ i. i + 1) o) ≡ None → (b ≡ false) × (o ≡ None)
 absent true o h = absurd (cc)
 absent false None h = (refl, refl)
 absent false (Some i) h = absurd (cc)
 
--- the place among one more
+-- the place of a name in a list with one more
 place_push : (names : List (List ℕ)) (name q : List ℕ) → place_of_name names name ≡ None → place_of_name (names ++ name ∷ []) q ≡ cond (bytes_eq name q) (Some (length names)) (place_of_name names q)
 place_push [] name q h = refl
 place_push (n ∷ names) name q h =
@@ -42,7 +42,7 @@ places_push names name place old new e are fresh h q =
 pub few_push : (names : List (List ℕ)) (name : List ℕ) (place : ℕ) → place ≡ length names → place < 4294967295 → length (names ++ name ∷ []) < 4294967296
 few_push names name place e h = let l = length_push names name in omega (arith, l, e, h)
 
--- a place is one of the list
+-- a place is less than the length of the list
 pub place_below : (names : List (List ℕ)) (name : List ℕ) (i : ℕ) → place_of_name names name ≡ Some i → i < length names
 place_below [] name i h = absurd (cc)
 place_below (n ∷ names) name i h = go (bytes_eq n name) (place_of_name names name) (place_below names name) h

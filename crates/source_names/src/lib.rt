@@ -1,4 +1,4 @@
-//! Names in the order in which they came, each found by its text.
+//! Names in the order in which they were added, each found by its text.
 #![tactic(auto)]
 
 mod names;

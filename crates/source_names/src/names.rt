@@ -58,7 +58,7 @@ impl NameList {
         self.places.get(name).copied()
     }
 
-    /// Puts a new name behind the others.
+    /// Appends a new name.
     pub fn add(&mut self, name: Name) -> Result<(), AllocError>
         requires { place_of_name self.old name ≡ None }
         ensures ok { OnOk result (self.new ≡ self.old ++ name ∷ []) }

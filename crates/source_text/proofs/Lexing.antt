@@ -30,7 +30,7 @@ module _ {T : Type 0} (X : Lexer T) where
       lex_skip (X.extent (b ∷ rest) - 1) rest ∙ ap (lex X 0) (after b rest (X.extent (b ∷ rest)) some) in
       rw h (ap (λ (r : Option (List T)). option_and_then (λ t. option_map (λ ts. t ∷ ts) r) (X.token (take (X.extent (b ∷ rest)) (b ∷ rest)))) e)
 
--- what was read before, and what is still read
+-- the tokens that were read before, and those still read
 abbrev pub onto : {T : Type 0} → List T → Option (List T) → Option (List T)
 onto front read = option_map (λ ts. front ++ ts) read
 

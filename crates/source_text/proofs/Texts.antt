@@ -12,7 +12,7 @@ module _ {T F C P E S : Type 0} (G : Grammar T F C P E) (X : Parser T F C P E S)
   abbrev next : ℕ → S → List ℕ → Result S E
   next = step G.refusals X
 
-  -- ---- one line behind others
+  -- ---- one line after others
 
   unspelled : (k : ℕ) (s : S) (line : List ℕ) → ((ts : List T) → Spells G.lexicon line ts → ⊥) → next k s line ≡ Err (G.refusals.bad_token k)
   unspelled k s line none = by_tokens (X.tokens line) refl
@@ -22,7 +22,7 @@ module _ {T F C P E S : Type 0} (G : Grammar T F C P E) (X : Parser T F C P E S)
       by_tokens (Some ts) f = absurd (none ts ((a.tokens line ts).0 f))
 
   module _ (cs : List C) (s : S) (m : Makes X 1 start cs s) (line : List ℕ) where
-    -- it says something, which makes this
+    -- the line says something, and that leads to this state
     abbrev Adds : ℕ → S → Type 0
     Adds k u = (c : C) × SaysLine G line c × X.Stands s c × (X.add k s c ≡ Ok u)
 
@@ -59,7 +59,7 @@ module _ {T F C P E S : Type 0} (G : Grammar T F C P E) (X : Parser T F C P E S)
         ∙ (ap (add_said G.refusals X (1 + length cs) s) ((a.fault cs s m ts y).1 f) ∙ ap Err (sym e))
     refused_line x (inr (ts, w, inr (c, means, f))) = let g = (a.misfit cs s m c x).1 f in said_line (1 + length cs) ts c (Err x) w means g.0 g.1
 
-  -- ---- lines behind others
+  -- ---- lines after others
 
   made_more : (cs : List C) (k : ℕ) (s t u : S) (c : C) → Makes X k s cs t → X.Stands t c → X.add (k + length cs) t c ≡ Ok u → Makes X k s (cs ++ c ∷ []) u
   made_more [] k s t u c m at h = let z : k + 0 ≡ k = omega arith in (u, rw m at, rw (m, ← z) h, refl)

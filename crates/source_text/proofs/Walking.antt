@@ -1,4 +1,4 @@
--- A walk over lines gives the last state where no line is refused, and else the first refusal.
+-- A walk over lines gives the last state where no line is refused, else the first refusal.
 use Rattle.std.proofs.Common.{◌≡◌, ℕ, ◌+◌, List, [], ◌∷◌, ◌++◌, length, refl, sym, ap, subst, ◌∙◌, arith, append_assoc, length-append}
 use Rattle.std.specs.Prelude.{Result, Ok, Err}
 use Rattle.std.proofs.lemmas.List.{append-nil}
@@ -67,7 +67,7 @@ module _ {S E : Type 0} (step : Step S E) where
       let z : k + length (x ∷ front) ≡ k + 1 + length front = omega arith in
       (v, e, leads_more front (k + 1) v t u l more (rw (← z) h))
 
-  -- the lines before the rest, so many, lead to the state
+  -- the lines before the rest are this many, and lead to the state
   pub record AreBefore (s : S) (all rest : List (List ℕ)) (number : ℕ) (t : S) : Type 0 where
     pub front : List (List ℕ)
     pub split : all ≡ front ++ rest

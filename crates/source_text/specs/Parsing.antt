@@ -1,5 +1,5 @@
--- How a text is read: the tokens of each line, what they say behind the lines before it, and what that adds; then the whole. What makes this right
--- is `Agrees`, and `IsReadAsSpelled` is what it gives.
+-- How a text is read: the tokens of each line, what they say after the lines before it, and what that adds; then the whole. `Agrees` states
+-- that this is right, and `IsReadAsSpelled` follows from it.
 use Rattle.std.specs.Prelude.{◌≡◌, ◌↔◌, ℕ, ◌+◌, List, [], ◌∷◌, length, Option, Some, None, Result, Ok, Err}
 use Rattle.source_text.specs.Content.{contents}
 use Rattle.source_text.specs.Tokens.{Spells}
@@ -8,13 +8,13 @@ use Rattle.source_text.specs.Walk.{Leads, StopsAt}
 
 pub record Parser (T F C P E S : Type 0) : Type 1 where
   pub tokens : List ℕ → Option (List T)
-  -- what tokens say behind lines that have left this
+  -- what tokens say after lines that left this state
   pub said : S → List T → Result C F
-  -- behind such lines a line may say this
+  -- after such lines a line may say this
   pub Stands : S → C → Type 0
-  -- what it adds on line `k`
+  -- the state after line `k`, which says this; or its refusal
   pub add : ℕ → S → C → Result S E
-  -- what all lines have left becomes this
+  -- the program of the state after all lines, or the refusal of all lines together
   pub whole : S → Result P E
 
 module _ {T F C P E S : Type 0} (refusals : LineRefusals F E) (X : Parser T F C P E S) where
@@ -26,7 +26,7 @@ module _ {T F C P E S : Type 0} (refusals : LineRefusals F E) (X : Parser T F C 
   add_read k s None = Err (refusals.bad_token k)
   add_read k s (Some ts) = add_said k s (X.said s ts)
 
-  -- what line `k` makes of what those before it left, or its refusal
+  -- the state after line `k`, from the state of the lines before it; or its refusal
   abbrev pub step : ℕ → S → List ℕ → Result S E
   step k s line = add_read k s (X.tokens line)
 
@@ -59,7 +59,7 @@ pub record IsReadAsSpelled {T F C P E S : Type 0} (G : Grammar T F C P E) (X : P
   -- what the lines say, where none is refused
   pub says : (text : List ℕ) (s : S) → Leads (step G.refusals X) 1 start (contents text) s →
       (cs : List C) × SayAll G (contents text) cs × Makes X 1 start cs s
-  -- the program, where all together are not refused either
+  -- the program, where all lines together are not refused either
   pub spelled : (text : List ℕ) (s : S) (p : P) → Leads (step G.refusals X) 1 start (contents text) s → X.whole s ≡ Ok p → SpellsProgram G text p
   -- else the first refusal
   pub ended : (text : List ℕ) (s : S) (e : E) → Leads (step G.refusals X) 1 start (contents text) s → X.whole s ≡ Err e → IsRefused G text e

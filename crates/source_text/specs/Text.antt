@@ -3,11 +3,11 @@ use Rattle.std.specs.Prelude.{◌≡◌, ◌⊎◌, ℕ, ◌+◌, List, [], ◌�
 use Rattle.source_text.specs.Content.{contents}
 use Rattle.source_text.specs.Tokens.{Lexicon, Spells}
 
--- the refusals of a line for itself
+-- the refusals of a line on its own
 pub record LineRefusals (F E : Type 0) : Type 0 where
-  -- of line `k`, which spells no tokens
+  -- the refusal of line `k`, which spells no tokens
   pub bad_token : ℕ → E
-  -- of line `k`, whose tokens have this fault
+  -- the refusal of line `k`, whose tokens have this fault
   pub at_line : ℕ → F → E
 
 -- a language: its tokens, the faults of a line, what a line says, programs and refusals
@@ -16,9 +16,9 @@ pub record Grammar (T F C P E : Type 0) : Type 1 where
   pub refusals : LineRefusals F E
   -- the tokens of a line say this
   pub Says : List T → C → Type 0
-  -- behind lines that say this, the tokens of a line have this fault
+  -- after lines that say this, the tokens of a line have this fault
   pub HasFault : List C → List T → F → Type 0
-  -- behind lines that say this, line `k` may not say that, for this reason
+  -- after lines that say this, line `k` may not say that, for this reason
   pub IsMisfit : ℕ → List C → C → E → Type 0
   -- the first lines of a text may say this
   pub Fit : List C → Type 0
@@ -52,7 +52,7 @@ module _ {T F C P E : Type 0} (G : Grammar T F C P E) where
 
   -- ---- the first refusal
 
-  -- behind lines that say this, line `k` spells no tokens, its tokens have a fault, or what they say does not fit
+  -- after lines that say this, line `k` spells no tokens, its tokens have a fault, or what they say does not fit
   abbrev pub IsRefusedBehind : ℕ → List C → List ℕ → E → Type 0
   IsRefusedBehind k before line e = (((ts : List T) → Spells G.lexicon line ts → ⊥) × (e ≡ G.refusals.bad_token k))
       ⊎ ((ts : List T) × Spells G.lexicon line ts × (((fault : F) × G.HasFault before ts fault × (e ≡ G.refusals.at_line k fault))
@@ -86,10 +86,10 @@ module _ {T F C P E : Type 0} (G : Grammar T F C P E) where
   abbrev pub AtMostOneProgram : Type 0
   AtMostOneProgram = (text : List ℕ) (p q : P) → SpellsProgram text p → SpellsProgram text q → p ≡ q
 
-  -- it has at most one first refusal
+  -- a text has at most one first refusal
   abbrev pub AtMostOneRefusal : Type 0
   AtMostOneRefusal = (text : List ℕ) (e f : E) → IsRefused text e → IsRefused text f → e ≡ f
 
-  -- and never both
+  -- no text spells a program and has a refusal
   abbrev pub NeverBoth : Type 0
   NeverBoth = (text : List ℕ) (p : P) (e : E) → SpellsProgram text p → IsRefused text e → ⊥

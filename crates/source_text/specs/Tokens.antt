@@ -15,7 +15,7 @@ pub record Lexicon (T : Type 0) : Type 1 where
   -- a token of these bytes may stand before those
   pub EndsLexeme : List ℕ → List ℕ → Type 0
 
--- the line is the tokens in order, with blanks before, between and behind them
+-- the line is the tokens in order, with blanks before, between and after them
 abbrev pub Spells : {T : Type 0} → Lexicon T → List ℕ → List T → Type 0
 Spells L text [] = AreBlank text
 Spells L text (t ∷ ts) = (gap : List ℕ) × (lexeme : List ℕ) × (rest : List ℕ)

@@ -1,8 +1,8 @@
--- Reading a source line by line, each line from what those before it left, up to the first refusal.
+-- Reading a source line by line, up to the first refusal. Each line starts from the state that the lines before it left.
 use Rattle.std.specs.Prelude.{◌≡◌, ℕ, ◌+◌, Bool, false, List, [], ◌∷◌, ◌++◌, length, Result, Ok, Err}
 use Rattle.source_text.specs.Content.{contents}
 
--- what line `k` makes of what those before it left, or its refusal
+-- the state after line `k`, from the state of the lines before it; or its refusal
 abbrev pub Step : Type 0 → Type 0 → Type 0
 Step S E = ℕ → S → List ℕ → Result S E
 
@@ -10,7 +10,7 @@ abbrev pub go_on : {S E : Type 0} → (S → Result S E) → Result S E → Resu
 go_on next (Ok s) = next s
 go_on next (Err e) = Err e
 
--- the lines from line `k` on, or the first refusal
+-- the state after the lines from line `k` on, or the first refusal
 unfoldable pub walk : {S E : Type 0} → Step S E → ℕ → S → List (List ℕ) → Result S E
 walk step k s [] = Ok s
 walk step k s (l ∷ ls) = go_on (λ t. walk step (k + 1) t ls) (step k s l)
@@ -29,18 +29,18 @@ pub record StopsAt {S E : Type 0} (step : Step S E) (k : ℕ) (s : S) (ls : List
   pub leads : Leads step k s front t
   pub refused : step (k + length front) t line ≡ Err e
 
--- a refusal is the one that is there, unless memory ran out
+-- the outcome is this refusal, unless memory ran out
 abbrev pub FailsBy : {A E : Type 0} → (E → Bool) → E → Result A E → Type 0
 FailsBy is_memory e outcome = is_memory e ≡ false → outcome ≡ Err e
 
--- a refusal leaves what was there, unless memory ran out
+-- a refusal leaves the old state, unless memory ran out
 abbrev pub StaysBy : {A E : Type 0} → (E → Bool) → E → A → A → Type 0
 StaysBy is_memory e old new = is_memory e ≡ false → new ≡ old
 
--- a refusal is that of the text's first refused line, and leaves what the lines before it left, unless memory ran out
+-- a refusal is that of the text's first refused line, and leaves the state of the lines before it, unless memory ran out
 abbrev pub StopsBy : {S E : Type 0} → (E → Bool) → Step S E → S → List ℕ → E → S → Type 0
 StopsBy is_memory step old text e new = is_memory e ≡ false → StopsAt step 1 old (contents text) e new
 
--- so is one of the lines, and none before it
+-- one of the lines is refused so, and none before it
 abbrev pub FirstRefused : {S E : Type 0} → Step S E → ℕ → S → List (List ℕ) → E → Type 0
 FirstRefused {S} step k s ls e = (before : S) × StopsAt step k s ls e before

@@ -21,7 +21,7 @@ fn strip_carriage_return(line: &[u8]) -> &[u8]
     }
 }
 
-/// The first line of a text, and what stands behind it.
+/// The first line of a text, and the text after it.
 pub fn first_line(text: &[u8]) -> (&[u8], &[u8])
     requires { 0 < length text.now }
     ensures value { lines text.now ≡ result.0.now ∷ lines result.1.now }
@@ -35,7 +35,7 @@ pub fn first_line(text: &[u8]) -> (&[u8], &[u8])
     }
 }
 
-/// What stands before the comment of a line.
+/// The line up to its comment.
 pub fn without_comment(line: &[u8]) -> &[u8]
     ensures { result.now ≡ without_comment line.now }
 {

@@ -11,7 +11,7 @@ pub fn is_name_byte(byte: u8) -> bool
     byte.is_ascii_alphanumeric() || byte == b'_'
 }
 
-/// How many letters, digits and `_` stand at the front.
+/// The number of letters, digits and `_` at the front.
 pub fn name_len(text: &[u8]) -> usize
     ensures value { result ≡ name_len text.now }
     ensures small { result ≤ length text.now }

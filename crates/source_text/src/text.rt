@@ -1,4 +1,4 @@
-//! What texts say.
+//! Languages whose texts are read line by line.
 
 ghost use Rattle.source_text.specs.Parsing.{Agrees, IsReadAsSpelled};
 
@@ -22,16 +22,16 @@ pub trait LineLanguage {
 
     ghost Refusal: { Type 0 };
 
-    /// What the lines so far have left.
+    /// The state after the lines so far.
     ghost State: { Type 0 };
 
-    /// What texts say.
+    /// What a text says, or why it is refused.
     ghost grammar: { Setting → Grammar Token Fault Content Program Refusal };
 
-    /// How they are read.
+    /// How a text is read.
     ghost parser: { Parser Token Fault Content Program Refusal State };
 
-    /// What there is before the first line.
+    /// The state before the first line.
     ghost start: { Setting → State };
 }
 

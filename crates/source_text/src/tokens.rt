@@ -6,7 +6,7 @@ ghost use Rattle.source_text.specs.Tokens.{Spells, is_blank};
 
 use std::alloc::{AllocFailed, Global};
 
-/// Most lines have at most so many tokens.
+/// Most lines have at most this many tokens.
 const ROOM: usize = 12;
 
 /// Why a line has no tokens.
@@ -26,7 +26,7 @@ pub trait Language {
     /// How the tokens are spelled.
     ghost lexicon: { Lexicon Self.Token };
 
-    /// How they are read.
+    /// How the tokens are read.
     ghost lexer: { Lexer Self.Token };
 
     /// How far the first token of a line reaches.
@@ -35,12 +35,12 @@ pub trait Language {
         ensures some { 0 < result }
         ensures small { result ≤ length rest.now + 1 };
 
-    /// The token that is spelled so.
+    /// The token with this spelling.
     fn token(text: &[u8]) -> Option<Self::Token>
         ensures { result ≡ lexer.token text.now };
 }
 
-/// The tokens that a line without its comment spells; BadToken where it spells none.
+/// The tokens that a line without its comment spells; BadToken if it does not spell tokens.
 pub fn tokens_of<L: Language>(alloc: Global, line: &[u8]) -> Result<Vec<L::Token>, TokenError>
     requires { Agrees L.lexicon L.lexer }
     ensures ok { IfOk result (λ tokens. Spells L.lexicon line.now tokens.items) }

@@ -13,25 +13,25 @@ pub trait Reader {
     ghost use Rattle.std.specs.Prelude.{Bool};
     ghost use Rattle.source_text.specs.Walk.{Step};
 
-    /// What the lines so far have left.
+    /// The state after the lines so far.
     ghost State: { Type 0 };
 
     ghost state: { Self → State };
 
     ghost step: { Step State Self.Refusal };
 
-    /// Want of memory, which may come at any line.
+    /// Whether the refusal is out of memory, which may happen at any line.
     ghost is_memory: { Self.Refusal → Bool };
 
-    /// Reads a line, which comes without its comment. A line that is refused leaves what those before it left; want of
-    /// memory may leave anything.
+    /// Reads a line, given without its comment. A refused line leaves the state of the lines before it; running out of
+    /// memory may leave any state.
     fn line(&mut self, number: u32, line: &[u8]) -> Result<(), Self::Refusal>
         ensures ok { OnOk result (step number (state self.old) line.now ≡ Ok (state self.new)) }
         ensures err { IfErr result (λ e. FailsBy is_memory e (step number (state self.old) line.now)) }
         ensures left { IfErr result (λ e. StaysBy is_memory e (state self.old) (state self.new)) };
 }
 
-/// Reads the lines of a text, up to the first refusal, which leaves what the lines before it left.
+/// Reads the lines of a text up to the first refusal, which leaves the state of the lines before it.
 pub fn read_lines<R: Reader>(reader: &mut R, text: &[u8]) -> Result<(), R::Refusal>
     requires { length text.now < 2 ^ 32 }
     ensures ok { OnOk result (Leads R.step 1 (R.state reader.old) (contents text.now) (R.state reader.new)) }

@@ -1,4 +1,4 @@
--- The code of a program. A jump is as far as the sizes between, so the code of a part does not depend on where it stands.
+-- The code of a program. A jump's distance is the size of the code between, so the code of a part does not depend on where it stands.
 use Rattle.std.specs.Prelude.{ℕ, ℤ, pos, neg_ℤ, ◌+◌, not, if◌then◌else◌, nat_le, nat_lt, ◌==◌, List, [], ◌∷◌, ◌++◌, length}
 use Rattle.std.specs.List.{filter, flat_map, enumerate_from, position_or_len}
 use Rattle.ijvm_instr.specs.declared.instr.Instr.{Instr}
@@ -107,7 +107,7 @@ main_code p g = statements_code p 0 g.body ++ HaltCode ∷ []
 abbrev pub method_code : Places → Function → List Instr
 method_code p g = statements_code p 1 g.body ++ Bipush (pos 0) ∷ Ireturn ∷ []
 
--- with its header
+-- the size of a method with its header, in bytes
 abbrev pub method_size : Places → Function → ℕ
 method_size p g = 4 + code_size (method_code p g)
 
@@ -183,7 +183,7 @@ places_of program =
       entry = λ f. if nat_lt f program.main then f + 1 else f;
     }
 
--- where these methods begin, of which the first begins here
+-- where these methods begin; the first begins at this address
 abbrev pub begins : Places → ℕ → List (ℕ × Function) → List ℕ
 begins p begin [] = []
 begins p begin (m ∷ ms) = begin ∷ begins p (begin + method_size p m.1) ms

@@ -87,7 +87,7 @@ is_far z = int_lt z (negsuc 32767) || int_lt (pos 32767) z
 abbrev pub first_far : List Jump → Option Jump
 first_far js = find (λ j. is_far j.1) js
 
--- the code is in the limits, and this is its image
+-- the code is within the limits, and this is its image
 pub record IsCodeOf (program : Program) (image : ImageView) : Type 0 where
   pub main : Function
   pub main_is : slice_get program.functions program.main ≡ Some main

@@ -11,7 +11,7 @@ use Rattle.tiny_code.specs.Laid.{CodeAt}
 abbrev pub IsOther : Program → ℕ → Function → Type 0
 IsOther program f g = (slice_get program.functions f ≡ Some g) × (f ≢ program.main)
 
--- after these bytes and before those the code stands as it is written, where it ends within the addresses
+-- between these bytes and those the code stands as it is written, where it ends within the addresses
 abbrev pub StandsBetween : List ℕ → List ℕ → List Instr → Type 0
 StandsBetween before after code =
     length before + code_size code ≤ 65536 → CodeAt (before ++ (flat_map spelling code ++ after)) (length before) code

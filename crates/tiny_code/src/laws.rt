@@ -18,7 +18,7 @@ pub fn methods_are_the_others()
     ensures sound { (p : Program) (f : ℕ) (g : Function) → Contains (methods p) (f, g) → IsOther p f g }
 {}
 
-/// An image in which a program is laid out has all that a run of it takes.
+/// An image in which a program is laid out has all that a run of the program needs.
 pub fn laid_out_programs_hold()
     ensures { (image : ImageView) (p : Places) (program : Program) → IsLaidOut image p program → Holds image p program }
 {}

@@ -78,7 +78,7 @@ prefix_short p (y ∷ ys) = by (not (p y)) (prefix_short p ys)
     by true short = omega (arith, short)
     by false short = omega arith
 
--- after these
+-- a place after the front is a place of the back
 pub get_after : (front back : List ℕ) (k : ℕ) → slice_get (front ++ back) (length front + k) ≡ slice_get back k
 get_after [] back k = let e : 0 + k ≡ k = omega arith in ap (slice_get back) e
 get_after (x ∷ front) back k =

@@ -19,7 +19,7 @@ ExceedsBy program main e = ⊥
 abbrev pub IsTooLarge : Program → TinyError → Type 0
 IsTooLarge program e = (main : Function) × (slice_get program.functions program.main ≡ Some main) × ExceedsBy program main e
 
--- what is emitted of a program whose pool is within its limit exceeds another one, by this
+-- what is emitted of a program whose pool is within its limit exceeds another limit, by this
 abbrev pub EmittedExceedsBy : Emitted → TinyError → Type 0
 EmittedExceedsBy emitted e = (program : Program) (main : Function) → IsEmitted program main emitted →
     length (pool_of program main) ≤ 16384 → ExceedsBy program main e

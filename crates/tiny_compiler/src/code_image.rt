@@ -13,10 +13,10 @@ use tiny_emit::{Emitted, emit};
 use tiny_parser::{Function, TinyError};
 use tiny_pool::{Table, make_pool};
 
-/// How many words a pool has at most.
+/// The most words of a pool.
 const MOST_WORDS: u32 = 16384;
 
-/// How many bytes a text has at most.
+/// The most bytes of a text.
 const MOST_BYTES: usize = 65536;
 
 /// The limits of an emitted program, in their order.

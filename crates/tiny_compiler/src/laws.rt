@@ -45,7 +45,7 @@ pub fn compiled_programs_run_as_meant()
     images_run_as_meant();
 }
 
-/// A law: a text compiles to at most one program, is not refused beside, and has at most one refusal.
+/// A law: a text compiles to at most one program, has at most one refusal, and never has both.
 pub fn texts_compile_to_one_program()
     ensures one_program { (text : List ℕ) (v w : VerifiedView) → IsCompiled text v → IsCompiled text w → v ≡ w }
     ensures not_both { (text : List ℕ) (v : VerifiedView) (e : TinyError) → IsCompiled text v → HasNoCode text e → ⊥ }

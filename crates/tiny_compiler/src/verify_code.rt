@@ -11,7 +11,7 @@ use ijvm_image::Image;
 use ijvm_verifier::{VerifiedImage, VerifyError, verify};
 use std::alloc::{AllocError, Global};
 
-/// Verifies the image of a program's code on the standard map. It is never refused: the one error is want of memory.
+/// Verifies the image of a program's code on the standard map. It is never refused; the only error is out of memory.
 pub fn verified(alloc: Global, image: Image) -> Result<VerifiedImage, AllocError>
     requires { IsCoded image }
     ensures image { IfOk result (λ v. v.image ≡ image) }

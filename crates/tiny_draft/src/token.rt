@@ -31,13 +31,13 @@ pub enum Sign {
 /// What a token is.
 #[derive(Clone, Copy)]
 pub enum Kind {
-    /// By its number among the names of the text.
+    /// A name, by its number among the names of the text.
     Name(u32),
     Number(u32),
     Of(Sign),
-    /// It begins no token.
+    /// Bytes that are no token.
     Bad,
-    /// A number that does not read.
+    /// A number that cannot be read.
     Unread,
 }
 

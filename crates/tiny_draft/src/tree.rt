@@ -98,7 +98,7 @@ pub enum Statement {
         line: u32,
         arguments: Items<Expr>,
     },
-    /// A call with one argument, which takes no list.
+    /// A call with one argument, which needs no list.
     CallWithOne {
         name: u32,
         line: u32,

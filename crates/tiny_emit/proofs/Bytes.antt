@@ -74,7 +74,7 @@ module _ (p : Places) (local : ℕ) where
       then_bytes old a new (LdcW 0 ∷ []) (code ++ Invokevirtual (p.entry f) ∷ []) first
       (then_bytes a b new code (Invokevirtual (p.entry f) ∷ []) inner last')
 
-  -- one step more
+  -- one more step
   pub step_bytes : (old a b new : List ℕ) (ss : List Step) (i : ℕ) (s : Step) → i < length ss → s ≡ get_or ss i s →
       old ≡ a ++ code_bytes (steps_code p local (steps_of (map step_tree (drop i ss)))) →
       b ≡ a ++ code_bytes (term_code p local (term_tree (out-Step s).term)) → new ≡ b ++ code_bytes (operator_code (out-Step s).operator ∷ []) →
@@ -88,7 +88,7 @@ module _ (p : Places) (local : ℕ) where
       ∙ ap (λ (x : Operator × tree.Term). a ++ code_bytes (term_code p local x.1 ++ (operator_code x.0 ∷ rest))) (step_tree_out s)
       ∙ sym (then_bytes a b (new ++ code_bytes rest) t (o ++ rest) first (then_bytes b new (new ++ code_bytes rest) o rest last refl))
 
-  -- one argument more
+  -- one more argument
   pub argument_bytes : (old a new : List ℕ) (es : List Expr) (i : ℕ) (e : Expr) → i < length es → e ≡ get_or es i e →
       old ≡ a ++ code_bytes (arguments_code p local (arguments_of (map expr_tree (drop i es)))) →
       new ≡ a ++ code_bytes (expr_code p local (expr_tree e)) →
@@ -99,14 +99,14 @@ module _ (p : Places) (local : ℕ) where
       ∙ ap (λ (l : List Expr). a ++ code_bytes (arguments_code p local (arguments_of (map expr_tree l)))) (drop_item es i e lt is)
       ∙ sym (then_bytes a new (new ++ code_bytes rest) (expr_code p local (expr_tree e)) rest first refl)
 
-  -- no step more
+  -- no further step
   pub steps_done : (whole new : List ℕ) (ss : List Step) (i : ℕ) → length ss ≤ i →
       whole ≡ new ++ code_bytes (steps_code p local (steps_of (map step_tree (drop i ss)))) → new ≡ whole
   steps_done whole new ss i h all =
       sym (all ∙ ap (λ (l : List Step). new ++ code_bytes (steps_code p local (steps_of (map step_tree l)))) (drop_none ss i h)
       ∙ ap (λ (x : List ℕ). new ++ x) none ∙ append-nil new)
 
-  -- no argument more
+  -- no further argument
   pub arguments_done : (whole new : List ℕ) (es : List Expr) (i : ℕ) → length es ≤ i →
       whole ≡ new ++ code_bytes (arguments_code p local (arguments_of (map expr_tree (drop i es)))) → new ≡ whole
   arguments_done whole new es i h all =

@@ -19,7 +19,7 @@ module _ (p : Places) (local : ℕ) where
   abbrev Jumps : List Statement → List Jump
   Jumps ss = statements_jumps p local (statements_of (map statement_tree ss))
 
-  -- one statement more
+  -- one more statement
   pub statement_added : (a b end : Part) (ss : List Statement) (i : ℕ) (s : Statement) → i < length ss → s ≡ get_or ss i s →
       Adds a b (code_bytes (statement_code p local (statement_tree s))) (statement_jumps p local (statement_tree s)) →
       Adds b end (Code (drop (i + 1) ss)) (Jumps (drop (i + 1) ss)) →
@@ -30,6 +30,6 @@ module _ (p : Places) (local : ℕ) where
       (then_code a b end (statement_code p local (statement_tree s)) (statements_code p local rest)
       (statement_jumps p local (statement_tree s)) (statements_jumps p local rest) h k)
 
-  -- no statement more
+  -- no further statement
   pub statements_done : (a : Part) (ss : List Statement) (i : ℕ) → length ss ≤ i → Adds a a (Code (drop i ss)) (Jumps (drop i ss))
   statements_done a ss i h = subst (λ (l : List Statement). Adds a a (Code l) (Jumps l)) (sym (drop_none ss i h)) (no_code a)

@@ -60,11 +60,11 @@ module _ (p : Places) where
   pub no_methods : (a : Methods) → AddsMethods p a a []
   no_methods a = record { part = nothing a.part; begins = sym (append-nil a.begins.items) }
 
-  -- a method's code does not tell its position
+  -- a method's code does not depend on its position
   pub at_any : (a b : Methods) (i j : ℕ) (g : Function) → AddsMethods p a b ((i, g) ∷ []) → AddsMethods p a b ((j, g) ∷ [])
   at_any a b i j g h = record { part = h.part; begins = h.begins }
 
-  -- one method more
+  -- one more method
   pub methods_added : (a b c : Methods) (m : ℕ × Function) (ms : List (ℕ × Function)) → AddsMethods p a b (m ∷ []) → AddsMethods p b c ms →
       AddsMethods p a c (m ∷ ms)
   methods_added a b c m ms h k =

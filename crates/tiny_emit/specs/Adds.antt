@@ -29,13 +29,13 @@ jump_of j = (j.line, j.distance)
 abbrev pub far_of : Option Jump → Option image.Jump
 far_of far = option_map jump_of far
 
--- these bytes, with these jumps, are added to the old part; where a jump is too far, so many bytes
+-- these bytes, with these jumps, are added to the old part; where a jump is too far, only the number of bytes is kept
 pub record Adds (old new : Part) (added : List ℕ) (js : List image.Jump) : Type 0 where
   pub size : length new.bytes.items ≡ length old.bytes.items + length added
   pub far : far_of new.far ≡ option_or (far_of old.far) (first_far js)
   pub bytes : far_of new.far ≡ None → new.bytes.items ≡ old.bytes.items ++ added
 
--- the part is these bytes, with these jumps; where a jump is too far, so many bytes
+-- the part is these bytes, with these jumps; where a jump is too far, only the number of bytes is kept
 pub record IsPart (part : Part) (all : List ℕ) (js : List image.Jump) : Type 0 where
   pub size : length part.bytes.items ≡ length all
   pub far : far_of part.far ≡ first_far js

@@ -96,7 +96,7 @@ module _ (table : Table) (local : ℕ) where
   abbrev pub IsBlock : Part → Block → Type 0
   IsBlock part b = IsCode part (statements_code (places_in table) local (block_tree b)) (statements_jumps (places_in table) local (block_tree b))
 
-  -- the same of the block after `else`, where there is one
+  -- the part is the code of the block after `else`, where there is one, with its jumps
   abbrev pub IsElse : Part → Option Block → Type 0
   IsElse part b = let other : tree.Else = else_of (option_map block_tree b) in
       IsCode part (else_code (places_in table) local other) (else_jumps (places_in table) local other)

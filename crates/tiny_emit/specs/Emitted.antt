@@ -24,7 +24,7 @@ header_of f = two_bytes (f.parameters + 1) ++ two_bytes (vars_of (block_tree f.b
 abbrev pub AddsMain : Places → Part → Part → Function → Type 0
 AddsMain p old new g = AddsCode old new (main_code p g) (statements_jumps p 0 g.body)
 
--- a method with its header, whose code does not tell the position of its function
+-- a method with its header, whose code does not depend on the position of its function
 abbrev pub AddsMethod : Places → Part → Part → Function → Type 0
 AddsMethod p old new g = Adds old new (method_bytes p (0, g)) (method_jumps p (0, g))
 

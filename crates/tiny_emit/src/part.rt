@@ -18,7 +18,7 @@ pub struct Jump {
     pub distance: i32,
 }
 
-/// Where a jump is too far, 0 stands in its place as its operand.
+/// A jump that is too far has 0 as its operand.
 #[derive(Drop)]
 pub(crate) struct Part {
     pub(crate) bytes: Vec<u8>,

@@ -113,7 +113,7 @@ impl Methods {
     }
 }
 
-/// The code of the program of these functions. A text of 2^30 bytes or more may count as too long for the memory.
+/// The code of the program of these functions. A text of 2^30 bytes or more may be reported as out of memory.
 pub fn emit(
     alloc: Global,
     table: &Table,

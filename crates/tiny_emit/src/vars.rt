@@ -8,7 +8,7 @@ ghost use Rattle.tiny_tree.specs.View.{block_tree, statement_tree};
 use std::alloc::AllocError;
 use tiny_tree::{Block, Statement};
 
-/// It is an error where it is no u32.
+/// The sum of two counts; it is an error if it does not fit a u32.
 pub(crate) fn sum(a: u32, b: u32) -> Result<u32, AllocError>
     ensures { IfOk result (λ n. n ≡ a + b) }
 {

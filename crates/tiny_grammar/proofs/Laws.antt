@@ -20,7 +20,7 @@ use Rattle.tiny_grammar.proofs.Runs.{Stuck, Why, astray, at_end, at_token, deep,
 use Rattle.tiny_grammar.proofs.Taken.{take_program}
 use Rattle.tiny_grammar.proofs.Texts.{start, taken_begins, taken_whole}
 
--- ---- no part begins with a token that is none, or with a number that does not read
+-- ---- no part begins with a token that is none, or with a number that cannot be read
 
 begins_bad : (p : Part) → begins p kinds.Bad ≡ None
 begins_bad (m.Want s) = refl
@@ -87,7 +87,7 @@ goes_on front t qs h b =
     let all = begun (front ++ t ∷ []) b in
     (all.0, one_step t qs all.0 (sym (steps_more front (t ∷ []) start qs h) ∙ all.1))
 
--- and only there
+-- the machine goes on only there
 goes_well : (front : List Token) (t : Token) (qs rs : List Part) → steps start front ≡ Some qs → follow qs t.kind ≡ Some rs → Begins (front ++ t ∷ [])
 goes_well front t qs rs h f = taken_begins (front ++ t ∷ []) rs (steps_more front (t ∷ []) start qs h ∙ rw f refl)
 

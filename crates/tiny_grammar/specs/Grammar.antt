@@ -1,4 +1,4 @@
--- The grammar: how a tree is spelled. Of the lines only those of names, `if`, `while` and `return` are kept, so the other tokens stand here without.
+-- The grammar: how a tree is spelled. Only names, `if`, `while` and `return` keep their lines, so the other tokens stand here without lines.
 use Rattle.std.specs.Prelude.{◌≡◌, ℕ, List, [], ◌∷◌, ◌++◌, map}
 use Rattle.tiny_tree.specs.declared.tree.Operator.{Operator}
 use Rattle.tiny_tree.specs.declared.tree.Operator.TheVariants as operators

@@ -1,4 +1,4 @@
--- The grammar read token by token: which parts are still to come. It is a tool of the proofs; what makes it right are the laws of `Refusals` and `Grammar`.
+-- The grammar read token by token: which parts are still to come. It is a tool of the proofs; the laws of `Refusals` and `Grammar` show that it is right.
 use Rattle.std.specs.Prelude.{ℕ, ◌+◌, ◌-◌, ◌==◌, ◌&&◌, Bool, true, false, List, [], ◌∷◌, ◌++◌, Option, Some, None, Result, Ok, Err, if◌then◌else◌, option_map}
 use Rattle.tiny_tree.specs.declared.tree.Operator.{Operator}
 use Rattle.tiny_tree.specs.declared.tree.Operator.TheVariants as operators
@@ -192,7 +192,7 @@ fault_by kinds.Bad line = refusals.BadToken line
 fault_by kinds.Unread line = refusals.BadNumber line
 fault_by _ line = refusals.BadSyntax line
 
--- why the first token is refused, which does not follow
+-- why the first token, which does not follow, is refused
 abbrev pub fault : List Token → Refusal
 fault [] = refusals.Unfinished
 fault (t ∷ ts) = fault_by t.kind t.line
@@ -216,7 +216,7 @@ abbrev pub spent : List Part → Bool
 spent [] = true
 spent (p ∷ ps) = is_optional p && spent ps
 
--- the tokens, with so many levels left to open and these parts to come, or the first refusal
+-- the tokens, with this many levels left to open and these parts to come, or the first refusal
 unfoldable pub walk : ℕ → List Part → List Token → Outcome
 walk levels ps [] = if spent ps then Ok tt else Err refusals.Unfinished
 walk levels ps (t ∷ ts) = take_on levels t (follow ps t.kind) (λ l qs. walk l qs ts)

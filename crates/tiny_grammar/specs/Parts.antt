@@ -36,10 +36,10 @@ ReadsStatement levels ts s rest = Reads levels AStatement ts (spell_statement (s
 abbrev pub ReadsCall : ℕ → List Token → List Expr → List Token → Type 0
 ReadsCall levels ts es rest = Reads levels MaybeCall ts (sign signs.Open ∷ spell_arguments (arguments_of (map expr_tree es))) rest
 
--- with the closing parenthesis, which leaves one level more
+-- the arguments with the closing parenthesis, which leaves one more level
 abbrev pub ReadsArguments : ℕ → List Token → List Expr → List Token → Type 0
 ReadsArguments levels ts es rest = Moves levels (Arguments ∷ []) ts (spell_arguments (arguments_of (map expr_tree es))) (levels + 1) [] rest
 
--- the tokens spell a program, and open at most so many levels at once
+-- the tokens spell a program, and open at most this many levels at once
 abbrev pub AreProgram : ℕ → List Token → Type 0
 AreProgram levels ts = (p : List tree.Function) × SpellsProgram ts p × IsShallow levels ts

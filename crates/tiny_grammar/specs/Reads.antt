@@ -1,4 +1,4 @@
--- What is said of a function that reads a part from the front of the tokens.
+-- What holds of a function that reads a part from the front of the tokens.
 use Rattle.std.specs.Prelude.{◌≡◌, ℕ, ◌+◌, Bool, true, false, List, [], ◌∷◌, ◌++◌, length, map, None, Some, Err}
 use Rattle.tiny_draft.specs.declared.token.Token.{Token}
 use Rattle.tiny_draft.specs.declared.token.Sign.{Sign}
@@ -49,26 +49,26 @@ pub record Sees (s : Sign) (ts rest : List Token) : Type 0 where
   pub split : ts ≡ token ∷ rest
   pub is : token.kind ≡ kinds.Of s
 
--- so does the name, with its line
+-- the name comes first, with its line, and the rest after it
 pub record NameAt (w : Word) (ts rest : List Token) : Type 0 where
   pub token : Token
   pub split : ts ≡ token ∷ rest
   pub is : token.kind ≡ kinds.Name w.name
   pub line : token.line ≡ w.line
 
--- so does the number
+-- the number comes first, and the rest after it
 pub record NumberAt (n : ℕ) (ts rest : List Token) : Type 0 where
   pub token : Token
   pub split : ts ≡ token ∷ rest
   pub is : token.kind ≡ kinds.Number n
 
--- so does the operator
+-- the operator comes first, and the rest after it
 pub record OperatorAt (o : Operator) (ts rest : List Token) : Type 0 where
   pub token : Token
   pub split : ts ≡ token ∷ rest
   pub is : operator_of token.kind ≡ Some o
 
--- so does the comparison
+-- the comparison comes first, and the rest after it
 pub record ComparisonAt (c : Comparison) (ts rest : List Token) : Type 0 where
   pub token : Token
   pub split : ts ≡ token ∷ rest
@@ -79,7 +79,7 @@ pub record HoldsNoBlock (ts : List Token) : Type 0 where
   pub no_while : is_sign signs.While (first_kind ts) ≡ None
   pub no_if : is_sign signs.If (first_kind ts) ≡ None
 
--- the statement begins with the name, and these tokens say the rest of it
+-- the statement begins with the name, and these tokens spell the rest of it
 pub record Says (levels : ℕ) (w : Word) (s : Statement) (ts rest : List Token) : Type 0 where
   pub text : List Token
   pub is : spell_statement (statement_tree s) ≡ word w ∷ text

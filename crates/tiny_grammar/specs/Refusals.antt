@@ -33,7 +33,7 @@ left_by Stays levels = levels
 left_by Opens levels = levels - 1
 left_by Closes levels = levels + 1
 
--- how many of so many levels are left to open after these tokens
+-- how many of these levels are left to open after these tokens
 abbrev pub left : ℕ → List Token → ℕ
 left levels [] = levels
 left levels (t ∷ ts) = left (left_by (turn t.kind) levels) ts
@@ -49,7 +49,7 @@ IsShallow levels (t ∷ ts) = MayTurn (turn t.kind) levels × IsShallow (left_by
 
 -- ---- the first refusal
 
--- why this token is refused after those, with so many levels left
+-- why this token is refused after those, with this many levels left
 abbrev pub IsReason : ℕ → List Token → Token → Refusal → Type 0
 IsReason levels front t (refusals.BadToken line) = (t.kind ≡ kinds.Bad) × (line ≡ t.line)
 IsReason levels front t (refusals.BadNumber line) = (t.kind ≡ kinds.Unread) × (line ≡ t.line)
@@ -67,7 +67,7 @@ pub record IsRefusedAt (levels : ℕ) (ts : List Token) (e : Refusal) : Type 0 w
   pub shallow : IsShallow levels front
   pub reason : IsReason (left levels front) front token e
 
--- none of them is, but they end inside the program
+-- none of the tokens is refused, but they end inside the program
 pub record IsCutShort (levels : ℕ) (ts : List Token) : Type 0 where
   pub begun : Begins ts
   pub shallow : IsShallow levels ts

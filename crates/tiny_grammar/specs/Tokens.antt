@@ -18,7 +18,7 @@ abbrev pub rest_of : List Token → List Token
 rest_of [] = []
 rest_of (t ∷ ts) = ts
 
--- which sign it is, in the order of their declaration
+-- the number of a sign, in the order of their declaration
 abbrev pub rank : Sign → ℕ
 rank signs.Open = 0
 rank signs.Close = 1

@@ -1,4 +1,4 @@
-//! Reads the statement and the block at the front of the tokens, after the grammar of Tiny.
+//! Reads the statement and the block at the front of the tokens, by the grammar of Tiny.
 
 ghost use Rattle.std.specs.Prelude.{◌∷◌, [], MatchOption, IfOk, IfErr};
 ghost use Rattle.tiny_draft.specs.Branches.{else_tree};

@@ -18,7 +18,7 @@ pub enum Refusal {
     OutOfMemory,
 }
 
-/// Why the first token is refused, which does not follow the grammar.
+/// Why the first token, which does not follow the grammar, is refused.
 pub(crate) fn refused(tokens: &[Token]) -> Refusal
     ensures { result ≡ fault tokens.now }
 {

@@ -1,4 +1,4 @@
-//! Takes one token from the front, where it is what is asked for.
+//! Takes one token from the front, if it is the one that is expected.
 
 ghost use Rattle.std.specs.Prelude.{◌≡◌, None, IfSome, IsNone, IfOk, IfErr, IsErr};
 ghost use Rattle.tiny_grammar.specs.Machine.{comparison_of, fault, is_name, is_number, is_sign, is_the_sign, operator_of};
@@ -9,7 +9,7 @@ use crate::refusal::{Refusal, refused};
 use tiny_draft::{Comparison, Kind, Sign, Token, Word};
 use tiny_tree::Operator;
 
-/// Which sign it is, in the order of their declaration.
+/// The number of a sign, in the order of their declaration.
 fn rank(sign: Sign) -> u8
     ensures { result ≡ rank sign }
 {
@@ -40,7 +40,7 @@ fn rank(sign: Sign) -> u8
     }
 }
 
-/// What the first token is; where there is none, what begins no token.
+/// The kind of the first token; Bad where there is none.
 fn first_kind(tokens: &[Token]) -> Kind
     ensures { result ≡ first_kind tokens.now }
 {
@@ -50,7 +50,7 @@ fn first_kind(tokens: &[Token]) -> Kind
     }
 }
 
-/// The line of the first token; where there is none, 0.
+/// The line of the first token; 0 where there is none.
 pub(crate) fn first_line(tokens: &[Token]) -> u32
     ensures { result ≡ first_line tokens.now }
 {

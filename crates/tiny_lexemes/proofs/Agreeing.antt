@@ -265,7 +265,7 @@ read lexemes.Unread text rest is e = let n = read_number text is.0 in let v = is
 
 -- ---- what is read is spelled
 
--- the first byte, and so many after it
+-- the first byte, and this many after it
 front : (b n : ℕ) (rest : List ℕ) → take (n + 1) (b ∷ rest) ≡ b ∷ take n rest
 front b n rest = let k : n + 1 ≡ suc n = omega arith in rw k refl
 
@@ -435,7 +435,7 @@ is_lexeme text t front h = elim (chosen (begins_number text) (Some (number_lexem
 fronts : (b : ℕ) (rest : List ℕ) → IsFront (take (extent (b ∷ rest)) (b ∷ rest))
 fronts b rest = record { number = λ d. is_number b rest (begins_first b (extent (b ∷ rest)) rest d); bad = λ d s n k. is_bad b rest d s n k }
 
--- ---- what the walk over tokens asks
+-- ---- what the walk over tokens needs
 
 some : (b : ℕ) (rest : List ℕ) → 0 < extent (b ∷ rest)
 some b rest = go (is_name_byte b) (b == 39) ((b == 61 || b == 33) && begins_equal rest) rest

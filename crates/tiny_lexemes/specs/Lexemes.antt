@@ -1,5 +1,5 @@
--- Which tokens a line spells. Every byte that is no blank belongs to one: what begins no token, and a number that does
--- not read, are tokens of kinds of their own.
+-- Which tokens a line spells. Every byte that is no blank belongs to one: what begins no token, and a number that cannot
+-- be read, are tokens of kinds of their own.
 use Rattle.std.specs.Prelude.{◌≡◌, ◌⊎◌, ℕ, ℤ, pos, ◌≤◌, ◌<◌, ◌==◌, ◌||◌, Bool, true, false, List, [], ◌∷◌, length, Option, Some, None, Result, Ok, if◌then◌else◌, nat_le}
 use Rattle.std.specs.Char.{is_ascii_digit}
 use Rattle.std.specs.List.{list_all}

@@ -34,6 +34,6 @@ all_signs = signs.Open ∷ signs.Close ∷ signs.Begin ∷ signs.End ∷ signs.C
     ∷ signs.Equal ∷ signs.Different ∷ signs.Less ∷ signs.Plus ∷ signs.Minus ∷ signs.And ∷ signs.Or ∷ signs.Fn ∷ signs.Var
     ∷ signs.If ∷ signs.Else ∷ signs.While ∷ signs.Return ∷ signs.Put ∷ signs.Get ∷ signs.Halt ∷ []
 
--- the sign that is spelled so
+-- the sign with this spelling
 abbrev pub find_sign : List ℕ → Option Sign
 find_sign text = find (λ s. bytes_eq (sign_text s) text) all_signs

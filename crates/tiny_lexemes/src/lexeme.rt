@@ -16,9 +16,9 @@ pub enum Lexeme {
     Of(Sign),
     Name(Name),
     Number(u32),
-    /// It begins no token.
+    /// Bytes that are no token.
     Bad,
-    /// A number that does not read.
+    /// A number that cannot be read.
     Unread,
 }
 

@@ -61,7 +61,7 @@ fn sign_text(sign: Sign) -> &'static str
     }
 }
 
-/// The sign or reserved word that is spelled so.
+/// The sign or reserved word with this spelling.
 pub(crate) fn find_sign(text: &[u8]) -> Option<Sign>
     ensures { result ≡ find_sign text.now }
 {

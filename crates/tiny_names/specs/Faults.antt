@@ -89,7 +89,7 @@ abbrev pub parameter_faults : List ℕ → List Word → List Fault
 parameter_faults declared [] = []
 parameter_faults declared (w ∷ ws) = declare_faults declared w ++ parameter_faults (declared ++ w.name ∷ []) ws
 
--- of a function's own name: the first function of it stands here, and `main` has no parameters
+-- the faults of a function's own name: the first function of it stands here, and `main` has no parameters
 abbrev pub own_faults : Option Signature → ℕ → Function → List Fault
 own_faults None place f = faults.DuplicateName f.name.line ∷ []
 own_faults (Some s) place f = if s.place == place then
@@ -104,12 +104,12 @@ module _ (known : ℕ → Option Signature) where
   abbrev pub function_faults : ℕ → Function → List Fault
   function_faults place f = own_faults (known f.name.name) place f ++ (parameter_faults [] f.parameters ++ body_faults f)
 
-  -- of functions, the first of which has this place
+  -- the faults of functions, the first of which has this place
   abbrev pub faults_from : ℕ → List Function → List Fault
   faults_from place [] = []
   faults_from place (f ∷ fs) = function_faults place f ++ faults_from (place + 1) fs
 
--- after all others, that there is no `main`
+-- the fault that there is no `main`, after all others
 abbrev pub main_faults : Option Signature → List Fault
 main_faults None = faults.NoMain ∷ []
 main_faults (Some s) = []

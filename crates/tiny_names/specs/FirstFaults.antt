@@ -28,7 +28,7 @@ names_of_branches b = let blocks = branches_tree b in all_names blocks.0 ++ else
 module _ (functions : List (Option Signature)) where
   -- ---- expressions, with the variables that are seen
 
-  -- of a function that is called, by its name
+  -- the first fault of a function that is called, by its name
   abbrev pub name_fault : ℕ → ℕ → List Expr → Option Fault
   name_fault name line es = first (call_faults (lookup functions) (at name line) (count (arguments_of (map expr_tree es))))
 
@@ -44,7 +44,7 @@ module _ (functions : List (Option Signature)) where
   abbrev pub argument_fault : List ℕ → List Expr → Option Fault
   argument_fault seen es = first (argument_faults (lookup functions) seen (arguments_of (map expr_tree es)))
 
-  -- of the function that is called, then of its arguments
+  -- the first fault of the function that is called, then of its arguments
   abbrev pub call_fault : List ℕ → ℕ → ℕ → List Expr → Option Fault
   call_fault seen name line es = first (call_faults (lookup functions) (at name line) (count (arguments_of (map expr_tree es)))
       ++ argument_faults (lookup functions) seen (arguments_of (map expr_tree es)))
@@ -86,7 +86,7 @@ module _ (functions : List (Option Signature)) where
   abbrev pub own_fault : ℕ → Function → Option Fault
   own_fault place f = first (own_faults (lookup functions f.name.name) place (function_tree f))
 
-  -- of its parameters, then of its body
+  -- the first fault of a function's parameters, then of its body
   abbrev pub inner_fault : Function → Option Fault
   inner_fault f = first (parameter_faults [] f.parameters ++ body_faults (lookup functions) (function_tree f))
 

@@ -56,7 +56,7 @@ abbrev mutual
   all_names no_statements = []
   all_names (statement s ss) = names s ++ all_names ss
 
--- the names that are seen after it and were not before
+-- the names that are seen after the statement and were not before
 abbrev pub shows : Statement → List ℕ
 shows (Var w e) = w.name ∷ []
 shows _ = []

@@ -1,4 +1,4 @@
--- Which fault is reported: the first. That memory is out may be reported at any time.
+-- Which fault is reported: the first. Out of memory may be reported at any time.
 use Rattle.std.specs.Prelude.{◌≡◌, List, Some, ⊤}
 use Rattle.tiny_names.specs.declared.fault.Fault.{Fault}
 use Rattle.tiny_names.specs.declared.fault.Unresolved.{Unresolved}

@@ -1,4 +1,4 @@
--- The plain tree that a program is.
+-- The plain tree of a program.
 use Rattle.std.specs.Prelude.{map}
 use Rattle.tiny_names.specs.declared.tiny_program.TinyProgram.{TinyProgram}
 use Rattle.tiny_tree.specs.Tree.{Program}

@@ -26,7 +26,7 @@ pub(crate) fn called(functions: &[Option<Signature>], name: u32) -> Option<Signa
     }
 }
 
-/// At the number of each name, the first function of it.
+/// The table of functions: at the number of each name, the first function with that name.
 pub(crate) fn signatures(
     alloc: Global,
     functions: &[Function],

@@ -1,4 +1,4 @@
-//! A program of Tiny whose names are resolved, which its type keeps.
+//! A program of Tiny; its type keeps that its names are resolved.
 
 ghost use Rattle.std.specs.Prelude.{◌≡◌, map};
 ghost use Rattle.tiny_names.specs.View.{program_tree};

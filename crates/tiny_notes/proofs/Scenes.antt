@@ -58,7 +58,7 @@ pub record Suits (f : Frame) (seen : Seen) (d : ℕ) (m : Note) : Type 0 where
   pub depth : m.depth ≡ d
   pub set : (k : ℕ) → m.set k ≡ true → set_of f.local seen k ≡ true
 
--- what a call of a function with so many parameters finds at its constant
+-- what a call of a function with this many parameters finds at its constant
 pub record CallFinds (image : ImageView) (whole : List Item) (k parameters : ℕ) : Type 0 where
   pub method : FindsMethod image (note_at whole) k
   pub constant : k < length image.pool

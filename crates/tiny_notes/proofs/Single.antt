@@ -17,7 +17,7 @@ use Rattle.tiny_notes.proofs.Scenes.{Scene, Suits, note_of, set_of, takes, next_
 abbrev pub IsLocal : Scene → ℕ → Type 0
 IsLocal u k = (u.frame.local ≤ k) × (k < u.frame.local + u.names)
 
--- all but where the instruction leads
+-- what the instruction's note needs, except where the instruction leads
 pub record Ready (u : Scene) (seen : Seen) (i : Instr) (d : ℕ) : Type 0 where
   pub constant : HasConstant u.frame.image.pool (row_of i).constant
   pub needs : need_of u.frame.image (row_of i).needs (row_of i).flow ≡ Some (takes u.frame.image i)
@@ -40,7 +40,7 @@ pub record IsPlain (u : Scene) (i : Instr) : Type 0 where
   pub no_store : (row_of i).stores ≡ None
 
 module _ (u : Scene) (seen : Seen) where
-  -- the note with so many operands
+  -- the note with this many operands
   abbrev pub note : ℕ → Note
   note d = note_of u.frame seen d
 
@@ -129,7 +129,7 @@ module _ (u : Scene) (seen : Seen) where
           led_to (Goto o) 0 x m (ap (note_at u.whole) (h.2 ∙ ap (target at) (sym same) ∙ there) ∙ is_note) (omega arith)
           (at_depth u.frame seen 0 (0 + 0 - 0) m (omega arith) s)
 
-  -- a test's jump, which takes so many operands
+  -- a test's jump, which takes this many operands
   pub record IsBranch (i : Instr) (o : ℤ) (d : ℕ) : Type 0 where
     pub flow : (row_of i).flow ≡ flows.Branch o
     pub takes_is : takes u.frame.image i ≡ d

@@ -201,7 +201,7 @@ module _ (f : Frame) where
 
 -- ---- items in a list
 
--- an instruction has a size
+-- an instruction has at least one byte
 size_least : (i : Instr) → 1 ≤ size_of (row_of i)
 size_least (Goto o) = omega arith
 size_least i = omega arith

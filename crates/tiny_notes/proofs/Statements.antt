@@ -114,7 +114,7 @@ module _ (u : Scene) where
     pub there : note_at u.whole at ≡ Some first
     pub suits : Suits u.frame seen 0 first
 
-  -- so they are wherever they stand, with a note after them that suits what is seen then
+  -- the items are fine wherever they stand, with a note after them that suits what is seen then
   abbrev pub Part : Seen → Seen → List Item → Type 0
   Part seen then_seen xs = (at : ℕ) (last : Note) → At at xs last → Suits u.frame then_seen 0 last → at + items_size xs ≤ 65536 → Fine seen at xs
 

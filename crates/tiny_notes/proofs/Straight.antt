@@ -41,7 +41,7 @@ depth_append u [] b d = refl
 depth_append u (i ∷ a) b d = depth_append u a b (next_depth u.frame.image i d)
 
 module _ (u : Scene) (seen : Seen) where
-  -- the note with so many operands
+  -- the note with this many operands
   abbrev note : ℕ → Note
   note d = note_of u.frame seen d
 

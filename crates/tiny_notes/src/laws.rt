@@ -10,7 +10,7 @@ ghost use Rattle.tiny_notes.specs.Accepted.{AlwaysAccepts};
 use tiny_code::{laid_out_programs_hold, methods_are_the_others};
 use verifier_notes::listed_images_are_accepted;
 
-/// It is accepted, for either memory map, where the program's names are known.
+/// Such an image is accepted, on either memory map, where the program's names are known.
 pub fn laid_out_programs_are_accepted()
     ensures { (image : ImageView) (p : Places) (t : Program) → IsNamed t → IsLaidOut image p t → AlwaysAccepts image }
 {

@@ -15,7 +15,7 @@ use Rattle.tiny_names.specs.declared.fault.Fault.{Fault}
 use Rattle.tiny_parser.specs.Errors.{fault_error, grammar_error}
 use Rattle.tiny_parser.specs.declared.error.TinyError.{TinyError}
 
--- of a text without lines, 1
+-- the number of a text's last line; 1 where it has no lines
 abbrev pub last_line : List ℕ → ℕ
 last_line text = max 1 (length (lines text))
 
@@ -33,7 +33,7 @@ pub record Spells (text : List ℕ) (p : Program) : Type 0 where
   pub fits : all_faults written ≡ []
   pub is : p ≡ resolved written
 
--- one of its tokens, or its end, is refused
+-- one of the text's tokens, or its end, is refused
 pub record IsUnwritten (text : List ℕ) (e : TinyError) : Type 0 where
   pub tokens : List Token
   pub has : HasTokens text tokens
@@ -41,7 +41,7 @@ pub record IsUnwritten (text : List ℕ) (e : TinyError) : Type 0 where
   pub refused : grammar.IsRefused 64 tokens refusal
   pub is : e ≡ grammar_error (last_line text) refusal
 
--- it is written, and this is the first fault of a name
+-- the text is written, and this is the first fault of a name
 pub record IsMisnamed (text : List ℕ) (e : TinyError) : Type 0 where
   pub written : List draft.Function
   pub is_written : IsWritten text written

@@ -1,4 +1,4 @@
--- A number more, and where the numbers are.
+-- One more number, and where the numbers are.
 use Rattle.std.proofs.Common.{◌≡◌, ◌<◌, ⊎_elim, ℕ, suc, ◌+◌, Bool, true, false, List, [], ◌∷◌, ◌++◌, length, refl, sym, ap, ◌∙◌, cond, Less, Equal, Greater, arith}
 use Rattle.std.specs.Prelude.{Option, Some, None, not, ◌==◌, ◌||◌, is_some, nat_lt}
 use Rattle.std.specs.List.{filter, list_any, position_or_len}
@@ -102,7 +102,7 @@ place_or_end place (m ∷ ms) n = by (m == n) (place_or_end (place + 1) ms n)
         ap (λ k. or_else k (place_from (place + 1) ms n)) (let e : place + suc (length ms) ≡ (place + 1) + length ms = omega arith in e)
         ∙ (later ∙ (let e : (place + 1) + position_or_len (λ k. k == n) ms ≡ place + (1 + position_or_len (λ k. k == n) ms) = omega arith in e))
 
--- ---- one number more is seen
+-- ---- one more number is seen
 
 at_is : (n q : ℕ) → is_at (nat_cmp n) q ≡ (n == q)
 at_is n q = ⊎_elim (λ t. less t.0 t.1) (λ t. more t.0) (leb_tells (suc n) q)
@@ -118,7 +118,7 @@ at_is n q = ⊎_elim (λ t. less t.0 t.1) (λ t. more t.0) (leb_tells (suc n) q)
     less e lt = ap (λ (b : Bool). is_eq (cond b Less (cond (n == q) Equal Greater))) e
         ∙ sym (⊎_elim (λ t. absurd (let same = t.1 in omega (arith, lt, same))) (λ t. t.0) (eqb_tells n q))
 
--- one that was seen
+-- a number that was seen
 pub seen_again : (c : Constants) (first : ℕ) (ns : List ℕ) (n : ℕ) → HasSeen c first ns → is_some (get nat_cmp c.places n) ≡ true →
     HasSeen c first (ns ++ n ∷ [])
 seen_again c first ns n h found =
@@ -131,7 +131,7 @@ seen_again c first ns n h found =
       places = λ q. h.places q ∙ ap (λ (l : List ℕ). place_from first l q) same;
     }
 
--- one that was not
+-- a number that was not
 pub seen_new : (old new : Constants) (first : ℕ) (ns : List ℕ) (n : ℕ) → HasSeen old first ns → is_some (get nat_cmp old.places n) ≡ false →
     new.numbers.items ≡ old.numbers.items ++ n ∷ [] → new.end ≡ old.end + 1 →
     ((q : ℕ) → get nat_cmp new.places q ≡ cond (is_at (nat_cmp n) q) (Some old.end) (get nat_cmp old.places q)) → HasSeen new first (ns ++ n ∷ [])

@@ -10,10 +10,10 @@ use Rattle.tiny_code.specs.Code.{arguments_numbers, else_numbers, expr_numbers}
 abbrev pub numbers_of_arguments : List Expr → List ℕ
 numbers_of_arguments es = arguments_numbers (arguments_of (map expr_tree es))
 
--- of both sides of a comparison
+-- the numbers of both sides of a comparison
 abbrev pub numbers_of_sides : Expr → Expr → List ℕ
 numbers_of_sides left right = expr_numbers (expr_tree left) ++ expr_numbers (expr_tree right)
 
--- of the block after `else`, where there is one
+-- the numbers of the block after `else`, where there is one
 abbrev pub numbers_of_else : Option Block → List ℕ
 numbers_of_else b = else_numbers (else_of (option_map block_tree b))

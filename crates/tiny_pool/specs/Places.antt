@@ -8,7 +8,7 @@ use Rattle.tiny_code.specs.Code.{Places, numbers, places_of}
 use Rattle.tiny_code.specs.Image.{pool_of}
 use Rattle.tiny_pool.specs.Seen.{or_else}
 
--- a number that the pool has not has the place behind the pool
+-- a number that the pool does not have has the place after the pool
 abbrev pub places_in : Table → Places
 places_in table =
     record {
@@ -30,7 +30,7 @@ pub record IsTableOf (table : Table) (program : Program) : Type 0 where
   pub numbers_are : numbers_in table ≡ numbers program
   pub words : words_in table ≡ length program.functions + length (numbers program)
 
--- so many words has the pool of the program whose table this is
+-- the pool of the program whose table this is has this many words
 abbrev pub IsPoolLength : Table → ℕ → Type 0
 IsPoolLength table words = (program : Program) (main : Function) → IsTableOf table program →
     slice_get program.functions program.main ≡ Some main → words ≡ length (pool_of program main)

@@ -14,14 +14,14 @@ use std::collections::BTreeMap;
 pub struct Constants {
     /// In the order in which they were added.
     pub numbers: Vec<u32>,
-    /// The place of each.
+    /// The place of each number.
     pub places: BTreeMap<u32, u32>,
-    /// The place of the next.
+    /// The place of the next number.
     pub end: u32,
 }
 
 impl Constants {
-    /// None, where the first gets this place.
+    /// No numbers yet; the first gets this place.
     pub(crate) fn new(alloc: Global, first: u32) -> Constants
         ensures { HasSeen result first [] }
     {
@@ -32,7 +32,7 @@ impl Constants {
         }
     }
 
-    /// The place of a number, or the place of the next where it was not added.
+    /// The place of a number, or that of the next number where it was not added.
     pub(crate) fn place(&self, number: u32) -> u32
         ensures { result ≡ or_else self.now.end (get nat_cmp self.now.places number) }
     {

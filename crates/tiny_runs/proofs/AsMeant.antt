@@ -64,7 +64,7 @@ module _ (program : Program) (p : Places) (image : ImageView) (stack_end main_lo
   tale : (n bound : ℕ) → TaleOf n bound
   tale n bound = tell runs advances bound (led n) first refl
 
-  -- two ends of a run are one
+  -- a run has one end
   same_end : (bound : ℕ) (f g : Finish) → EndsBy runs bound first f → EndsBy runs bound first g → f.end ≡ g.end
   same_end bound f g h k = ap (λ (x : Finish). x.end) (one runs bound first f g h k)
 

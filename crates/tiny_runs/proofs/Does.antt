@@ -54,7 +54,7 @@ module _ {image : ImageView} {stack_end : ℕ} where
   does_lower {A} {r} {w} {K} {to} {s} d does =
       record { by = λ go h. lower image stack_end (ending r go) (0 + w.turns) (d + w.turns) s (omega arith) (does.by go h) }
 
-  -- an instruction on the way, from where the same bytes are given
+  -- an instruction on the way that puts out nothing
   pub does_after : {A : Type 0} {r : Result A} {w : TinyWorld} {K : A → Type 0} {to : (a : A) → K a → TinyWorld → State} (s t : State) →
       step_outcome image stack_end s ≡ Goes t → t.given ≡ s.given → Does image stack_end 0 r w t K to → Does image stack_end 1 r w s K to
   does_after {A} {r} {w} {K} {to} s t e same d =
@@ -64,7 +64,7 @@ module _ {image : ImageView} {stack_end : ℕ} where
             (subst (λ (g : List ℕ). IsPrefix g (output (ending r go))) same f.prefix) f;
       }
 
-  -- the same, of an instruction that may meet the stack's end
+  -- an instruction on the way that puts out nothing, but may meet the stack's end
   pub does_push : {A : Type 0} {r : Result A} {w : TinyWorld} {K : A → Type 0} {to : (a : A) → K a → TinyWorld → State} (s t left : State) →
       step_outcome image stack_end s ≡ limited stack_end left t → t.given ≡ s.given → Does image stack_end 0 r w t K to →
       Does image stack_end 1 r w s K to
@@ -84,7 +84,7 @@ module _ {image : ImageView} {stack_end : ℕ} where
             stuck image stack_end (ending r go) (1 + w.turns) s e (subst (λ (g : List ℕ). IsPrefix g (output (ending r go))) same f.prefix);
       }
 
-  -- it gives this, here
+  -- a value is given, and the run is where that leads
   pub does_give : {A : Type 0} (a : A) (w u : TinyWorld) (K : A → Type 0) (to : (a : A) → K a → TinyWorld → State) (s : State) (x : K a) →
       u.turns ≡ w.turns → s ≡ to a x u → Does image stack_end 0 (Gives a u) w s K to
   does_give a w u K to s x same e =
@@ -94,7 +94,7 @@ module _ {image : ImageView} {stack_end : ℕ} where
             (subst (λ (k : ℕ). Follows image stack_end (go a u) k (to a x u)) k (h a x u (omega (arith, same))));
       }
 
-  -- nothing more goes on
+  -- the program ends here
   pub does_halt : {A : Type 0} (w : TinyWorld) (s : State) (K : A → Type 0) (to : (a : A) → K a → TinyWorld → State) →
       step_outcome image stack_end s ≡ StepHalts → s.given ≡ w.given → s.untaken ≡ w.untaken → Does image stack_end 0 (Halts w) w s K to
   does_halt w s K to e given untaken =
@@ -120,7 +120,7 @@ module _ {image : ImageView} {stack_end : ℕ} where
             ((d m refl).by next (λ a x u le. h a x u (omega (arith, le, e))));
       }
 
-  -- the same result, from there on
+  -- a further part of the same result, from there on
   pub does_more : {A : Type 0} {d : ℕ} {r : Result A} {w : TinyWorld} {s : State} {K L : A → Type 0} {to : (a : A) → K a → TinyWorld → State}
       {on : (a : A) → L a → TinyWorld → State} → Does image stack_end d r w s K to →
       ((a : A) (x : K a) (u : TinyWorld) → u.turns ≤ w.turns → Does image stack_end 0 (Gives a u) u (to a x u) L on) →

@@ -71,7 +71,7 @@ module _ (p : TimedImage) (advances : Advances p.timing) where
   rises at t e = omega (arith, advances p.image p.stack_end at.state t e)
 
   module _ (bound : ℕ) where
-    -- one instruction more in front
+    -- one more instruction in front
     ends_on : (at : Point) (t : State) (f : Finish) → nat_le bound at.cycles ≡ false → step_outcome p.image p.stack_end at.state ≡ Goes t →
         EndsBy p bound (point_after p at t) f → EndsBy p bound at f
     ends_on at t f below e h =

@@ -1,4 +1,4 @@
--- Where a run leads, told backwards: from a state on it does what a meaning says, or meets the stack's end with no more output than that.
+-- Where a run leads, defined backwards: from a state on it does what a meaning says, or meets the stack's end with no more output than that.
 use Rattle.std.proofs.Common.{◌≡◌, ◌≤◌, ℕ, suc, Bool, true, false, if◌then◌else◌, List, [], ◌++◌, Some, refl, sym, ap, ◌∙◌, subst, arith, append_assoc}
 use Rattle.std.specs.Prelude.{nat_le}
 use Rattle.std.proofs.lemmas.List.{append-nil}
@@ -17,7 +17,7 @@ whole_prefix a = ([], sym (append-nil a))
 pub prefix_trans : (a b c : List ℕ) → IsPrefix a b → IsPrefix b c → IsPrefix a c
 prefix_trans a b c p q = (p.0 ++ q.0, q.1 ∙ ap (λ (x : List ℕ). x ++ q.0) p.1 ∙ append_assoc a p.0 q.0)
 
--- from this state, with at least so many instructions before a cut
+-- from this state, with at least this many instructions before a cut
 pub data Led (image : ImageView) (stack_end : ℕ) (m : Meaning) : ℕ → State → Type 0 where
   Finishes : (k : ℕ) (s : State) → step_outcome image stack_end s ≡ Halts → m ≡ Ended s.given s.untaken → Led image stack_end m k s
   Stops : (s : State) → m ≡ Cut s.given → Led image stack_end m 0 s

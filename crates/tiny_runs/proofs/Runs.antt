@@ -51,7 +51,7 @@ zeros_get zero x u h = absurd cc
 zeros_get (suc m) zero u h = sym (same_Some 0 u (same_Some (Some 0) (Some u) h))
 zeros_get (suc m) (suc x) u h = zeros_get m x u h
 
--- the locals of a method that is called with these arguments: the link word, the arguments, and so many that are not set
+-- the locals of a method that is called with these arguments: the link word, the arguments, and this many that are not set
 abbrev first_locals : List ℕ → ℕ → List (Option ℕ)
 first_locals vs count = None ∷ (map Some vs ++ replicate count None)
 

@@ -31,7 +31,7 @@ Any v = Unit {0}
 abbrev pub AreMany : ℕ → List ℕ → Type 0
 AreMany m vs = length vs ≡ m
 
--- a call's instruction does what the call gives, in so many turns
+-- a call's instruction does what the call gives, in this many turns
 pub record CallsRun (image : ImageView) (stack_end : ℕ) (p : Places) (program : Program) (n : ℕ) (calls : CallResults) : Type 0 where
   pub by : (f : ℕ) (vs : List ℕ) → IsCallable program f (length vs) →
       (bk : Option ℕ) (callers : List Frame) (locals : List (Option ℕ)) (at : ℕ) (ops : List ℕ) (w : TinyWorld) → w.turns ≤ n →
@@ -39,7 +39,7 @@ pub record CallsRun (image : ImageView) (stack_end : ℕ) (p : Places) (program 
       Does image stack_end 0 (calls f vs w) w (state bk callers locals at (onto_operands vs (0 ∷ ops)) w) Any
       (λ v x u. state bk callers locals (at + 3) (v ∷ ops) u)
 
--- what the code runs in: an image with the constants of a program, and calls that run for so many turns
+-- what the code runs in: an image with the constants of a program, and calls that run for this many turns
 pub record Setting : Type 0 where
   pub image : ImageView
   pub stack_end : ℕ

@@ -34,7 +34,7 @@ pub record AreAsMeant (means : ℕ → Meaning) (ends_by : ℕ → Finish → Ty
       × ((f.end ≡ ends.StackLimit) ⊎ ((f.end ≡ ends.Halt) × (f.left.given ≡ given) × (f.left.untaken ≡ untaken)))
   -- at every boundary the output is a prefix of the program's
   pub prefix : (bound : ℕ) (at : Point) → passes bound at → (n : ℕ) × IsPrefix at.state.given (output (means n))
-  -- and the run comes to each output of the program, or ends by StackLimit
+  -- some run comes to each output of the program, or ends by StackLimit
   pub reaches : (n : ℕ) → (bound : ℕ) × (f : Finish) × ends_by bound f
       × ((f.end ≡ ends.StackLimit) ⊎ IsPrefix (output (means n)) f.left.given)
 

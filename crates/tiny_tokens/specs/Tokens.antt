@@ -12,7 +12,7 @@ use Rattle.tiny_lexemes.specs.Lexemes.{SpellsLexemes}
 
 -- ---- the tokens by their texts
 
--- of these lines, the first of which has this number
+-- the tokens of these lines, the first of which has this number
 abbrev pub SpellsLines : ℕ → List (List ℕ) → List (Lexeme × ℕ) → Type 0
 SpellsLines k [] ts = ts ≡ []
 SpellsLines k (l ∷ ls) ts = (here : List Lexeme) × (later : List (Lexeme × ℕ)) × (ts ≡ map (λ x. (x, k)) here ++ later)

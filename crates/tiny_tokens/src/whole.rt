@@ -21,7 +21,7 @@ pub fn tokens(alloc: Global, text: &[u8]) -> Result<Vec<Token>, AllocError>
     Ok(held.into_tokens())
 }
 
-/// The number of the last line; of a text without lines, 1.
+/// The number of the last line; 1 for a text without lines.
 pub fn last_line(text: &[u8]) -> u32
     requires { length text.now < 2 ^ 30 }
     ensures { result ≡ max 1 (length (lines text.now)) }

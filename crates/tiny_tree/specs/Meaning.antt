@@ -12,7 +12,7 @@ pub record TinyWorld : Type 0 where
   pub given : List ℕ
   pub turns : ℕ
 
--- what comes of a part of a program: it gives something and goes on, it ends the program, or it is cut where a turn would begin
+-- what a part of a program leads to: it gives something and goes on, it ends the program, or it is cut where a turn would begin
 pub data Result (A : Type 0) : Type 0 where
   Gives : A → TinyWorld → Result A
   Halts : TinyWorld → Result A
@@ -24,7 +24,7 @@ and_then (Gives a w) go = go a w
 and_then (Halts w) go = Halts w
 and_then (Cuts w) go = Cuts w
 
--- goes on in a turn, if one of so many may begin
+-- goes on in a turn, if one of this many may begin
 abbrev pub in_turn : {A : Type 0} → TinyWorld → ℕ → (TinyWorld → Result A) → Result A
 in_turn w zero go = Cuts w
 in_turn w (suc n) go = go (record w { turns = n })
@@ -93,7 +93,7 @@ abbrev pub either_side : {A : Type 0} → Bool → A → A → A
 either_side true a b = a
 either_side false a b = b
 
--- a loop of so many turns, which is no less than may begin
+-- a loop of this many turns, which is no less than may begin
 abbrev pub repeat : ℕ → (Variables → TinyWorld → Result Bool) → (Variables → TinyWorld → Result Flow) → Variables → TinyWorld → Result Flow
 repeat zero test body vars w = Cuts w
 repeat (suc n) test body vars w =
@@ -137,7 +137,7 @@ abbrev pub execute_body : CallResults → ℕ → Option Function → Variables 
 execute_body calls n None vars w = Halts w
 execute_body calls n (Some f) vars w = execute_all calls n f.body vars w
 
--- a call, which is a turn; so many turns, which is no less than may begin
+-- a call, which is a turn; this many turns, which is no less than may begin
 abbrev pub call : List Function → ℕ → CallResults
 call functions zero f args w = Cuts w
 call functions (suc n) f args w =
@@ -145,14 +145,14 @@ call functions (suc n) f args w =
 
 -- ---- programs
 
--- how a program goes with at most so many turns
+-- how a program goes with at most this many turns
 pub data Meaning : Type 0 where
   -- its output, and the input that it has not taken
   Ended : (given untaken : List ℕ) → Meaning
   -- its output so far, where one more turn would begin
   Cut : (given : List ℕ) → Meaning
 
--- how a program ends that goes on so from what was given
+-- how a program ends, from what a part of it leads to and how it goes on from what the part gives
 abbrev pub ending : {A : Type 0} → Result A → (A → TinyWorld → Meaning) → Meaning
 ending (Gives a w) go = go a w
 ending (Halts w) go = Ended w.given w.untaken

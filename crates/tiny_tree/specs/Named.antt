@@ -2,7 +2,7 @@
 use Rattle.std.specs.Prelude.{◌≡◌, ◌≢◌, ◌<◌, ◌≤◌, ◌^◌, ℕ, ◌+◌, Bool, true, false, if◌then◌else◌, nat_lt, ◌==◌, slice_get, Some}
 use Rattle.tiny_tree.specs.Tree.{Term, Number, Variable, Called, Get, Group, Expr, Sum, Steps, no_steps, step, Arguments, no_arguments, argument, Cond, Equal, Different, Less, Statement, Var, Assign, Calls, If, While, Return, Put, Halt, Else, no_else, else_block, Statements, no_statements, statement, Function, Program}
 
--- a function but main, that has so many parameters
+-- a function but main, that has this many parameters
 pub record IsCallable (p : Program) (f count : ℕ) : Type 0 where
   pub function : Function
   pub is : slice_get p.functions f ≡ Some function
@@ -17,7 +17,7 @@ arguments_count (argument e rest) = arguments_count rest + 1
 abbrev pub Seen : Type 0
 Seen = ℕ → Bool
 
--- ---- expressions: numbers are words, variables are seen and among the function's names, of which there are so many
+-- ---- expressions: numbers are words, variables are seen and among the function's names, of which there are this many
 
 module _ (p : Program) (names : ℕ) (seen : Seen) where
   abbrev mutual

@@ -1,4 +1,4 @@
--- The plain tree that a value of the program is, without where its parts lie in memory.
+-- The plain tree of a value of the program, whatever place in memory its parts have.
 use Rattle.std.specs.Prelude.{map}
 use Rattle.tiny_tree.specs.declared.tree.Operator.{Operator}
 use Rattle.tiny_tree.specs.declared.tree.Term.{Term, fold-Term}

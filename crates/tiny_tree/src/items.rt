@@ -31,7 +31,7 @@ impl<T> Items<T> {
         }
     }
 
-    /// An empty list with room for so many.
+    /// An empty list with room for this many elements.
     pub fn with_capacity(alloc: Global, count: usize) -> Result<Items<T>, AllocError>
         ensures { IfOk result (λ it. it ≡ []) }
     {
@@ -40,14 +40,14 @@ impl<T> Items<T> {
         })
     }
 
-    /// It takes no memory.
+    /// Allocates nothing.
     pub fn from_vec(items: Vec<T>) -> Items<T>
         ensures { result ≡ items.items }
     {
         Items { items }
     }
 
-    /// It takes no memory.
+    /// Allocates nothing.
     pub fn into_vec(self) -> Vec<T>
         ensures { result.items ≡ self }
     {
@@ -63,7 +63,7 @@ impl<T> Items<T> {
 }
 
 impl<T: Drop> Items<T> {
-    /// It grows by a quarter, so that a short list has no room to spare.
+    /// Appends an element. The list grows by a quarter, so that a short one has no room to spare.
     pub fn push(&mut self, item: T) -> Result<(), AllocError>
         ensures ok { OnOk result (self.new ≡ self.old ++ item ∷ []) }
     {

@@ -34,7 +34,7 @@ pub struct Step {
     pub term: Term,
 }
 
-/// It is evaluated from left to right.
+/// An expression, which is evaluated from left to right.
 #[cycle(expr)]
 #[derive(Drop)]
 pub struct Expr {

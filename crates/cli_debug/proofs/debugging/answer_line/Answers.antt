@@ -6,7 +6,7 @@ use Rattle.cli_debug.proofs.Standing.{done_by, quits_by}
 use Rattle.cli_debug.proofs.debugging.answer_line.Given.{Over}
 use Rattle.cli_debug.proofs.debugging.answer_line.Goals as goal
 
--- what is seen before the line, and behind it
+-- what is seen before the line, and after it
 
 abbrev seen : (g : Over) → goal.After-command g → OutsideView
 seen g c =

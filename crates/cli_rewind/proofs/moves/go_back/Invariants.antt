@@ -2,7 +2,7 @@ use Rattle.std.proofs.Common.{◌≡◌, ◌≤◌, ℕ, List, Option}
 use Rattle.cli_rewind.specs.Stand.{Stand, StandsAt, back, kept}
 use Rattle.cli_rewind.proofs.moves.go_back.Given as goal
 
--- so many cycles were gone back over
+-- this many cycles were gone back over
 abbrev pub invariant-cycles : goal.invariant-cycles
 invariant-cycles g l = record {
   goes : (left held : Option (List ℕ)) (s : Stand g.M.Clocked.State) → StandsAt g.M.Clocked.state g.M.Clocked.meaning left held l.fn.rewind s →

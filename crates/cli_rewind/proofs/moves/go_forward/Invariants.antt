@@ -5,7 +5,7 @@ use Rattle.cli_rewind.specs.Stand.{GoesForward}
 use Rattle.cli_rewind.specs.Moves.{Went, scene}
 use Rattle.cli_rewind.proofs.moves.go_forward.Given as goal
 
--- so many cycles were made, and none was an end
+-- this many cycles were made, and none was an end
 abbrev pub invariant-cycles : goal.invariant-cycles
 invariant-cycles g l =
     Went g.M.Clocked.state g.M.Clocked.meaning l._made

@@ -7,7 +7,7 @@ use Rattle.cli_rewind.proofs.Answering.{on_err_at, on_ok_at}
 use Rattle.cli_rewind.proofs.rewinding.answer_line.Given.{Over}
 use Rattle.cli_rewind.proofs.rewinding.answer_line.Goals as goal
 
--- the session and the outside before the line, and behind it
+-- the session and the outside before the line, and after it
 
 abbrev before : (g : Over) → goal.After-do_line g → FilesState → SourceState → Place (RewindingView g.row.M.Denot)
 before g c files console =

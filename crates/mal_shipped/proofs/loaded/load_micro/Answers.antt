@@ -2,7 +2,7 @@ use Rattle.std.proofs.Common.{◌≡◌, ◌<◌, length, ◌∙◌, codes}
 use Rattle.mal_shipped.proofs.Entries.{labelled_inside}
 use Rattle.mal_shipped.proofs.loaded.load_micro.Goals as goal
 
--- src/loaded.rt:29:9
+-- Main1's number is that of a statement, so it has an address
 pub address-entry-requires : goal.address-entry-requires
 address-entry-requires c =
     let inside : c.args.program.now.entry < length c.args.program.now.statements =
