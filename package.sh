@@ -74,11 +74,11 @@ Recommends: python3 (>= 3.9)
 Suggests: rlwrap
 Installed-Size: $(du -sk "$deb/usr" | cut -f 1)
 X-Processor: $processor
-Description: Mic-1 and Mic-2, the microprogrammed machines of Tanenbaum's book
- mic assembles, links and verifies programs for the stack machine IJVM, places
- microprograms written in MAL, and clocks the datapaths of Mic-1 and Mic-2 one
- microinstruction after another. It is proved to compute what the definition
- of IJVM says.
+Description: Mic-1, Mic-2 and Mic-3, the machines of Tanenbaum's book
+ mic assembles, links and verifies programs for the stack machine IJVM, compiles
+ programs in the small language Tiny, places microprograms written in MAL, and
+ clocks the datapaths of Mic-1, Mic-2 and Mic-3 one cycle after another. It is
+ proved to compute what the definition of IJVM says.
  .
  The documents, examples and exercises are in /usr/share/doc/mic, with scripts
  (in Python) that grade submissions and make waveforms of a run. mic needs a
