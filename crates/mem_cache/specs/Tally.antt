@@ -1,4 +1,4 @@
--- What a cache keeps in mind: the block that each line holds, and its counts; and what an access makes of that.
+-- What a cache remembers: the block that each line holds, and its counts; and how an access changes that.
 use Rattle.std.specs.Prelude.{ℕ, ◌+◌, ◌%◌, if◌then◌else◌, Bool, List, length, replicate, get_or, slice_set, Option, Some, None}
 use Rattle.mem_cache.specs.declared.counts.CacheCounts.{CacheCounts}
 use Rattle.mem_cache.specs.Accesses.{Access, asks_for, is_block}

@@ -45,14 +45,14 @@ fn slices(wires: Wires, a: u32, b: u32, carries: u32) -> Given
     }
 }
 
-/// What a stretch of slices up to each one hands on: a carry that is made within it, and one that comes to it where it passes all of it.
+/// What the stretch of slices up to each one hands on: a carry made within it, and one that passes through all of it.
 #[derive(Clone, Copy)]
 struct Handed {
     made: u32,
     passed: u32,
 }
 
-/// The same of stretches twice as long.
+/// What stretches twice as long hand on.
 fn twice(handed: Handed, reach: u32) -> Handed
     requires { reach < 32 }
     ensures { (carry : ℕ → ℕ) → HandsOn reach handed carry → HandsOn (reach * 2) result carry }

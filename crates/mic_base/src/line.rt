@@ -1,4 +1,4 @@
-//! A line that is printed, put together without memory.
+//! A line of output, built without heap memory.
 
 ghost use Rattle.std.specs.Prelude.{List, ℕ, ◌≡◌, ◌+◌, ◌^◌, ◌<◌, ◌≤◌, ◌++◌, ◌∷◌, [], length};
 ghost use Rattle.std.specs.Char.{digit_char};
@@ -66,7 +66,7 @@ impl Line {
         self.held.push(hex_digit(digit));
     }
 
-    /// Appends a value in decimal digits, behind a `-` where it is below zero.
+    /// Appends a value in decimal digits, after a `-` where it is below zero.
     #[tactic(auto, using(crate::proofs::DigitLemmas::decimal_lengths))]
     pub fn dec(&mut self, value: i64)
         requires { length self.old + length (signed_decimal value) ≤ 512 }
