@@ -110,7 +110,7 @@ module _ {State : Type 0} (m : Meaning State) where
       (if nat_le bound r.counts.cycles then record { state = r.state; world = r.world; counts = r.counts; end = Some ends.Bound } else r)
       else r
 
-  -- the same where a bound is tested
+  -- the run after the test of a bound, where one is tested
   abbrev pub bounded : Option ℕ → MicroRun State → MicroRun State
   bounded None r = r
   bounded (Some bound) r = bounded_by r.end bound r

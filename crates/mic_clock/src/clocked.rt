@@ -25,7 +25,8 @@ pub trait Clocked {
     /// What its calls mean.
     ghost meaning: { Meaning State };
 
-    /// Where a microprogram begins at this entry, that the instruction at a byte address of a memory comes next: a boundary is there, and nothing is under way.
+    /// That the instruction at a byte address of a memory comes next, where a microprogram begins at this entry: a
+    /// boundary is there, and nothing is under way.
     ghost IsReady: { ℕ → List ℕ → ℕ → State → Type 0 };
 
     ghost state: { Self → State };
@@ -124,7 +125,7 @@ pub trait Clocked {
     fn instruction_address(&self) -> u32
         ensures { result ≡ meaning.address (state self.now) };
 
-    /// The MPC of `registers`, for machines where all registers are many.
+    /// The MPC of `registers`, without the other registers.
     fn mpc(&self) -> u16
         ensures value { result ≡ (meaning.registers (state self.now)).mpc }
         ensures small { result < 512 }

@@ -8,7 +8,7 @@ use crate::counting::DRIFT;
 use crate::counts::{Boundary, Counts};
 use crate::end::End;
 
-/// What each cycle changes and tests. The turns of an instruction go over a copy of their own, so that it stays in registers.
+/// What each cycle changes and tests. An instruction's turns work on a copy of it, so that it stays in registers.
 #[derive(Clone, Copy)]
 pub struct Running {
     /// Clocked cycles, stalls included.

@@ -76,7 +76,7 @@ fn first(line: &mut Line, r: &Registers)
     words(line, &[("MAR", r.mar), ("MDR", r.mdr), ("PC", r.pc)]);
 }
 
-/// Appends the registers behind them.
+/// Appends the registers after the fetched bytes.
 fn further(line: &mut Line, r: &Registers)
     requires { length line.old + 78 ≤ 512 }
     ensures text { line.new ≡ line.old ++ rows_text (further_rows r.now) }

@@ -57,7 +57,7 @@ pub fn turn_once<M: Clocked, S: Source, K: Sink>(
             tally.computed.alu.n = computed.alu.n;
             tally.computed.alu.z = computed.alu.z;
             tally.computed.c = computed.c;
-            // Behind the stores, so that a run tests once whether it is at a boundary.
+            // After the stores, so that a run tests once whether it is at a boundary.
             count(running, tally, drive.stalled, machine);
             if drive.stalled {
                 Tick::Stalled

@@ -17,7 +17,7 @@ pub record NineRegisters : Type 0 where
   pub opc : ℕ
   pub h : ℕ
 
--- what is on a bus, where `fetched` tells what each source of fetched bytes has; 0 is there when nothing drives it
+-- what is on a bus, where `fetched` has the value of each source of fetched bytes; 0 when nothing drives it
 abbrev pub on_bus : NineRegisters → (BusSource → ℕ) → Option BusSource → ℕ
 on_bus r fetched None = 0
 on_bus r fetched (Some sources.Mdr) = r.mdr

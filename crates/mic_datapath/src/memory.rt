@@ -31,7 +31,7 @@ pub fn is_quiet(mem: Mem, fetch: bool) -> bool
     mem == Mem::None && !fetch
 }
 
-/// What no access samples.
+/// The samples of a cycle without an access: none.
 pub fn no_access(mem: Mem, fetch: bool, ports: &Ports, bus: &Bus) -> Sampled
     requires mem { mem ≡ Mem.None }
     requires fetch { fetch ≡ false }
@@ -117,7 +117,7 @@ fn transfer_memory(mem: Mem, ports: &Ports, bus: &mut Bus) -> Option<u32>
     }
 }
 
-/// Does them.
+/// Does the accesses of a cycle, which are all in memory.
 #[inline(always)]
 #[tactic(auto, unfolding(console_port::specs::World::fetch_refusal))]
 pub fn access_memory(mem: Mem, fetch: bool, ports: &Ports, bus: &mut Bus) -> Sampled

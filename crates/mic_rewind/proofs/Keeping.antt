@@ -78,7 +78,7 @@ live_by : {M : Type 0} (old new : BoardView M) (o : Option End) → old.end ≡ 
 live_by old new None e same none = e
 live_by old new (Some x) e same none = ap (λ (b : BoardView _). b.end) (sym (same x e)) ∙ none
 
--- a board that has not ended had not
+-- a board that has not ended after a call had not ended before it
 pub live : {M : Type 0} (old new : BoardView M) → ((e : End) → old.end ≡ Some e → new ≡ old) → new.end ≡ None → old.end ≡ None
 live old new same none = live_by old new old.end refl same none
 
@@ -133,7 +133,7 @@ module _ {M State : Type 0} (state : M → State) (m : Meaning State) where
       (λ none. ap (λ (c : Counts). c.cycles) (is_counted none).1 ∙ counted (m.is_boundary (state new.machine)) old.counts _ _ refl refl)
       (λ some. (ends some).0)
 
-  -- the state that a clocked cycle leaves is told by the memory before it and the word at MAR
+  -- the state that a clocked cycle leaves follows from the memory before it and the word at MAR
   pub left_by : (old new : BoardView M) (words : List ℕ) (after : Moment) (word : Option ℕ) →
       after ≡ moment_of state m new → word ≡ slice_get new.bus.words after.registers.mar → words ≡ old.bus.words →
       ChangesOnly (m.registers (state new.machine)).mar old.bus.words new.bus.words →

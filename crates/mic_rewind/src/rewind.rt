@@ -97,7 +97,7 @@ impl<M: Clocked> Rewind<M> {
         tick
     }
 
-    /// Goes back over the kept cycle before the cursor; answers whether there was one.
+    /// Goes back over the kept cycle before the cursor, and returns whether there was one.
     pub fn back(&mut self) -> bool
         ensures went { result ≡ true → GoesBack self.old.history self.new.history × (self.new.board ≡ self.old.board) }
         ensures stayed { result ≡ false → (self.old.history.before ≡ []) × (self.new ≡ self.old) }
@@ -142,7 +142,7 @@ impl<M: Clocked> Rewind<M> {
         self.history.here().counts
     }
 
-    /// The memory word at the cursor, or none where no memory is.
+    /// The memory word at the cursor, or none where there is no memory.
     pub fn peek(&self, at: u32) -> Option<u32>
         ensures { result ≡ slice_get self.now.history.here.words at }
     {

@@ -18,7 +18,7 @@ module _ {State : Type 0} (m : Meaning State) (words : List ℕ) where
   abbrev pub boundary_of : State → Option ℕ
   boundary_of s = if m.is_boundary s then Some (m.address s) else None
 
-  -- the cycle that led from one state to another, with these counts behind it
+  -- the cycle that led from one state to another, with these counts after it
   abbrev pub cycle_between : State → State → Counts → Cycle
   cycle_between s s' counts =
       record {
@@ -38,7 +38,7 @@ module _ {State : Type 0} (m : Meaning State) (words : List ℕ) where
   cycles_of bound zero r = []
   cycles_of bound (suc n) r = cycles_of bound n r ++ shown (turns m words bound n r) (turns m words bound (suc n) r)
 
--- the address of the last boundary, where no cycle was clocked behind it
+-- the address of the last boundary, where no cycle was clocked after it
 abbrev pub boundary_at : Option Boundary → ℕ → Option ℕ
 boundary_at None cycles = None
 boundary_at (Some b) cycles = if b.cycles == cycles then Some b.at else None
