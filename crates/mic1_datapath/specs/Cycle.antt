@@ -26,7 +26,7 @@ pub record HasComputed (word : ℕ) (m : Micro) (value c : ℕ) : Type 0 where
   pub value_is : value ≡ result_of (statement_of machines.Mic1 word).part m
   pub c_is : c ≡ shifted (statement_of machines.Mic1 word).part.shift value
 
--- the state behind a word that has this value out of the ALU, with what its accesses sampled under way
+-- the state after a word that has this value out of the ALU, with what its accesses sampled under way
 abbrev pub moved_on : ℕ → ℕ → Micro → Option ℕ → Option ℕ → Micro
 moved_on word value m read byte = next_micro (statement_of machines.Mic1 word).next value (settled (statement_of machines.Mic1 word).part m) read byte
 

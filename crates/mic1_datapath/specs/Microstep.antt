@@ -27,7 +27,7 @@ fetched mbr sources.Mbr = signed_byte mbr
 fetched mbr sources.Mbru = mbr
 fetched mbr _ = 0
 
--- what is on the B bus, where 0 is when nothing drives it
+-- what is on the B bus: 0 when nothing drives it
 abbrev pub source : Option BusSource → Micro → ℕ
 source b m = on_bus (registers_in m) (fetched m.mbr) b
 

@@ -1,4 +1,4 @@
-//! The clock edge of a cycle, behind what the cycle computed.
+//! The clock edge of a cycle, after what the cycle computed.
 
 ghost use Rattle.std.specs.Prelude.{◌≡◌, Err, true, false};
 ghost use Rattle.console_port.specs.Console.{HasFaultCause};
@@ -172,7 +172,7 @@ fn any_edge<S: Source, K: Sink>(
     Ok(())
 }
 
-/// The same. The place for its answer is made here, and not in each cycle.
+/// `any_edge` in a function of its own: the space for its result is made here, and not in each cycle.
 #[inline(always)]
 fn edge_outside<S: Source, K: Sink>(
     latches: &mut Latches,

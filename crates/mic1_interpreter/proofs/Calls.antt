@@ -28,7 +28,7 @@ use Rattle.mic1_interpreter.proofs.Store.{HasStatements}
 use Rattle.mic1_interpreter.proofs.Boundaries.{ReachesBoundary, comes, Counts, counts, at_boundary, at_text, moves, overruns}
 use Rattle.mic1_interpreter.proofs.Words.{byte_kept, fetch_ok, pair_is}
 
--- what a method's frame says of the words below its operands
+-- what a method's frame has in the words below its operands
 link_of : (words : List ℕ) (lv many caller r : ℕ) (back : Option ℕ) → back ≡ Some r → IsLinked words lv many caller back → IsLinked words lv many caller (Some r)
 link_of words lv many caller r back e h = subst (λ (b : Option ℕ). IsLinked words lv many caller b) e h
 

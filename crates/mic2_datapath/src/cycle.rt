@@ -79,7 +79,7 @@ impl Latches {
         Ok(())
     }
 
-    /// The same. The place of its answer is made here, and not in each cycle.
+    /// `any_edge` in a function of its own: the space for its result is made here, and not in each cycle.
     #[inline(always)]
     fn rare_edge<S: Source, K: Sink>(
         &mut self,

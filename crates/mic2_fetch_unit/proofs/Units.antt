@@ -1,4 +1,4 @@
--- Where a unit stands behind an edge, and behind a jump.
+-- Where a unit stands after an edge, and after a jump.
 use Rattle.std.proofs.Common.{◌≡◌, ℕ, zero, suc, ◌+◌, ◌-◌, ◌*◌, ◌/◌, ◌%◌, ◌^◌, ◌<◌, ◌≤◌, Bool, true, false, List, ◌++◌, length, drop, slice_index, Option, Some, None, is_some, inl, inr, refl, sym, ap, subst, ◌∙◌, arith}
 use Rattle.std.specs.Prelude.{nat_le, if◌then◌else◌, IfSome}
 use Rattle.std.specs.Option.{option_map}
@@ -100,7 +100,7 @@ edge_full words t u h more =
     edge_none words t u (full_pending u h (omega (arith, more)))
     ∙ ap (λ (o : Option ℕ). unit (drop t u.bytes) u.imar u.skip (option_map (λ (at : ℕ). slice_index words at) o)) (full_samples t u h more)
 
--- it leaves a unit
+-- an edge leaves a unit
 
 short : (bytes : List ℕ) (imar skip word : ℕ) → IsUnit (unit bytes imar skip (Some word)) → length bytes ≤ 2
 short bytes imar skip word h = let asks : true ≡ nat_le (length bytes) 2 = h.asks in grind (arith, nat_tests)

@@ -97,7 +97,7 @@ impl FetchUnit {
         self.imar
     }
 
-    /// Whether more than two bytes stay behind an edge that takes so many. It samples nothing then.
+    /// Whether more than two bytes stay after an edge that takes so many. It samples nothing then.
     #[inline(always)]
     pub fn is_full(&self, taken: u8) -> bool
         requires { taken ≤ length self.now.bytes }

@@ -7,7 +7,7 @@ ghost use Rattle.mic2_fetch_unit.specs.Packed.{turned_word};
 use arrayvec::ArrayVec;
 use std::marker::Model;
 
-/// At most six bytes. The first is in the lowest eight bits of the register, and the bits behind the last are 0.
+/// At most six bytes. The first is in the lowest eight bits of the register, and the bits above the last are 0.
 #[derive(Drop)]
 pub struct Queue {
     bits: u64,

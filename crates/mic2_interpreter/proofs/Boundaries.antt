@@ -116,7 +116,7 @@ place_at words x a e l =
     let on : x + 1 ≡ a + 1 = omega arith in
     record { is = e; near = omega arith; byte = ap (byte_in words) e; second = ap (byte_in words) on }
 
--- so many bytes behind
+-- the place so many bytes further on
 pub place_on : (words : List ℕ) (x a d b : ℕ) → Place words x a → a + d ≡ b → b < 0x1FF00 → Place words (plus x d) b
 unfolding wrap
 place_on words x a d b p e l = place_at words (plus x d) b (omega (arith, p.is)) l
@@ -241,6 +241,6 @@ overruns program has o map s left q b bs gs code x waits h is no_halt no_err sho
 pub pair_at : (words : List ℕ) (x a b : ℕ) → Place words x a → a + 1 ≡ b → 256 * byte_in words x + byte_in words (x + 1) ≡ 256 * byte_in words a + byte_in words b
 pair_at words x a b p e = ap₂ (λ (i : ℕ) (j : ℕ). 256 * i + j) p.byte (p.second ∙ ap (byte_in words) e)
 
--- and the signed one
+-- and the signed number
 pub signed_pair_at : (words : List ℕ) (x a b : ℕ) → Place words x a → a + 1 ≡ b → signed_pair (byte_in words x) (byte_in words (x + 1)) ≡ signed_pair (byte_in words a) (byte_in words b)
 signed_pair_at words x a b p e = ap₂ signed_pair p.byte (p.second ∙ ap (byte_in words) e)

@@ -27,7 +27,7 @@ use Rattle.mic2_queue.specs.Held.{Waits, WaitsLate, WaitsOn}
 use Rattle.mic2_interpreter.proofs.Guided.{Turn, Goes, Lacks}
 use Rattle.mic2_interpreter.proofs.Boundaries.{ReachesBoundary, comes, steps, Counts, counts, Place, place_at, place_on, pair_at, at_boundary, moves, overruns}
 
--- what a method's frame says of the words below its operands
+-- what a method's frame has in the words below its operands
 link_of : (words : List ℕ) (lv many caller r : ℕ) (back : Option ℕ) → back ≡ Some r → IsLinked words lv many caller back → IsLinked words lv many caller (Some r)
 link_of words lv many caller r back e h = subst (λ (b : Option ℕ). IsLinked words lv many caller b) e h
 

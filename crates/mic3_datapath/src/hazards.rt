@@ -70,7 +70,7 @@ fn is_on_a(control: &Control, destinations: u16) -> bool
     is_named(destinations, control.lines.a)
 }
 
-/// Whether it has one on side B.
+/// Whether a word has one of these destinations on side B.
 #[inline(always)]
 fn is_on_b(control: &Control, destinations: u16) -> bool
     requires { destinations < 512 }
@@ -79,7 +79,7 @@ fn is_on_b(control: &Control, destinations: u16) -> bool
     is_named(destinations, control.lines.b)
 }
 
-/// Whether it has one on a side.
+/// Whether a word has one of these destinations on either side.
 #[inline(always)]
 fn names_one_of(control: &Control, destinations: u16) -> bool
     requires { destinations < 512 }
