@@ -1,4 +1,4 @@
--- What sections declare, one behind the other: no name comes twice among those that it must differ from.
+-- What sections declare, one after the other: no name comes twice among those that it must differ from.
 use Rattle.std.specs.Prelude.{◌≡◌, ℕ, ◌+◌, ◌≤◌, Bool, true, false, List, [], ◌∷◌, ◌++◌, map, length, Option, Some, None, ⊤}
 use Rattle.ijvm_program.specs.Program.{most_names}
 use Rattle.ijvm_program.specs.declared.line.Constant.{Constant}
@@ -63,7 +63,7 @@ pub record AddsMethod (k : ℕ) (d : Declarations) (name : List ℕ) (ps : List 
   pub is : MakesUnit (k + 1) (Some name) ps body unit
   pub adds : e ≡ record d { methods = d.methods ++ name ∷ []; units = d.units ++ unit ∷ [] }
 
--- ---- sections, one behind the other
+-- ---- sections, one after the other
 
 -- what a section adds to what the sections before it declare
 abbrev pub SectionAdds : ℕ → Declarations → Section → Declarations → Type 0
@@ -72,7 +72,7 @@ SectionAdds k d (Constants items) e = AddsConstants d items e
 SectionAdds k d (Main body) e = AddsMain k d body e
 SectionAdds k d (Method name ps body) e = AddsMethod k d name ps body e
 
--- sections from line `k` on, each behind those before it
+-- sections from line `k` on, each after those before it
 abbrev pub SectionsDeclare : ℕ → Declarations → List Section → Declarations → Type 0
 SectionsDeclare k d [] e = d ≡ e
 SectionsDeclare k d (x ∷ xs) e = (c : Declarations) × SectionAdds k d x c × SectionsDeclare (k + length (section_lines x [])) c xs e

@@ -1,4 +1,4 @@
--- The reader answers the first refusal that holds.
+-- The reader returns the first refusal that holds.
 use Rattle.std.proofs.Common.{◌≡◌, ◌⊎◌, ◌∙◌, ap, refl, sym, nat_le, nat_lt, not, ℕ, ◌+◌, Bool, true, false, if◌then◌else◌, ◌==◌, List, [], ◌∷◌, length, Option, Some, None, Result, Ok, Err, IfErr, inl, inr, arith, subst}
 use Rattle.ijvm_image.specs.declared.reader.Block.{Block}
 use Rattle.ijvm_image.specs.declared.image.ImageError.{ImageError}

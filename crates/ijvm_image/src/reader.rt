@@ -48,7 +48,7 @@ fn field(file: &[u8], place: usize) -> Result<u32, ImageError>
     Ok(word_at(file, place))
 }
 
-/// Whether a block may have this origin behind a first block.
+/// Whether a block may have this origin after a first block.
 fn is_origin(first: Option<u32>, origin: u32) -> bool
     ensures { result ≡ is_origin first origin }
 {

@@ -17,7 +17,7 @@ chosen_by P x y j rest i true is here there e =
     subst P found (here same)
 chosen_by P x y j rest i false is here there e = there e
 
--- a row of the decoder: what holds of the row's instruction, and of those of the rows behind it, holds of the one that is found
+-- a row of the decoder: what holds of the row's instruction, and of those of the rows after it, holds of the one that is found
 pub chosen : (P : Instr → Type 0) (x y : ℕ) (j : Instr) (rest : Option Instr) (i : Instr) →
     (x ≡ y → P j) → (rest ≡ Some i → P i) → (if x == y then Some j else rest) ≡ Some i → P i
 chosen P x y j rest i here there e = chosen_by P x y j rest i (x == y) refl here there e
@@ -350,7 +350,7 @@ part_stands before (x ∷ xs) after =
 pub length-spelled : (i : Instr) (bytes : List ℕ) → SpellsInstr bytes i → length bytes ≡ size_of (row_of i)
 length-spelled i bytes spells = elim spells [ inl e ↦ ap length e | inr e ↦ rw (e.0, e.1) refl ]
 
--- what an instruction's bytes and anything behind them are read as
+-- what an instruction's bytes and anything after them are read as
 pub front-decoded : (bytes : List ℕ) (i : Instr) (front rest : List ℕ) → IsInstr i → SpellsInstr front i → bytes ≡ front ++ rest → instr_at bytes 0 ≡ Some i
 front-decoded bytes i front rest real spells e =
     instr_at-spelled bytes 0 i front real spells (subst (λ (text : List ℕ). StandAt text 0 front) (sym e) (part_stands [] front rest))

@@ -27,7 +27,7 @@ plain opcode needs gives mic1 mic2 =
       mic2 = Always mic2;
     }
 
--- the same behind the prefix WIDE
+-- such a row with the prefix WIDE before its opcode
 abbrev pub wide : ℕ → ℕ → ℕ → ℕ → ℕ → Row
 wide opcode needs gives mic1 mic2 = record (plain opcode needs gives mic1 mic2) { wide = true }
 
@@ -75,7 +75,7 @@ named_row Out = (codes "OUT", plain 0xFD 1 0 8 7)
 named_row Err = (codes "ERR", record (plain 0xFE 0 0 1 0) { flow = End })
 named_row Halt = (codes "HALT", record (plain 0xFF 0 0 1 0) { flow = End })
 
--- the mnemonic, behind WIDE where its opcode is
+-- the mnemonic, after WIDE where its opcode is
 abbrev pub mnemonic_of : Instr → List ℕ
 mnemonic_of i = (named_row i).0
 

@@ -47,11 +47,11 @@ kept_words (Some back) = 2
 abbrev pub operands_at : ℕ → Frame → ℕ
 operands_at lv f = lv + length f.locals + kept_words f.back
 
--- the word address behind the last operand
+-- the word address after the last operand
 abbrev pub frame_end : ℕ → Frame → ℕ
 frame_end lv f = operands_at lv f + length f.operands
 
--- the word address behind these frames, where the next frame begins
+-- the word address after these frames, where the next frame begins
 abbrev pub base : List Frame → ℕ
 base [] = 0x8000
 base (f ∷ fs) = frame_end (base fs) f

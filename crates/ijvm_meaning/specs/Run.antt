@@ -24,7 +24,7 @@ pub record Finish : Type 0 where
   pub end : RunEnd
   -- the last boundary
   pub last : Point
-  -- the state that is left: the last boundary's, but that an IN that met the stack's end has taken its byte
+  -- the state that is left: the last boundary's, except that an IN that met the stack's end has taken its byte
   pub left : State
   pub cycles : ℕ
   pub instructions : ℕ
@@ -32,7 +32,7 @@ pub record Finish : Type 0 where
 abbrev pub first_point : TimedImage → ℕ → List ℕ → Point
 first_point p main_locals input = record { state = start_of main_locals input; cycles = p.timing.boot; instructions = 0 }
 
--- the point behind a completed instruction that goes on to this state
+-- the point after a completed instruction that goes on to this state
 abbrev pub point_after : TimedImage → Point → State → Point
 point_after p at to = record { state = to; cycles = at.cycles + next_cost p.image p.timing at.state; instructions = at.instructions + 1 }
 
@@ -115,10 +115,10 @@ StepsLead p from at = (k : ℕ) × (state_after p.image p.stack_end k from.state
 abbrev pub GoesOnInWords : ImageView → ℕ → State → State → Type 0
 GoesOnInWords image stack_end s to = AreWords s → step_outcome image stack_end s ≡ Goes to → AreWords to
 
--- one that meets the stack's end leaves words
+-- an instruction that meets the stack's end leaves words
 abbrev pub EndsInWords : ImageView → ℕ → State → State → Type 0
 EndsInWords image stack_end s left = AreWords s → step_outcome image stack_end s ≡ Limits left → AreWords left
 
--- so does each boundary that the run passes
+-- each boundary that the run passes has words
 abbrev pub PassesInWords : TimedImage → ℕ → ℕ → Type 0
 PassesInWords p bound main_locals = (input : List ℕ) (at : Point) → Passes p bound (first_point p main_locals input) at → AreWords at.state

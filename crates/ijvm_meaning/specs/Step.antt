@@ -79,7 +79,7 @@ combined f s [] = Stuck
 combined f s (y ∷ []) = Stuck
 combined f s (y ∷ x ∷ rest) = Goes (moved s (f x y ∷ rest) (s.at + 1))
 
--- the address behind a branch
+-- the address that a branch goes on to
 abbrev pub way : ℕ → ℤ → Bool → ℕ
 way at o taken = if taken then target at o else at + 3
 

@@ -188,7 +188,7 @@ mapped : (g : List ℕ) (o : Option Finish) (f : Finish) → option_map (finish_
 mapped g None f e = absurd (cc)
 mapped g (Some first) f e = (first, refl, cc)
 
--- the end of a run behind given bytes is the run's own
+-- the end of a run after given bytes is the run's own
 pub ended_behind : (p : TimedImage) (bound : ℕ) (g : List ℕ) (at : Point) (f : Finish) → EndsBy p bound (point_behind g at) f →
     (first : Finish) × EndsBy p bound at first × (f ≡ finish_behind g first)
 ended_behind p bound g at f e =

@@ -31,7 +31,7 @@ use Rattle.ijvm_reference.specs.Kept.{HasKept}
 use Rattle.ijvm_reference.proofs.Keeping.{next_kept}
 use Rattle.ijvm_reference.specs.Runs.{program_of, point_at, RunEndsWith, EndsIn, IsAllBut, IsAtBoundary, IsCut, ComesFurther, StoppedBy, IsShown, ShownBy, LedTo, TurnsTo, GoesOn, counts_after, stop_by, Reaches, Begins, Onward, cut_by}
 
--- what a step leads to, told in other words
+-- what a step leads to may be replaced by what follows from it
 pub led_as : (left held : Option (List ℕ)) (c : ConsoleView) (left' held' : Option (List ℕ)) (c' : ConsoleView) (P Q : List ℕ → List ℕ → List ℕ → List ℕ → Type 0) →
     IsLedOn left held c left' held' c' P → ((u g u' g' : List ℕ) → Untaken left c.ended u → P u g u' g' → Q u g u' g') → LedTo Given left held c left' held' c' Q
 led_as left held c left' held' c' P Q led told = λ rest here.

@@ -93,7 +93,7 @@ outcome_of effects.Stuck s = Stuck
 abbrev pub Leads : (State → StepOutcome) → Effect → MachineView → MachineView → Type 0
 Leads does effect old new = (untaken given : List ℕ) → does (state_of old untaken given) ≡ outcome_of effect (state_of new untaken given)
 
--- the same, of an instruction that may want memory
+-- `Leads` for an instruction that may run out of memory
 abbrev pub LeadsBy : Result Effect AllocError → (State → StepOutcome) → MachineView → MachineView → Type 0
 LeadsBy result does old new = IfOk result (λ effect. Leads does effect old new)
 
