@@ -12,7 +12,7 @@ pub record Interpretation (M S : Type 0) : Type 1 where
   pub entry : ℕ
   pub timing : Timing
 
--- that of these parts
+-- the interpretation of these parts
 abbrev pub interpretation : {M S : Type 0} → (M → S) → Meaning S → (ℕ → List ℕ → ℕ → S → Type 0) → (List ℕ → Type 0) → ℕ → Timing → Interpretation M S
 interpretation state m IsReady IsShipped entry timing =
     record { state = state; meaning = m; IsReady = IsReady; IsShipped = IsShipped; entry = entry; timing = timing }

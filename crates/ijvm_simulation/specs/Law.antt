@@ -48,7 +48,7 @@ module _ {S : Type 0} (m : Meaning S) (words : List ℕ) (IsAt : State → S →
   abbrev pub Stops : Moment S → ℕ → ℕ → Type 0
   Stops q spent mpc = StopsHere q spent mpc ⊎ StopsBehind q spent mpc
 
-  -- some cycles behind a boundary a write meets the stack's end, with this state's bytes of the console
+  -- some cycles after a boundary a write meets the stack's end, with this state's bytes of the console
   pub record Overruns (q : Moment S) (left : State) : Type 0 where
     pub n : ℕ
     pub short : n < 1023
@@ -109,7 +109,7 @@ pub record Grows (old new : List ℕ) : Type 0 where
   pub more : List ℕ
   pub are : new ≡ old ++ more
 
--- what holds of the world behind a microstep that is done
+-- what holds of the world after a microstep that is done
 abbrev pub OnDone : {S : Type 0} → (World → Type 0) → Outcome S → Type 0
 OnDone P (Done s v) = P v
 OnDone P (Refused why) = Unit {0}

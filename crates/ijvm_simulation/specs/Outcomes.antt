@@ -1,4 +1,4 @@
--- What each instruction finds in a state, and the state that it leads to: the step of the definition, told from its end.
+-- What each instruction finds in a state, and the state that it leads to: the step of the definition, read from its end.
 use Rattle.std.specs.Prelude.{◌≡◌, ℕ, suc, ◌+◌, ◌<◌, ◌≤◌, ◌%◌, ◌==◌, true, List, [], ◌∷◌, ◌++◌, length, slice_get, Option, Some, bit_and, bit_or}
 use Rattle.mic_words.specs.Arithmetic.{plus, minus, is_negative}
 use Rattle.console_port.specs.World.{next_byte}
@@ -116,7 +116,7 @@ module _ (image : ImageView) (stack_end : ℕ) (s : State) where
   Overran left In = Overflows stack_end (push (taken s) (next_byte s.untaken) (s.at + 1)) (taken s) left
   Overran left i = ⊥
 
-  -- what an outcome of an instruction says, where it is not stuck
+  -- what an outcome of an instruction means, where it is not stuck
   abbrev pub IsOutcome : Instr → StepOutcome → Type 0
   IsOutcome i (Goes to) = Went to i
   IsOutcome i (Limits left) = Overran left i

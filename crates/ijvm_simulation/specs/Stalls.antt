@@ -26,7 +26,7 @@ module _ {S : Type 0} (m : Meaning S) (words : List ℕ) (IsAt : State → S →
     pub moves : Moves m words IsAt before q spent to
     pub stalled : moves.there.stalls ≡ q.stalls + stalls
 
-  -- some cycles behind a boundary a write meets the stack's end, and no more than so many of them stalled
+  -- some cycles after a boundary a write meets the stack's end, and no more than so many of them stalled
   pub record OverrunsWithStalls (q : Moment S) (stalls : ℕ) (left : State) : Type 0 where
     pub overruns : Overruns m words IsAt before q left
     pub stalled : overruns.there.stalls ≤ q.stalls + stalls
@@ -76,7 +76,7 @@ module _ {S : Type 0} (m : Meaning S) (entry : ℕ) (timing : Timing) (booting :
       (turns m store (Some bound) n (reset_run m entry v.main_locals
       (record { words = o.words; untaken = input; given = o.given })))
 
--- so over the store that ships and every verified image
+-- this holds over the store that ships and every verified image
 
 abbrev pub RunsStall : {M S : Type 0} → Interpretation M S → ℕ → (ImageView → Instr → ℕ) → Type 0
 RunsStall i booting stalls_of =
@@ -90,7 +90,7 @@ LimitsStall i booting stalls_of =
 
 -- A machine: its meaning, when its next instruction is ready, its store that ships, where that begins, and what is spent.
 module _ {S : Type 0} (m : Meaning S) (IsReady : ℕ → List ℕ → ℕ → S → Type 0) (IsShipped : List ℕ → Type 0) (entry : ℕ) (timing : Timing) where
-  -- Stalls add up, where its boot and each instruction stall as often as is said.
+  -- Stalls add up, where the boot and each instruction stall as often as this says.
   abbrev pub StallsAddUp : Type 0
   StallsAddUp =
       (booting : ℕ) (stalls_of : ImageView → Instr → ℕ) (store : List ℕ) (o : Origin) (v : VerifiedView)
@@ -99,7 +99,7 @@ module _ {S : Type 0} (m : Meaning S) (IsReady : ℕ → List ℕ → ℕ → S 
       TakesWithStalls m store (IsAt m IsReady entry o) o.given timing stalls_of v o (λ i. Unit {0}) →
       CountsStalls m entry timing booting stalls_of store o v input bound
 
-  -- So they do where the stack's end cuts an instruction short.
+  -- They add up also where the stack's end cuts an instruction short.
   abbrev pub CutShort : Type 0
   CutShort =
       (booting : ℕ) (stalls_of : ImageView → Instr → ℕ) (store : List ℕ) (o : Origin) (v : VerifiedView)
