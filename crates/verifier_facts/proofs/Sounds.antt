@@ -456,7 +456,7 @@ sound_start image count input = record {
     zeros (suc n) zero is = cc
     zeros (suc n) (suc k) is = zeros n k is
 
--- so is each state that a run comes to
+-- each state that a run comes to is sound
 sound_at : (image : ImageView) (z count : ℕ) → Accepts image z → IsMainCount image count → (s to : State) → IsSound image count s → ComesTo image z s to → IsSound image count to
 sound_at image z count accepts main s to sound (Here t same) = same_sound image count s t same sound
 sound_at image z count accepts main s to sound (Onward t u v comes goes same) =

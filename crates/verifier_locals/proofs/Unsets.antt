@@ -24,7 +24,7 @@ use Rattle.verifier_locals.specs.Trace.{IsReady, ReadsUnset, ReadsNone}
 use Rattle.verifier_locals.specs.Unset.{AreSet, Wants, AreWanted}
 use Rattle.verifier_locals.proofs.Graphs.{way_inside}
 
--- what is carried behind an instruction was carried before, and is not stored
+-- what is carried after an instruction was carried before, and is not stored
 was_carried : (stores unset : Option ℕ) (k : ℕ) → left_unset stores unset ≡ Some k → (unset ≡ Some k) × (stores ≢ Some k)
 was_carried None unset k is = (is, λ e. absurd (none-some k e))
 was_carried (Some s) None k is = cc

@@ -9,7 +9,7 @@ ghost use Rattle.verifier_locals.specs.Shortcut.{IsPlain, first_way, IsEnd, IsPa
 use crate::graph::Node;
 use std::alloc::{AllocError, Global};
 
-/// So many at most: each round at least doubles how far a way goes, up to the longest text.
+/// The most rounds: each at least doubles how far a way goes, up to the longest text.
 const ROUNDS: u32 = 16;
 
 /// The address to which the node leads, if that is one alone.
@@ -74,7 +74,7 @@ fn leads_elsewhere(node: Node, next: Option<u32>, jump: Option<u32>) -> bool {
     next != node.next || jump != node.jump
 }
 
-/// Each way goes on past the node to which it leads, as far as the way from there. Answers whether one did.
+/// Each way goes on past the node to which it leads, as far as the way from there. Returns whether one did.
 fn shorten(graph: &[Node], short: &mut Vec<Node>) -> bool
     requires inside { IsInside graph.now }
     requires short { IsShort graph.now short.old.items }

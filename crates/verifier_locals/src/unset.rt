@@ -1,4 +1,4 @@
-//! Whether each read of a method's own local comes behind a store to it.
+//! Whether each read of a method's own local comes after a store to it.
 
 ghost use Rattle.std.specs.Prelude.{◌≡◌, ◌+◌, ◌*◌, ◌/◌, ◌<◌, ◌≤◌, ◌↔◌, ℕ, length, slice_get, Some, false, IfOk, IfErr, OnOk, IfSome};
 ghost use Rattle.verifier_facts.specs.declared.error.VerifyError.{VerifyError};

@@ -236,7 +236,7 @@ one_kept image seen closed a b g h same =
     one : (j k : Kept) (o u : Option (Option Kept)) → o ≡ u → o ≡ Some (Some j) → u ≡ Some (Some k) → j ≡ k
     one j k o u e p q = cc
 
--- and so no such fact holds
+-- so no fact that this search decides holds
 pub decided : (image : ImageView) (z : ℕ) (seen : List (Option Kept)) → IsClosed image seen → (e : VerifyError) → IsDecided e → IsTrueOf image z e → ⊥
 decided image z seen closed e = by_fact e
   where
@@ -280,7 +280,7 @@ overlap image z old here at i g h differ code above =
     unit_of : Code old.unit at ≡ Code here.unit at → old.unit ≡ here.unit
     unit_of e = cc
 
--- what the derived test of two units tells
+-- what the derived test of two units shows
 pub units_differ : (a b : Option ℕ) → true ≡ not (option_eq eqb a b) → a ≢ b
 units_differ a b h e = same a (subst (λ (x : Option ℕ). true ≡ not (option_eq eqb a x)) (sym e) h)
   where
