@@ -58,7 +58,7 @@ impl Bus {
         write_image(&mut self.memory, text, pool);
     }
 
-    /// Whether a memory word is there.
+    /// Whether there is a memory word at this address.
     pub fn has(&self, at: u32) -> bool
         ensures { IsTrue result ↔ (at < length self.now.words) }
     {

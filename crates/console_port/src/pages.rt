@@ -48,7 +48,7 @@ impl Pages {
         })
     }
 
-    /// Whether a word is there.
+    /// Whether there is a word at this address.
     pub fn has(&self, at: u32) -> bool
         ensures { IsTrue result ↔ (at < length self.now) }
     {

@@ -79,7 +79,7 @@ ended_code m l i xs (code, rest, q) = (Some (record { label = l; instruction = i
 ended_end : (m : Mark) (xs : List Said) (rest : List Section) → xs ≡ lines_of rest → Ended m (Dotted m ∷ xs)
 ended_end m xs rest q = ([], rest, cons _ _ _ q)
 
--- code lines alone are a unit
+-- code lines by themselves are a unit
 fresh_ended : (m : Mark) (xs : List Said) → Ended m xs → Fresh m xs
 fresh_ended m xs (code, rest, q) = (record { locals = None; code = code }, rest, q)
 

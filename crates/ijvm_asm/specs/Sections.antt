@@ -12,7 +12,7 @@ pub record CodeItem : Type 0 where
   pub label : Option (List ℕ)
   pub instruction : Option Instruction
 
--- the `.var` section of a unit, after so many blank lines; `None` is a blank line
+-- the `.var` section of a unit, after this many blank lines; `None` is a blank line
 pub record Locals : Type 0 where
   pub blank_lines : ℕ
   pub names : List (Option (List ℕ))

@@ -94,7 +94,7 @@ fn block_at(file: &[u8], place: usize, first: Option<u32>) -> Result<Block, Imag
     block_from(file, origin, place + 8, size)
 }
 
-/// So many words from a place on.
+/// This many words from a place on.
 fn words_at(alloc: Global, file: &[u8], place: usize, count: usize) -> Result<Vec<u32>, AllocError>
     requires { place + 4 * count ≤ length file.now }
     ensures { IfOk result (λ words. words.items ≡ words_at file.now place count) }

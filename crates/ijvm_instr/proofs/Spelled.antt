@@ -1,4 +1,4 @@
--- Instructions and their bytes are each other's, but for the second spelling of IOR.
+-- Instructions and their bytes correspond one to one, except for the second spelling of IOR.
 use Rattle.std.proofs.Common.{◌≡◌, ◌⊎◌, ◌<◌, ◌≤◌, ℕ, zero, suc, All, ℤ, nat_le, FitsSigned, ◌+◌, ◌*◌, ◌/◌, ◌%◌, Bool, true, false, if◌then◌else◌, ◌==◌, List, [], ◌∷◌, ◌++◌, length, take, drop, append_assoc, length-append, slice_index, Option, Some, None, refl, sym, ap, ◌∙◌, inl, inr, arith, subst}
 use Rattle.std.proofs.lemmas.Bool.Decides.{nat_tests}
 use Rattle.std.proofs.lemmas.List.{drop_more}
@@ -173,7 +173,7 @@ whole-some many at (Some j) i e =
 pub whole-fits : (many at : ℕ) (i : Instr) → at + size_of (row_of i) ≤ many → whole many at (Some i) ≡ Some i
 whole-fits many at i h = grind (arith, nat_tests)
 
--- so many bytes from an address on
+-- this many bytes from an address on
 abbrev bytes_from : List ℕ → ℕ → ℕ → List ℕ
 bytes_from text at zero = []
 bytes_from text at (suc n) = slice_index text at ∷ bytes_from text (at + 1) n

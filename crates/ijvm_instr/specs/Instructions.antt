@@ -46,7 +46,7 @@ call opcode constant cycles1 early2 late2 =
     record (plain opcode 0 1 cycles1 0) { operands = Index constant; flow = Call constant; constant = Some constant; mic2 = ByEntry early2 late2 }
 
 -- The table: mnemonic, opcode, needs, gives, cycles on Mic-1 and on Mic-2; then the operands, where the instruction leads, and what it names.
--- A call needs its method's parameters besides.
+-- A call also needs its method's parameters.
 abbrev pub named_row : Instr → List ℕ × Row
 named_row Nop = (codes "NOP", plain 0x00 0 0 2 1)
 named_row (Bipush b) = (codes "BIPUSH", record (plain 0x10 0 1 4 2) { operands = Byte b })
@@ -187,7 +187,7 @@ begun_at text at =
     of_bytes (slice_index text at) (slice_index text (at + 1)) (slice_index text (at + 2))
     (slice_index text (at + 3)) (slice_index text (at + 4)) (slice_index text (at + 5))
 
--- the instruction, if it ends inside a text of so many bytes
+-- the instruction, if it ends inside a text of this many bytes
 abbrev pub whole : ℕ → ℕ → Option Instr → Option Instr
 whole many at None = None
 whole many at (Some i) = if nat_le (at + size_of (row_of i)) many then Some i else None

@@ -25,7 +25,7 @@ pub record State : Type 0 where
 abbrev pub frames_of : State → List Frame
 frames_of s = s.running ∷ s.callers
 
--- the start of a run: main's frame with so many locals, each 0
+-- the start of a run: main's frame with this many locals, each 0
 abbrev pub start_of : ℕ → List ℕ → State
 start_of main_locals input =
     record {

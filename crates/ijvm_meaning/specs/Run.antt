@@ -64,7 +64,7 @@ abbrev pub after_test : (Point → Option Finish) → TimedImage → Point → B
 after_test more p at true = Some (stopped at ends.Bound at.state)
 after_test more p at false = after_outcome more p at (step_outcome p.image p.stack_end at.state)
 
--- The definition of a run's end: where it ends that goes on from this point, if it needs no more than so many points. What follows says the
+-- The definition of a run's end: where it ends that goes on from this point, if it needs no more than this many points. What follows says the
 -- same of ends, boundaries and states: by the law `runs_end_once` a run has one end, at a boundary that it passes.
 abbrev pub finish_from : TimedImage → ℕ → ℕ → Point → Option Finish
 finish_from p bound zero at = None
@@ -88,7 +88,7 @@ after more Errs = None
 after more (Limits left) = None
 after more Stuck = None
 
--- the state after so many completed instructions, without a bound
+-- the state after this many completed instructions, without a bound
 abbrev pub state_after : ImageView → ℕ → ℕ → State → Option State
 state_after image stack_end zero s = Some s
 state_after image stack_end (suc k) s = after (state_after image stack_end k) (step_outcome image stack_end s)

@@ -21,7 +21,7 @@ index-none [] i e = refl
 index-none (x ∷ xs) zero e = cc
 index-none (x ∷ xs) (suc i) e = index-none xs i e
 
--- whether a cost is at least, and at most, so many cycles
+-- whether a cost is at least, and at most, this many cycles
 
 abbrev at_least : ℕ → Cost → Bool
 at_least n (Always cycles) = nat_le n cycles

@@ -30,7 +30,7 @@ state_of m untaken given = record { running = m.running; callers = m.callers; at
 abbrev pub machine_at : ImageView → ℕ → State → MachineView
 machine_at image stack_end s = record { image = image; stack_end = stack_end; running = s.running; callers = s.callers; at = s.at }
 
--- the start of a run, with so many locals of main
+-- the start of a run, with this many locals of main
 abbrev pub started : ImageView → ℕ → ℕ → MachineView
 started image stack_end main_locals = machine_at image stack_end (start_of main_locals [])
 

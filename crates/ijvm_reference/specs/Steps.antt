@@ -69,7 +69,7 @@ pub record IsCutOff (left held : Option (List ℕ)) (c : ConsoleView) (left' hel
   -- after a fault nothing is kept
   pub emptied : e ≢ errors.OutOfMemory → c'.kept ≡ []
 
--- the instruction at which an Err comes, over this console: the source is asked by IN alone, and the sink gets what the console keeps
+-- the instruction at which an Err comes, over this console: the source is asked only by IN, and the sink gets what the console keeps
 pub record IsMetBy (e : StepError) (i : Option Instr) (c : ConsoleView) : Type 0 where
   pub read : e ≡ errors.ReadFault → (i ≡ Some In) × (c.ended ≡ false)
   pub write : e ≡ errors.WriteFault → PutsKept i c

@@ -66,7 +66,7 @@ fn give_back(callers: &mut Vec<Frame>, caller: Frame)
 }
 
 impl PlainMachine {
-    /// The start of a run, with so many locals of main.
+    /// The start of a run, with this many locals of main.
     pub fn new(
         alloc: Global,
         image: &Image,
@@ -109,7 +109,7 @@ impl PlainMachine {
         self.lv + self.running.words()
     }
 
-    /// Whether so many more words fit below the stack's end.
+    /// Whether this many more words fit below the stack's end.
     pub fn has_room(&self, words: u32) -> bool
         ensures { result ≡ nat_le (base (self.now.running ∷ self.now.callers) + words) self.now.stack_end }
     {

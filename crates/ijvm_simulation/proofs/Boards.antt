@@ -37,7 +37,7 @@ holds_told : (held : Option (List ℕ)) → Holds (told_of held) held
 holds_told None = tt
 holds_told (Some h) = ([], sym (append-nil h))
 
--- what a source has left is still known, where it may be these bytes
+-- the bytes that a source may have left are those that it has left, where these are known
 still_told : (left : Option (List ℕ)) (ended : Bool) (rest : List ℕ) → TellsLeft left ended → Untaken left ended rest → left ≡ Some rest
 still_told left true rest t here = t.tells ∙ ap some (t.none_left refl ∙ sym here)
   where

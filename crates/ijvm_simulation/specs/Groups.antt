@@ -2,7 +2,7 @@
 use Rattle.ijvm_instr.specs.declared.instr.Instr.{Instr}
 use Rattle.ijvm_instr.specs.declared.instr.Instr.TheVariants.{Nop, Bipush, LdcW, Iload, Istore, Pop, Dup, Swap, Iadd, Isub, Iand, Iinc, Ifeq, Iflt, IfIcmpeq, Goto, Ireturn, Ior, Invokevirtual, WideIload, WideIstore, WideIinc, In, Out}
 
--- those that change the operands alone
+-- those that change only the operands
 abbrev pub IsOfOperands : Instr → Type 0
 IsOfOperands Nop = Unit {0}
 IsOfOperands (Bipush b) = Unit {0}

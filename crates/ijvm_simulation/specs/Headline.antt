@@ -43,7 +43,7 @@ module _ {M S : Type 0} (state : M → S) (m : Meaning S) (IsReady : ℕ → Lis
       pub finishes : EndsBy (program timing v) bound (first_point (program timing v) v.main_locals input) finish
 
     module _ (left held left' held' : Option (List ℕ)) (board : BoardView M) where
-      -- the moment so many turns after the reset
+      -- the moment this many turns after the reset
       abbrev pub moment : Begins board.store.words left (told_of held) → ℕ → MicroRun S
       moment b n = turns m board.store.words (Some bound) n
           (reset_run m entry v.main_locals (record { words = b.words; untaken = b.input; given = told_of held }))

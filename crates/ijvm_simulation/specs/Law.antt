@@ -18,7 +18,7 @@ pub record HasWord {S : Type 0} (m : Meaning S) (x : S) : Type 0 where
   pub no_err : ((m.registers x).mpc == 0x0FE) ≡ false
 
 module _ {S : Type 0} (m : Meaning S) (words : List ℕ) (IsAt : State → S → World → Type 0) (before : List ℕ) where
-  -- so many cycles lead from a boundary to the next, which stands for this state
+  -- this many cycles lead from a boundary to the next, which stands for this state
   pub record Moves (q : Moment S) (spent : ℕ) (to : State) : Type 0 where
     pub n : ℕ
     pub spent_is : spent ≡ n + 1
@@ -33,7 +33,7 @@ module _ {S : Type 0} (m : Meaning S) (words : List ℕ) (IsAt : State → S →
     pub spent_is : spent ≡ 0
     pub mpc_is : (m.registers q.state).mpc ≡ mpc
 
-  -- so many cycles lead from a boundary to where the clock ends the run
+  -- this many cycles lead from a boundary to where the clock ends the run
   pub record StopsBehind (q : Moment S) (spent mpc : ℕ) : Type 0 where
     pub n : ℕ
     pub spent_is : spent ≡ n + 1

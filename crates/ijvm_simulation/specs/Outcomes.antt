@@ -25,19 +25,19 @@ pub record WithTwo (operands : List ℕ) (Leads : ℕ → ℕ → List ℕ → T
   pub are : operands ≡ top ∷ second ∷ rest
   pub leads : Leads top second rest
 
--- this local is there and set, to a word of which this holds
+-- this local exists and is set, to a word of which this holds
 pub record WithLocal (locals : List (Option ℕ)) (k : ℕ) (Leads : ℕ → Type 0) : Type 0 where
   pub value : ℕ
   pub set : slice_get locals k ≡ Some (Some value)
   pub leads : Leads value
 
--- this constant is there, of which this holds
+-- this constant exists, and this holds of it
 pub record WithConstant (pool : List ℕ) (k : ℕ) (Leads : ℕ → Type 0) : Type 0 where
   pub value : ℕ
   pub found : slice_get pool k ≡ Some value
   pub leads : Leads value
 
--- the method of this constant is there, and so many operands as it has parameters beside the object reference, of which this holds
+-- the method of this constant exists, and as many operands as it has parameters besides the object reference; this holds of them
 pub record WithMethod (image : ImageView) (s : State) (k : ℕ) (Leads : Method → ℕ → Type 0) : Type 0 where
   pub method : Method
   pub others : ℕ

@@ -202,7 +202,7 @@ read (tokens.Number v) text rest is e = let n = read_number text is.0 in let v =
 
 -- ---- what is read is spelled
 
--- the first byte, and so many after it
+-- the first byte, and this many after it
 front : (b n : ℕ) (rest : List ℕ) → take (n + 1) (b ∷ rest) ≡ b ∷ take n rest
 front b n rest = let k : n + 1 ≡ suc n = omega arith in rw k refl
 

@@ -55,7 +55,7 @@ module _ (lines : ℕ) where
   misses_after earlier [] = 0
   misses_after earlier (block ∷ blocks) = (if is_hit earlier block then 0 else 1) + misses_after (block ∷ earlier) blocks
 
--- the hits and the misses of accesses, by a cache of so many lines that begins empty, before so many words of memory
+-- the hits and the misses of accesses, by a cache of this many lines that begins empty, in front of this many words of memory
 abbrev pub hits_of : ℕ → ℕ → List Access → ℕ
 hits_of lines size accesses = hits_after lines [] (blocks_of size accesses)
 

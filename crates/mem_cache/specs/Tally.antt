@@ -25,7 +25,7 @@ abbrev pub after_asking : Option ℕ → Tally → Tally
 after_asking None t = t
 after_asking (Some block) t = if has_block t.held block then after_hit t else after_miss block t
 
--- after an access that was answered, of a memory of so many words
+-- after an access that was answered, of a memory of this many words
 abbrev pub counted : ℕ → Access → Tally → Tally
 counted size access t = after_asking (asks_for size access) t
 

@@ -61,7 +61,7 @@ impl CachedBus {
         })
     }
 
-    /// Whether a memory word is there.
+    /// Whether there is a memory word at this address.
     pub fn has(&self, at: u32) -> bool
         ensures { result ≡ nat_lt at (length self.now.bus.words) }
     {

@@ -37,7 +37,7 @@ before_twice reach i carry far = ⊎_elim
 twice_as_far : (h h' m m' p p' b made passed : ℕ) → h ≡ max m (min p h') → h' ≡ max m' (min p' b) → made ≡ max m (min p m') → passed ≡ min p p' → h ≡ max made (min passed b)
 twice_as_far h h' m m' p p' b made passed e f g k = omega arith
 
--- what reaches so many slices, combined with itself, reaches twice as many
+-- what reaches this many slices, combined with itself, reaches twice as many
 module _ (reach made passed made' passed' : ℕ) (carry : ℕ → ℕ)
     (is_made : (i : ℕ) → i < 32 → bit_at made' i ≡ max (bit_at made i) (min (bit_at passed i) (before reach (bit_at made) i)))
     (is_passed : (i : ℕ) → i < 32 → bit_at passed' i ≡ min (bit_at passed i) (before reach (bit_at passed) i))

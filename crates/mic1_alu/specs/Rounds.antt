@@ -3,7 +3,7 @@ use Rattle.std.specs.Prelude.{◌≡◌, ℕ, ◌-◌, ◌<◌, nat_le, min, max
 use Rattle.std.specs.Int.{bit_at}
 use Rattle.mic1_alu.specs.declared.slices.Handed.{Handed}
 
--- what so many slices before slice i hand on, and 0 to the first ones
+-- what the slice this many places before slice i hands on, and 0 for the first ones
 abbrev pub before : ℕ → (ℕ → ℕ) → ℕ → ℕ
 before reach carry i = if nat_le reach i then carry (i - reach) else 0
 

@@ -18,7 +18,7 @@ gate f0 f1 x y carry =
     then (if f1 then (x + y + carry) % 2 else 1 - y)
     else (if f1 then max x y else min x y)
 
--- the adder alone hands a carry on
+-- only the adder hands a carry on
 abbrev pub hands_on : Bool → Bool → ℕ → ℕ → ℕ → ℕ
 hands_on f0 f1 x y carry = if f0 then (if f1 then (x + y + carry) / 2 else 0) else 0
 

@@ -113,7 +113,7 @@ fn is_adder(wires: Wires) -> bool
 pub fn gated(wires: Wires, inc: bool, a: u32, b: u32) -> u32
     ensures { result ≡ combined wires.f0 wires.f1 inc (bit_xor (bit_and a wires.ena) wires.inva) (bit_and b wires.enb) }
 {
-    // The adder alone takes carries.
+    // Only the adder takes carries.
     if is_adder(wires) {
         let sum = slices(wires, a, b, carries(wires, inc, a, b));
         return sum.bits;

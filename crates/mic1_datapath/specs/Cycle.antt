@@ -1,4 +1,4 @@
--- What a cycle of Mic-1 has before its edge: a word with its control lines, and what leaves the ALU and the shifter; and an edge that reaches memory alone.
+-- What a cycle of Mic-1 has before its edge: a word with its control lines, and what leaves the ALU and the shifter; and an edge that reaches only memory.
 use Rattle.std.specs.Prelude.{◌≡◌, ⊤, ℕ, false, IsTrue, List, Option, Ok}
 use Rattle.console_port.specs.View.{BusView}
 use Rattle.mic_clock.specs.Edge.{IsEdge}

@@ -1,5 +1,5 @@
 -- The microstep of Mic-1 (chapter 4; the order of events at the clock edge is this profile's). A statement assigns
--- whole words; `clock` is total, and `refusal` looks at addresses alone.
+-- whole words; `clock` is total, and `refusal` looks only at addresses.
 use Rattle.std.specs.Prelude.{ℕ, true, Option, None}
 use Rattle.mic_words.specs.Arithmetic.{signed_byte}
 use Rattle.micro_word.specs.Operation.{alu, shifted}

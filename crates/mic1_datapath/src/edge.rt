@@ -108,7 +108,7 @@ fn edge_of_one(
     true
 }
 
-/// The edge of a word whose accesses reach memory alone. For any other, nothing is done.
+/// The edge of a word whose accesses reach only memory. For any other, nothing is done.
 #[inline(always)]
 fn edge_inside(
     latches: &mut Latches,

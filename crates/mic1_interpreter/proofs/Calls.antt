@@ -56,7 +56,7 @@ module _ (stack_end : ℕ) (m : Micro) (w : World) where
   abbrev link : ℕ
   link = next (own + m.sp)
 
--- what a call with n arguments finds of a method at e with so many other locals, where the frame below keeps these operands
+-- what a call with n arguments finds of a method at e with this many other locals, where the frame below keeps these operands
 record Entering (o : Origin) (s : State) (m : Micro) (w : World) (k e n more : ℕ) (rest : List ℕ) : Type 0 where
   pub constant : IsWordAccess (length o.words) w (from (length o.words) m w) (0x4000 + k)
   pub entry_is : entry (length o.words) m w ≡ e

@@ -37,7 +37,7 @@ pub record AreLatches (l : Latches) : Type 0 where
   pub mpc : l.mpc < 512
   pub nothing : slice_index l.places NOTHING ≡ 0
 
--- the front of the queue stands on its places, as far as so many bytes of it are named
+-- the front of the queue stands on its places, as far as this many bytes of it are named
 pub record HasFront (operands : ℕ) (l : Latches) : Type 0 where
   pub byte : 1 ≤ operands → slice_index l.places 9 ≡ signed_byte (slice_index l.unit.bytes 0)
   pub unsigned : 1 ≤ operands → slice_index l.places 10 ≡ slice_index l.unit.bytes 0

@@ -34,7 +34,7 @@ dispatch_bytes (nexts.Branch test low) = 0
 abbrev pub demand : Placed → ℕ
 demand s = operand_bytes s.part + dispatch_bytes s.next
 
--- Where fewer are there, the cycle stalls: the fetch unit has its edge, and all else stays.
+-- Where fewer are available, the cycle stalls: the fetch unit has its edge, and all else stays.
 
 abbrev pub is_stalled : Placed → Micro → Bool
 is_stalled s m = nat_lt (length m.unit.bytes) (demand s)

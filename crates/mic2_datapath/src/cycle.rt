@@ -19,7 +19,7 @@ use mic_datapath::console_law;
 use micro_word::is_named;
 
 impl Latches {
-    /// Drives the operand buses for a word, unless too few bytes are there for it.
+    /// Drives the operand buses for a word, unless too few bytes are available for it.
     #[inline(always)]
     pub fn drive(&mut self, control: &Control) -> Drive
         requires { AreLatches self.old }

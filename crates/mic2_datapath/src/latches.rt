@@ -126,7 +126,7 @@ pub fn load(
     settle(destinations, lines, c, arriving, places);
 }
 
-/// The fetch unit at a clock edge: it jumps to PC, or so many bytes are taken. An Err leaves it.
+/// The fetch unit at a clock edge: it jumps to PC, or this many bytes are taken. An Err leaves it.
 #[inline(always)]
 #[tactic(auto, unfolding(mic2_fetch_unit::specs::FetchUnit::edge_refusal))]
 pub fn go(jumps: bool, pc: u32, taken: u8, bus: &Bus, unit: &mut FetchUnit) -> Result<(), BusFault>
@@ -188,7 +188,7 @@ impl Latches {
         }
     }
 
-    /// Puts the front of the queue on its places, as far as a word names it that takes so many bytes.
+    /// Puts the front of the queue on its places, as far as a word names it that takes this many bytes.
     #[inline(always)]
     pub fn show_front(&mut self, takes: u8)
         requires latches { AreLatches self.old }
@@ -283,7 +283,7 @@ impl Latches {
         self.unit.is_full(taken) || is_there(self.unit.will_fetch(taken), bus)
     }
 
-    /// The read or the write of a word where it reaches memory alone, and what a read samples. Where it does not, nothing is done.
+    /// The read or the write of a word where it reaches only memory, and what a read samples; otherwise nothing is done.
     #[inline(always)]
     pub fn access_inside(&self, word: u64, c: u32, taken: u8, bus: &mut Bus) -> Option<Option<u32>>
         requires { taken ≤ length self.now.unit.bytes }

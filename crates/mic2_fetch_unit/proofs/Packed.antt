@@ -45,7 +45,7 @@ byte_after (suc n) (suc k) bits h = byte_after n k (bits / 256) (omega arith)
 pub byte-bytes_in : (n k bits : ℕ) → n ≤ 6 → k < n → get_or (bytes_in n bits) k 0 ≡ bits / 2 ^ (8 * k) % 256
 byte-bytes_in n k bits few h = byte_after n k bits h ∙ ap (λ (x : ℕ). x % 256) (after_is k bits (omega arith))
 
--- one more than the greatest number of so many bytes
+-- one more than the greatest number of this many bytes
 room : ℕ → ℕ
 room zero = 1
 room (suc n) = 256 * room n

@@ -44,7 +44,7 @@ byte_there words imar k at h is =
     let r : at % 4 ≡ k = omega arith in
     λ i. byte_of (slice_index words (q i)) (r i)
 
--- what an edge samples, by the number of bytes that are there then
+-- what an edge samples, by the number of bytes that the queue has then
 
 sampled_none : (t : ℕ) (u : Prefetch) → u.pending ≡ None → sampled_at t u ≡ (if nat_le (length (drop t u.bytes)) 2 then Some u.imar else None)
 sampled_none t u is = ap (λ (o : Option ℕ). sampled_by (appended (drop t u.bytes) u.imar u.skip o)) is

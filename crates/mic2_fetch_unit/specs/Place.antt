@@ -15,7 +15,7 @@ pub record HoldsSame (words words' : List ℕ) (p : ℕ) (u : Prefetch) : Type 0
   pub bytes : (k : ℕ) → k < length u.bytes → slice_index words' ((p + k) / 4) ≡ slice_index words ((p + k) / 4)
   pub pending : IsSome u.pending → slice_index words' u.imar ≡ slice_index words u.imar
 
--- after an edge that takes so many bytes, a unit at p stands so many bytes on, also where that cycle's write changed words that it does not hold
+-- after an edge that takes this many bytes, a unit at p stands this many bytes on, also where that cycle's write changed words that it does not hold
 abbrev pub MovesOn : List ℕ → List ℕ → ℕ → ℕ → Prefetch → Type 0
 MovesOn words words' p taken u = p < 2 ^ 32 → taken ≤ length u.bytes → StandsAt words p u → HoldsSame words words' p u →
     StandsAt words' (p + taken) (edge words' taken u)

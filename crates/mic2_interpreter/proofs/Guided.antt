@@ -37,7 +37,7 @@ pub data Turn : Type 0 where
   Goes : Turn
   Lacks : Lack → Turn
 
--- A symbolic state: what the machine has but for its unit, and what is known of the queue there.
+-- A symbolic state: what the machine has except its unit, and what is known of the queue there.
 pub record Short : Type 0 where
   pub state : Micro
   pub queue : Held
@@ -142,7 +142,7 @@ module _ (origin : List ℕ) where
         stalls = t.stalls;
       }
 
-  -- the bytes are there, no access of a step is refused, it leaves the memory below the stack, and the guess is right
+  -- the bytes are available, no access of a step is refused, it leaves the memory below the stack, and the guess is right
   abbrev pub IsClear : Placed → List ℕ → Short → Type 0
   IsClear s gs t =
       let x = text_result origin s.part t.state in
@@ -311,7 +311,7 @@ module _ (origin : List ℕ) where
         ∙ ap (λ (r : Option Refusal). outcome (first_refusal r (unit_refusal (jumps s.part) top (settled_by s x m).pc (demand s) (unit_at origin m.pc have)))
         (clock top s (standing origin m have) w) (world_after top s (standing origin m have) w)) h)
 
--- a run arrives where the symbolic one does, with so many bytes in the queue
+-- a run arrives where the symbolic one does, with this many bytes in the queue
 pub record Arrives (origin : List ℕ) (run : Option (Moment Micro)) (t : Short) : Type 0 where
   pub have : ℕ
   pub is : run ≡ Some (moment_of origin t have)

@@ -10,7 +10,7 @@ use crate::interpreter::Mic2Interpreter;
 use ijvm_simulation::{groups_are_all, stack_law, stalls_add_up};
 use mic2_queue::queue_law;
 
-/// The instructions on the operands alone.
+/// The instructions that use only the operands.
 pub(crate) fn operands_law()
     ensures { GroupStalls IsOfOperands }
 {

@@ -111,7 +111,7 @@ issued s p = if waits s p then None else Some (issued_by s p)
 
 -- The edge. `to_issue` is what issues in this cycle, if anything does.
 
--- so many bytes leave the queue
+-- this many bytes leave the queue
 abbrev pub bytes_leaving : Option Issued → ℕ
 bytes_leaving None = 0
 bytes_leaving (Some i) = demand i.statement

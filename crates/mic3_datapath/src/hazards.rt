@@ -11,7 +11,7 @@ use crate::slots::{OperandSlot, ResultSlot};
 use mic2_datapath::Control;
 use micro_word::{Mem, is_named};
 
-/// MDR alone among the destinations.
+/// MDR as the only destination.
 const MDR: u16 = 0b10;
 
 /// The place of PC.

@@ -58,7 +58,7 @@ module _ (o : Origin) (m : Micro) (w : World) where
   abbrev pub link : ℕ
   link = next (m.sp + own)
 
--- what a call with n arguments finds of a method at e with so many other locals, where the frame below keeps these operands
+-- what a call with n arguments finds of a method at e with this many other locals, where the frame below keeps these operands
 record Entering (o : Origin) (s : State) (m : Micro) (w : World) (k e n more : ℕ) (rest : List ℕ) : Type 0 where
   pub constant : IsWordAccess (length o.words) w (from o m w) (0x4000 + k)
   pub e0 : Place o.words (entry o m w) e

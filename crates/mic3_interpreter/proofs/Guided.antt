@@ -29,7 +29,7 @@ use Rattle.mic2_queue.specs.Units.{unit_at, have_after, text_from}
 use Rattle.mic2_queue.specs.Law.{QueueLaw}
 use Rattle.mic2_queue.specs.Held.{Held, Jumped, IsHeld, is_enough, held_after, Lack, IsWait, held_waited}
 
--- A symbolic state: what the machine has but for its unit, and what is known of the queue there.
+-- A symbolic state: what the machine has except its unit, and what is known of the queue there.
 pub record Short : Type 0 where
   pub state : Pipeline
   pub queue : Held
@@ -391,7 +391,7 @@ module _ (origin : List ℕ) where
         (first_refusal x (unit_refusal (is_jump_coming (computed_in p.result)) top (settled i p).pc (bytes_leaving i) (unit_at origin p.micro.pc have)))
         (clock top i (standing origin p have) w) (world_after top i (standing origin p have) w)) h
 
--- a run arrives where the symbolic one does, with so many bytes in the queue
+-- a run arrives where the symbolic one does, with this many bytes in the queue
 pub record Arrives (origin : List ℕ) (run : Option (Moment Pipeline)) (t : Short) : Type 0 where
   pub have : ℕ
   pub is : run ≡ Some (moment_of origin t have)

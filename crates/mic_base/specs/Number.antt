@@ -60,6 +60,6 @@ quoted_or None text = unquoted text
 unfoldable pub number_of : List ℕ → Result ℤ NumberError
 number_of text = quoted_or (quoted text) text
 
--- after `0x`, the value in so many hexadecimal digits is read as that value
+-- after `0x`, the value in this many hexadecimal digits is read as that value
 abbrev pub IsReadBack : ℕ → ℕ → Type 0
 IsReadBack digits value = number_of (codes "0x" ++ hex_text digits value) ≡ Ok (pos value)

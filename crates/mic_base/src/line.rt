@@ -43,7 +43,7 @@ impl Line {
         self.held.push_str(part);
     }
 
-    /// Appends a value as just so many hexadecimal digits.
+    /// Appends a value as exactly this many hexadecimal digits.
     pub fn hex(&mut self, value: u64, digits: u8)
         requires some { 1 ≤ digits }
         requires few { digits ≤ 16 }

@@ -43,7 +43,7 @@ module _ (mpc : ℕ) (c : Counts) where
   rule_tests end r false false true h e a = r.adrift (λ p. grind (h, p, arith, nat_tests)) (λ p. grind (e, p, arith, nat_tests)) (grind (a, arith, nat_tests))
   rule_tests end r false false false h e a = r.none (λ p. grind (h, p, arith, nat_tests)) (λ p. grind (e, p, arith, nat_tests)) (grind (a, arith, nat_tests))
 
--- an end's counts are these alone
+-- an end has these counts and no others
 pub ended_as_ruled : (old : Counts) (e : End) (new : Counts) → CountsEnd old e new → new ≡ counts_ended old e
 ended_as_ruled old e new h = λ i. record { cycles = h.cycles i; instructions = (h.instructions ∙ by_end (completes e)) i; stalls = h.stalls i; boundary = h.boundary i }
   where
@@ -69,7 +69,7 @@ module _ {State : Type 0} (m : Meaning State) where
   abbrev boundary_at : State → ℕ → Option Boundary
   boundary_at s cycles = Some (record { cycles = cycles; at = m.address s; sp = (m.registers s).sp; lv = (m.registers s).lv })
 
-  -- a cycle's counts are these alone
+  -- a cycle has these counts and no others
   pub counted_as_ruled : (old : Counts) (stalled : Bool) (s : State) (new : Counts) → CountsCycle m old stalled s new → new ≡ counts_after m old stalled s
   counted_as_ruled old stalled s new h = by_boundary (m.is_boundary s) refl
     where

@@ -61,7 +61,7 @@ module _ {M State : Type 0} (state : M → State) where
     abbrev pub IsReset : ℕ → ℕ → BusView → BoardView M → Type 0
     IsReset first sp bus board = (left held : Option (List ℕ)) (w : World) → Shows left held bus w → ShowsRun left held board (start_run m first sp w)
 
-    -- A fault stopped a cycle: all is as it was, but for what a bus leaves after an Err. The microstep is not refused, and uses the console.
+    -- A fault stopped a cycle: all is as it was, except for what a bus leaves after an Err. The microstep is not refused, and uses the console.
     pub record IsCut (left held : Option (List ℕ)) (board : BoardView M) (left' held' : Option (List ℕ)) (board' : BoardView M) (e : BusFault) : Type 0 where
       pub its_state : state board'.machine ≡ state board.machine
       pub counts : board'.counts ≡ board.counts
@@ -203,14 +203,14 @@ HasRoom board board' = board'.end ≡ None → board.counts.cycles < last_cycles
 abbrev pub IsLimit : Counts → ℕ → Type 0
 IsLimit c limit = limit ≡ last_cycles c.boundary + 1024
 
--- instructions and stalls are at most the cycles, but for one instruction by the end; the last boundary is at most 1,024 cycles back
+-- instructions and stalls are at most the cycles, except that an end may complete one more; the last boundary is at most 1,024 cycles back
 pub record AreCounts (c : Counts) (end : Option End) : Type 0 where
   pub instructions : c.instructions ≤ c.cycles + number_of (is_some end)
   pub stalls : c.stalls ≤ c.cycles
   pub boundary : last_cycles c.boundary ≤ c.cycles
   pub since : c.cycles ≤ last_cycles c.boundary + 1024
 
--- as it was, but for what the console keeps and the end
+-- as it was, except for what the console keeps and the end
 pub record IsOnlyFlushed {M : Type 0} (board board' : BoardView M) : Type 0 where
   pub same : board' ≡ record board { bus = board'.bus; end = board'.end }
   pub memory : board'.bus.words ≡ board.bus.words

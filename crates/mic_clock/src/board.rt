@@ -69,7 +69,7 @@ impl<M: Clocked> Board<M> {
         }
     }
 
-    /// One turn of the run, but for the test of the bound: an end that comes before a cycle, or a cycle.
+    /// One turn of the run without the test of the bound: an end that comes before a cycle, or a cycle.
     #[inline(always)]
     pub fn cycle<S: Source, K: Sink>(&mut self, source: &mut S, sink: &mut K) -> Tick
         requires { self.old.counts.cycles ≤ 2 ^ 62 + 4096 }
@@ -160,7 +160,7 @@ impl<M: Clocked> Board<M> {
         flushed
     }
 
-    /// The test of the bound alone, with the flush where it ends the board.
+    /// Only the test of the bound, with the flush where it ends the board.
     #[inline(always)]
     pub fn stop_at<K: Sink>(&mut self, bound: u64, sink: &mut K) -> Option<End>
         ensures run { NoFault self.old.end self.new.end →

@@ -16,7 +16,7 @@ const HALT: u16 = 0x0FF;
 
 const ERR: u16 = 0x0FE;
 
-/// So many cycles without a boundary end a run.
+/// This many cycles without a boundary end a run.
 pub const DRIFT: u64 = 1024;
 
 /// The end by a refusal or a fault.

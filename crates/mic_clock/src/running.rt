@@ -1,4 +1,4 @@
-//! What a board keeps beside its machine, its store and its bus.
+//! What a board keeps besides its machine, its store and its bus.
 
 ghost use Rattle.std.specs.Prelude.{◌≡◌};
 ghost use Rattle.mic_clock.specs.Parts.{counts_of};

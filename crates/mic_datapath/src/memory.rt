@@ -1,4 +1,4 @@
-//! The accesses of a cycle that reach memory alone, which none refuses and no fault stops.
+//! The accesses of a cycle that reach only memory. None of them is refused, and no fault stops one.
 
 ghost use Rattle.std.specs.Prelude.{◌≡◌, ◌<◌, ◌/◌, None, is_some, length, true, false};
 ghost use Rattle.console_port.specs.Bus.{ChangesOnly};
@@ -11,7 +11,7 @@ use crate::ports::Ports;
 use console_port::Bus;
 use micro_word::Mem;
 
-/// Whether the accesses reach memory alone.
+/// Whether the accesses reach only memory.
 pub fn is_in_memory(mem: Mem, fetch: bool, mar: u32, pc: u32, bus: &Bus) -> bool
     ensures { result ≡ true → AreInMemory (length bus.now.words) mem fetch mar pc }
 {

@@ -106,7 +106,7 @@ module _ {M State : Type 0} (state : M → State) (m : Meaning State) where
   newest_forth : (old new : HistoryView) → GoesBack new old → newest new ≡ newest old
   newest_forth old new went = sym (ap (λ (ss : List Snapshot). last_of old.here ss) went.after)
 
-  -- so does a step forward over a kept cycle
+  -- a step forward over a kept cycle keeps the newest state too
   pub forth_keeps : (board : BoardView M) (old new : HistoryView) → GoesBack new old → IsRewind state m board old → IsRewind state m board new
   forth_keeps board old new went is =
       let all = addresses_forth old new went is.before is.here is.after in

@@ -23,7 +23,7 @@ pub fn undo(memory: &mut Vec<u32>, written: Option<WrittenWord>)
     }
 }
 
-/// Writes once more what a cycle wrote.
+/// Writes again what a cycle wrote.
 pub fn redo(memory: &mut Vec<u32>, written: Option<WrittenWord>)
     ensures { memory.new.items ≡ redone written memory.old.items }
 {

@@ -33,7 +33,7 @@ impl<M: Clocked> Model for Rewind<M> {
     ghost invariant = { λ r. IsRewind M.state M.meaning r.board r.history };
 }
 
-/// Where a board stands, beside its memory.
+/// Where a board stands, apart from its memory.
 fn moment_of<M: Clocked>(board: &Board<M>) -> Moment
     ensures value { result ≡ moment_of M.state M.meaning board.now }
     ensures mpc { result.registers.mpc < 512 }

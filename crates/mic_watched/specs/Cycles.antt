@@ -33,7 +33,7 @@ module _ {State : Type 0} (m : Meaning State) (words : List ℕ) where
   abbrev pub shown : MicroRun State → MicroRun State → List Cycle
   shown r q = shown_where q.end (cycle_between r.state q.state q.counts)
 
-  -- the cycles of so many turns, each with the test of the bound before it where one is tested
+  -- the cycles of this many turns, each with the test of the bound before it where one is tested
   abbrev pub cycles_of : Option ℕ → ℕ → MicroRun State → List Cycle
   cycles_of bound zero r = []
   cycles_of bound (suc n) r = cycles_of bound n r ++ shown (turns m words bound n r) (turns m words bound (suc n) r)

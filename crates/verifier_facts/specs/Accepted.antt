@@ -22,7 +22,7 @@ pub record IsAccepted (v : VerifiedView) : Type 0 where
   -- so no run of it gets stuck
   pub safe : IsSafe v.image v.map.stack_end v.main_locals
 
--- what a verified image keeps beside the image
+-- what a verified image keeps besides the image
 pub record IsVerified (v : VerifiedView) (methods : ℕ) (found : List Kind) : Type 0 where
   pub accepted : IsAccepted v
   pub methods_are : IsMethodCount v.image methods

@@ -31,12 +31,12 @@ HasRow text at r = (i : Instr) × (instr_at text at ≡ Some i) × (r ≡ row_of
 abbrev pub IsWhole : List ℕ → ℕ → Row → Type 0
 IsWhole text at r = (0 < size_of r) × (at + size_of r ≤ length text)
 
--- the constant that a row names is there
+-- the constant that a row names exists
 abbrev pub HasConstant : List ℕ → Option ℕ → Type 0
 HasConstant pool None = Unit {0}
 HasConstant pool (Some k) = k < length pool
 
--- the method that a call's constant names, if it is there
+-- the method that a call's constant names, if it exists
 abbrev pub callee : ImageView → ℕ → Option Method
 callee image k = method_at image.text (slice_get image.pool k)
 
@@ -92,7 +92,7 @@ abbrev pub MayCarry : List ℕ → ℕ → Option ℕ → Type 0
 MayCarry text entry None = Unit {0}
 MayCarry text entry (Some k) = IsOwn text entry k
 
--- the instruction of the arrival is whole, its constant and its method are there, and it finds the operands that it needs
+-- the instruction of the arrival is whole, its constant and its method exist, and it finds the operands that it needs
 pub record Works (image : ImageView) (a : Arrival) (r : Row) (need : ℕ) : Type 0 where
   pub has_row : HasRow image.text a.at r
   pub constant : HasConstant image.pool r.constant

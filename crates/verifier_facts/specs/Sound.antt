@@ -53,7 +53,7 @@ pub record Finds (image : ImageView) (s : State) (i : Instr) : Type 0 where
   pub returns : (row_of i).flow ≡ Return → (to : ℕ) × (f : Frame) × (fs : List Frame) × (s.running.back ≡ Some to)
       × (s.callers ≡ f ∷ fs) × (to < length image.text)
 
--- every run of the image, with so many locals of main, is sound, and never gets stuck
+-- every run of the image, with this many locals of main, is sound, and never gets stuck
 pub record KeepsSound (image : ImageView) (stack_end main_locals : ℕ) : Type 0 where
   pub start : (input : List ℕ) → IsSound image main_locals (start_of main_locals input)
   pub steps : (s to : State) → IsSound image main_locals s → step_outcome image stack_end s ≡ Goes to → IsSound image main_locals to

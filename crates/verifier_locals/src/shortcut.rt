@@ -1,4 +1,4 @@
-//! Shortcuts past the instructions that name no local and lead to one address alone, so that no search comes to them
+//! Shortcuts past the instructions that name no local and lead to only one address, so that no search comes to them
 //! again and again. Ways to instructions that read no local and lead nowhere are left out.
 
 ghost use Rattle.std.specs.Prelude.{◌≡◌, ◌<◌, length, Option, ℕ, IsTrue, IfOk, IfSome};
@@ -12,7 +12,7 @@ use std::alloc::{AllocError, Global};
 /// The most rounds: each at least doubles how far a way goes, up to the longest text.
 const ROUNDS: u32 = 16;
 
-/// The address to which the node leads, if that is one alone.
+/// The address to which the node leads, if there is only one.
 fn one_way(node: Node) -> Option<u32>
     ensures { IfSome result (λ to. LeadsTo node to × ((other : ℕ) → LeadsTo node other → other ≡ to)) }
 {
@@ -25,7 +25,7 @@ fn one_way(node: Node) -> Option<u32>
     }
 }
 
-/// Where the node leads, if it names no local and leads to one address alone.
+/// Where the node leads, if it names no local and leads to only one address.
 fn onward(node: Node) -> Option<u32>
     ensures { IfSome result (IsPlain node) }
 {

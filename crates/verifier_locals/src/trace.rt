@@ -61,7 +61,7 @@ fn read_of(locals: LocalSet, reads: Option<u16>, group: u32) -> Option<u16>
 }
 
 impl Trace {
-    /// For a graph of so many nodes.
+    /// For a graph of this many nodes.
     pub fn new(alloc: Global, many: usize) -> Result<Trace, AllocError>
         ensures { IfOk result (λ t. IsReady 1 many t.marks.items t.todo.items) }
     {
@@ -138,8 +138,8 @@ impl Trace {
 }
 
 impl Trace {
-    /// The waiting address is looked at. A local that is read here unset is returned; otherwise the search goes on where
-    /// the node leads.
+    /// The waiting address is looked at. A local that is read here unset is returned; otherwise the search goes on
+    /// where the node leads.
     fn visit(
         &mut self,
         graph: &[Node],
@@ -164,8 +164,8 @@ impl Trace {
         Ok(None)
     }
 
-    /// A read of a local of the set, its address and the local, to which a way leads from the start with no store to that
-    /// local; none, if there is none.
+    /// A read of a local of the set, its address and the local, to which a way leads from the start with no store to
+    /// that local; none, if there is none.
     pub fn trace(
         &mut self,
         graph: &[Node],

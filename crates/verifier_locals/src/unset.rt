@@ -135,7 +135,7 @@ pub fn check_locals(
     ensures err { IfErr result (λ e. States image.now e) }
 {
     let wanted = wanted_of(alloc, image, seen, graph)?;
-    // Without its ways to dead ends, a branch may lead to one address alone.
+    // Without its ways to dead ends, a branch may lead to only one address.
     let once = shortened(alloc, graph)?;
     let short = shortened(alloc, &once)?;
     let mut trace = Trace::new(alloc, short.len())?;

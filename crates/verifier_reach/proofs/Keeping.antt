@@ -288,7 +288,7 @@ units_differ a b h e = same a (subst (λ (x : Option ℕ). true ≡ not (option_
     same None g = cc
     same (Some n) g = let t : eqb n n ≡ true = eq-eqb n n refl in let f : not (eqb n n) ≡ false = ap not t in cc
 
--- a checked call's constant and method are there
+-- a checked call's constant and method exist
 pub call_there : (image : ImageView) (a : Arrival) (r : Row) (need k : ℕ) → IsChecked image a r need → r.flow ≡ Call k → (e : ℕ) × (slice_get image.pool k ≡ Some e) × (e + 4 < length image.text)
 call_there image a r need k checked call = by_constant (slice_get image.pool k) refl (sym (ap (need_of image r.needs) call) ∙ checked.needs)
   where
