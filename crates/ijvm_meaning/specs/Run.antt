@@ -51,7 +51,7 @@ completed p at end =
 abbrev pub stopped : Point → RunEnd → State → Finish
 stopped at end left = record { end = end; last = at; left = left; cycles = at.cycles; instructions = at.instructions }
 
--- what comes of an outcome; `more` is the rest of the run
+-- what follows an outcome; `more` is the rest of the run
 abbrev pub after_outcome : (Point → Option Finish) → TimedImage → Point → StepOutcome → Option Finish
 after_outcome more p at (Goes to) = more (point_after p at to)
 after_outcome more p at Halts = Some (completed p at ends.Halt)

@@ -1,4 +1,4 @@
--- What comes of a call.
+-- The outcome of a call.
 use Rattle.std.proofs.Common.{◌≡◌, ◌<◌, ◌≤◌, ℕ, suc, ◌+◌, ◌-◌, nat_le, nat_lt, List, ◌∷◌, length, take, drop, replicate, Option, Some, None, ap, ◌∙◌, arith}
 use Rattle.std.proofs.lemmas.Bool.Decides.{nat_tests}
 use Rattle.std.proofs.lemmas.List.{length-drop, length-take-le, length-replicate}

@@ -89,7 +89,7 @@ outcome_of effects.Went s = Goes s
 outcome_of effects.StackLimit s = Limits s
 outcome_of effects.Stuck s = Stuck
 
--- this comes of the old machine, and leaves the new one; the console's bytes stay
+-- the old machine has this outcome, which leaves the new one; the console's bytes stay
 abbrev pub Leads : (State → StepOutcome) → Effect → MachineView → MachineView → Type 0
 Leads does effect old new = (untaken given : List ℕ) → does (state_of old untaken given) ≡ outcome_of effect (state_of new untaken given)
 

@@ -26,7 +26,7 @@ IsLedOn left held c left' held' c' leads =
     (untaken : List ℕ) × Untaken left c.ended untaken ×
     ((given : List ℕ) → Given held c.kept given → (more : List ℕ) × Given held' c'.kept more × leads untaken given rest more)
 
--- what comes of an instruction over the console
+-- the outcome of an instruction over the console
 abbrev pub LedBy : (State → StepOutcome) → Option (List ℕ) → Option (List ℕ) → ConsoleView → Option (List ℕ) →
     Option (List ℕ) → ConsoleView → MachineView → MachineView → Effect → Type 0
 LedBy does left held c left' held' c' old new effect =
@@ -51,7 +51,7 @@ Does ends.Err old new untaken given untaken' given' =
 Does ends.StackLimit old new untaken given untaken' given' =
     step_outcome old.image old.stack_end (state_of old untaken given) ≡ Limits (state_of new untaken' given')
 
--- what comes of an instruction: an end of a step, or none where the machine is stuck
+-- the outcome of an instruction: an end of a step, or none where the machine is stuck
 abbrev pub Turns : Option StepEnd → MachineView → MachineView → List ℕ → List ℕ → List ℕ → List ℕ → Type 0
 Turns None old new untaken given untaken' given' = step_outcome old.image old.stack_end (state_of old untaken given) ≡ Stuck
 Turns (Some end) old new untaken given untaken' given' = Does end old new untaken given untaken' given'

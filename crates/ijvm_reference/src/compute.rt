@@ -10,7 +10,7 @@ use crate::machine::PlainMachine;
 use ijvm_instr::{Instr, target_of};
 use std::alloc::AllocError;
 
-/// What came of an instruction.
+/// The outcome of an instruction.
 #[derive(Clone, Copy, Debug, PartialEq, Eq)]
 pub enum Effect {
     Went,

@@ -1,4 +1,4 @@
--- How a run ends from its reset over a verified image, with the store that ships, whoever clocks it.
+-- How a run ends from its reset over a verified image, with the store that ships, no matter what clocks it.
 use Rattle.std.specs.Prelude.{◌≡◌, ℕ, List, Option, Some, false}
 use Rattle.console_port.specs.Console.{Untaken}
 use Rattle.mic_clock.specs.declared.end.End.{End}

@@ -1,4 +1,4 @@
-//! What holds of every interpreter, and of every run of one, whoever clocks it.
+//! What holds of every interpreter, and of every run of one, no matter what clocks it.
 
 ghost use Rattle.std.specs.Prelude.{ℕ};
 ghost use Rattle.ijvm_meaning.specs.Run.{TimedImage, Point, Passes};

@@ -8,7 +8,7 @@ use Rattle.mem_cache.specs.Accesses.{Access, asks_for, with_block, blocks_of, is
 use Rattle.mem_cache.specs.Tally.{Tally, has_block, after_hit, after_miss, after_asking, empty_tally}
 use Rattle.mem_cache.specs.View.{CacheView, AllLead, answered}
 
--- an entry that is this block holds it
+-- an entry that `is_block` accepts holds this block
 is_block_then : (o : Option ℕ) (block : ℕ) → is_block block o ≡ true → o ≡ Some block
 is_block_then None block e = cc
 is_block_then (Some x) block e =

@@ -1,4 +1,4 @@
--- Which accesses are hits in a direct-mapped cache: a read or fetch of memory is one where the last earlier one of its line was of its block
+-- Which accesses are hits in a direct-mapped cache: a read or fetch of memory is one where the last earlier one on its line was of the same block
 -- (Tanenbaum, section 4.5.1, "Direct-Mapped Caches").
 use Rattle.std.specs.Prelude.{ℕ, ◌+◌, ◌/◌, ◌%◌, ◌==◌, nat_lt, if◌then◌else◌, Bool, false, List, [], ◌∷◌, Option, Some, None}
 

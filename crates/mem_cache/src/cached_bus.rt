@@ -21,7 +21,7 @@ use std::marker::Model;
 pub const MOST_LINES: u16 = 4096;
 
 /// A bus, and blocks of its memory in lines. A read or fetch of a memory word loads a block that its line does not hold.
-/// A write goes through to memory and changes a block that is held, and it loads none. Accesses of the console and
+/// A write goes through to memory, changes a block that is held, and loads none. Accesses of the console and
 /// refused accesses bypass the lines.
 #[derive(Drop)]
 pub struct CachedBus {

@@ -1,5 +1,5 @@
 -- The image of a program: its text is the headers and the instructions one after the other, its pool the constants and then the
--- methods' entries. Also when a program has none.
+-- methods' entries. And when a program has no image.
 use Rattle.std.specs.Prelude.{◌≡◌, ℕ, ◌+◌, ◌<◌, ◌≤◌, ℤ, pos, negsuc, ◌-ℤ◌, int_lt, Bool, ◌||◌, List, ◌++◌, length, map, find, Option, Some, None}
 use Rattle.std.specs.List.{flat_map, enumerate_from, range_with_len}
 use Rattle.ijvm_instr.specs.Instructions.{spelling, two_bytes}

@@ -61,7 +61,7 @@ assigned dests v m =
 abbrev pub settled : Part → Micro → Micro
 settled part m = assigned part.dests (shifted part.shift (result_of part m)) m
 
--- what the memory's two ports are given of the registers
+-- the registers that the memory's two ports are given
 abbrev pub ports_of : Micro → Ports
 ports_of m = ports_given (registers_in m)
 

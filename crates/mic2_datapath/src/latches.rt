@@ -54,7 +54,7 @@ pub struct Latches {
     pub mpc: u16,
     /// Whether the cycle before went to an instruction's first word.
     pub begins: bool,
-    /// After all else, so that what is reached by index stands apart from it.
+    /// Last, so that what is reached by index stands apart from the rest.
     pub places: Places,
 }
 
@@ -188,7 +188,7 @@ impl Latches {
         }
     }
 
-    /// Puts the front of the queue on its places, as far as a word names it that takes this many bytes.
+    /// Shows the front of the queue on its places: the first byte where at least one is taken, the first two where more are.
     #[inline(always)]
     pub fn show_front(&mut self, takes: u8)
         requires latches { AreLatches self.old }
@@ -283,7 +283,7 @@ impl Latches {
         self.unit.is_full(taken) || is_there(self.unit.will_fetch(taken), bus)
     }
 
-    /// The read or the write of a word where it reaches only memory, and what a read samples; otherwise nothing is done.
+    /// The read or the write of a word where it reaches only memory, and what a read samples; else nothing is done.
     #[inline(always)]
     pub fn access_inside(&self, word: u64, c: u32, taken: u8, bus: &mut Bus) -> Option<Option<u32>>
         requires { taken ≤ length self.now.unit.bytes }

@@ -16,7 +16,7 @@ const HALT: u16 = 0x0FF;
 
 const ERR: u16 = 0x0FE;
 
-/// This many cycles without a boundary end a run.
+/// The number of cycles without a boundary that ends a run.
 pub const DRIFT: u64 = 1024;
 
 /// The end by a refusal or a fault.

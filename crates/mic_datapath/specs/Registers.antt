@@ -55,6 +55,6 @@ loaded c v word r =
       h = if loads c registers.H then v else r.h;
     }
 
--- what the memory's two ports are given of the registers
+-- the registers that the memory's two ports are given
 abbrev pub ports_given : NineRegisters → Ports
 ports_given r = record { mar = r.mar; mdr = r.mdr; pc = r.pc }

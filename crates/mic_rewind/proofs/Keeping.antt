@@ -1,4 +1,4 @@
--- What a board that was clocked lets a history keep.
+-- What a history keeps of a board that was clocked.
 use Rattle.std.proofs.Common.{◌≡◌, ◌∙◌, sym, ap, subst, refl, ℕ, zero, suc, ◌≤◌, ◌+◌, ◌-◌, ◌++◌, drop, length, arith, rules, Bool, true, false, if◌then◌else◌, List, [], ◌∷◌, Option, Some, None, IsSome, slice_get}
 use Rattle.console_port.specs.Bus.{ChangesOnly}
 use Rattle.mic_clock.specs.Meaning.{Meaning}

@@ -4,7 +4,7 @@ ghost use Rattle.store_placement.specs.Chosen.{IsChosenList};
 ghost use Rattle.store_placement.specs.Demands.{Demands, AreWithin};
 ghost use Rattle.store_placement.specs.Listed.{IsListed};
 
-/// There is at most one chosen placement, and a list that computing shows to be it is it.
+/// There is at most one chosen placement, and a list that passes the computed test `IsListed` is it.
 pub fn chosen_law()
     ensures one { (d : Demands) (xs ys : List ℕ) → AreWithin d.fixed d.pairs → IsChosenList d xs → IsChosenList d ys → xs ≡ ys }
     ensures listed { (d : Demands) (xs : List ℕ) → IsListed d xs → IsChosenList d xs }
