@@ -49,7 +49,7 @@ pub record MakesBody (k : ℕ) (s : Source) (body : Body) (u : Source) : Type 0 
 
 -- ---- sections
 
--- it is the only one, its names are new, and it adds them in order with their values
+-- the section of constants is the only one, its names are new, and it adds them in order with their values
 abbrev pub MakesConstants : ℕ → Source → List (Option Constant) → Source → Type 0
 MakesConstants k s items u = (s.seen_constants ≡ false) × AreConstants s.methods s.constants (defined items)
     × (u ≡ record s {
@@ -60,14 +60,14 @@ MakesConstants k s items u = (s.seen_constants ≡ false) × AreConstants s.meth
       values = s.values ++ map (λ c. c.value) (defined items);
     })
 
--- there is one main
+-- main is the only one
 pub record MakesMain (k : ℕ) (s : Source) (body : Body) (u : Source) : Type 0 where
   pub first : s.seen_main ≡ false
   pub last : Source
   pub content : MakesBody (k + 1) (record s { place = places.Code; section = k; may_declare = true; seen_main = true; unit = begun None [] }) body last
   pub ends : u ≡ record last { place = places.Outside; unit = begun None []; main = Some last.unit }
 
--- its name is that of no constant and of no method before it, its parameters are at most 65,534
+-- the method's name is that of no constant and of no method before it, and its parameters are at most 65,534
 pub record MakesMethod (k : ℕ) (s : Source) (name : List ℕ) (ps : List (List ℕ)) (body : Body) (u : Source) : Type 0 where
   pub is_new : (names.place_of_name s.constants name ≡ None) × (names.place_of_name s.methods name ≡ None)
   pub once : AreNew [] ps

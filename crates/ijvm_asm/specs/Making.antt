@@ -35,7 +35,7 @@ AreConstants methods seen [] = ⊤
 AreConstants methods seen (c ∷ cs) = (names.place_of_name seen c.name ≡ None) × (names.place_of_name methods c.name ≡ None)
     × AreConstants methods (seen ++ c.name ∷ []) cs
 
--- it is the only section of constants, its names are new, and it adds them in order with their values
+-- the section of constants is the only one, its names are new, and it adds them in order with their values
 pub record AddsConstants (d : Declarations) (items : List (Option Constant)) (e : Declarations) : Type 0 where
   pub first : d.seen_constants ≡ false
   pub new : AreConstants d.methods d.constants (defined items)
@@ -47,14 +47,14 @@ pub record AddsConstants (d : Declarations) (items : List (Option Constant)) (e 
 
 -- ---- units
 
--- it is the only main; line `k` begins it
+-- main is the only one; line `k` begins it
 pub record AddsMain (k : ℕ) (d : Declarations) (body : Body) (e : Declarations) : Type 0 where
   pub first : d.main ≡ None
   pub unit : DraftView
   pub is : MakesUnit (k + 1) None [] body unit
   pub adds : e ≡ record d { main = Some unit }
 
--- its name is that of no constant and of no method before it, and its parameters are at most 65,534; line `k` begins it
+-- the method's name is that of no constant and of no method before it, and its parameters are at most 65,534; line `k` begins it
 pub record AddsMethod (k : ℕ) (d : Declarations) (name : List ℕ) (ps : List (List ℕ)) (body : Body) (e : Declarations) : Type 0 where
   pub new : (names.place_of_name d.constants name ≡ None) × (names.place_of_name d.methods name ≡ None)
   pub once : AreNew [] ps

@@ -46,7 +46,7 @@ size_rows file place rows =
     (not (is_size (word_at file place) (word_at file (place + 4))), errors.BadSize (word_at file (place + 4))) ∷
     (not (nat_le (place + 8 + word_at file (place + 4)) (length file)), errors.Truncated (length file)) ∷ rows
 
--- and from that of its origin on
+-- the rows of a block from that of its origin on
 abbrev origin_rows : List ℕ → ℕ → Option ℕ → Rows → Rows
 origin_rows file place first rows =
     (not (is_origin first (word_at file place)), errors.BadOrigin (word_at file place)) ∷ (not (nat_le (place + 8) (length file)), errors.Truncated (length file)) ∷

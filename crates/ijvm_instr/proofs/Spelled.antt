@@ -202,7 +202,7 @@ stand_from : (text : List ℕ) (at : ℕ) (bytes : List ℕ) → bytes_from text
 stand_from text at [] e h = omega arith
 stand_from text at (x ∷ xs) e h = ((cc), stand_from text (at + 1) xs (cc) (omega arith))
 
--- and the other way round
+-- the bytes from an address on are those that stand there
 bytes_from-stand : (text : List ℕ) (at : ℕ) (bytes : List ℕ) → StandAt text at bytes → bytes_from text at (length bytes) ≡ bytes
 bytes_from-stand text at [] h = refl
 bytes_from-stand text at (x ∷ xs) h =
@@ -314,7 +314,7 @@ whole_second text at stands =
     let fits : at + 1 ≤ length text = stands.1 in
     rw first (whole-fits (length text) at Ior fits)
 
--- and what is spelled there is read
+-- what is spelled at an address is read there
 pub instr_at-spelled : (text : List ℕ) (at : ℕ) (i : Instr) (bytes : List ℕ) → IsInstr i → SpellsInstr bytes i → StandAt text at bytes → instr_at text at ≡ Some i
 instr_at-spelled text at i bytes real spells stands =
     elim spells [
@@ -422,7 +422,7 @@ instr_at-real text at i small e =
     of_bytes-real _ _ _ _ _ _ i (byte_below text (at + 1) small) (byte_below text (at + 2) small) (byte_below text (at + 3) small)
     (byte_below text (at + 4) small) (byte_below text (at + 5) small) found.0
 
--- and stands inside the text
+-- what is read at an address ends inside the text
 pub instr_at-ends : (text : List ℕ) (at : ℕ) (i : Instr) → instr_at text at ≡ Some i → at + size_of (row_of i) ≤ length text
 unfolding instr_at
 instr_at-ends text at i e =

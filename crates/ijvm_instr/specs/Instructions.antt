@@ -200,7 +200,7 @@ instr_at text at = whole (length text) at (begun_at text at)
 abbrev pub IsReadAt : List ℕ → ℕ → Instr → Type 0
 IsReadAt text at i = instr_at text at ≡ Some i
 
--- its bytes are read as it wherever they stand
+-- the bytes of an instruction are read as it wherever they stand
 abbrev pub IsReadBack : Instr → List ℕ → List ℕ → Type 0
 IsReadBack i before after = IsReadAt (before ++ (spelling i ++ after)) (length before) i
 

@@ -70,7 +70,7 @@ ends_next : (p : TimedImage) (bound n : ℕ) (b : Point) (to : State) (f : Finis
 ends_next p bound zero b to f less goes e = absurd (cc)
 ends_next p bound (suc n) b to f less goes e = (n, sym (one_on p bound n b to less goes) ∙ e)
 
--- and the other way round
+-- the end of a run is that of each boundary that it passes
 pub ends_at : (p : TimedImage) (bound : ℕ) (from at : Point) (f : Finish) → Passes p bound from at → EndsBy p bound from f → EndsBy p bound at f
 ends_at p bound from at f (Start a same) e = subst (λ (x : Point). EndsBy p bound x f) (sym same) e
 ends_at p bound from at f (More b next to first less goes is) e =

@@ -99,7 +99,7 @@ state_after image stack_end (suc k) s = after (state_after image stack_end k) (s
 abbrev pub EndsOnce : TimedImage → ℕ → Point → Type 0
 EndsOnce p bound from = (f g : Finish) → EndsBy p bound from f → EndsBy p bound from g → f ≡ g
 
--- it passes the boundary at which it ends
+-- the run from this point passes the boundary at which it ends
 abbrev pub PassesItsEnd : TimedImage → ℕ → Point → Type 0
 PassesItsEnd p bound from = (f : Finish) → EndsBy p bound from f → Passes p bound from f.last
 

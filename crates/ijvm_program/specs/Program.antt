@@ -37,5 +37,5 @@ pub record IsProgram (program : ProgramView) : Type 0 where
   pub method_names : All (λ method. IsSome method.name) program.methods
   -- the pool has fewer words than a number of 32 bits can count
   pub few_entries : length program.constants + length program.methods < 2 ^ 32
-  -- and the text fewer bytes
+  -- the text has fewer bytes than a number of 32 bits can count
   pub fits : text_size program.main program.methods < 2 ^ 32

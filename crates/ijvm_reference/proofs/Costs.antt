@@ -92,7 +92,7 @@ paid image n Out s to e = refl
 paid image n Err s to e = absurd (cc)
 paid image n Halt s to e = absurd (cc)
 
--- and none costs more than 23
+-- no instruction costs more than 23 cycles
 cheap : (i : Instr) → both (at_most 23) i ≡ true
 cheap Nop = refl
 cheap (Bipush b) = refl

@@ -307,7 +307,7 @@ short e left held left' held' c1 p main_locals bound c new d holds =
       given = got_front (told_of held) b.0.state.given d.all held' holds (kept_front c1.kept d.all held' d.shown) b.3.given;
     }
 
--- there was no memory before the first boundary
+-- memory ran out before the first boundary
 pub short_first : (left held : Option (List ℕ)) (p : TimedImage) (main_locals bound : ℕ) → IsShort p main_locals bound left held left held
 short_first left held p main_locals bound =
     let input = some_untaken left false in

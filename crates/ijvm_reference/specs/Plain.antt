@@ -80,7 +80,7 @@ module _ (p : TimedImage) (main_locals bound : ℕ) (left held left' held' : Opt
     pub ends : EndsBy p bound (first_point p main_locals input) finish
     pub untaken : Leaves left left' finish.left.untaken
 
-  -- that run goes to a boundary that it passes, with what the console keeps there
+  -- the definition's run of those bytes goes to a boundary that it passes, with what the console keeps there
   pub record Stops : Type 0 where
     pub input : List ℕ
     pub told : Untaken left false input
@@ -125,7 +125,7 @@ module _ (p : TimedImage) (main_locals bound : ℕ) (left held left' held' : Opt
   abbrev pub IsCutByWrite : PlainReport → Type 0
   IsCutByWrite r = IsCutInside r ⊎ IsCutAtEnd r
 
-  -- there was no memory for the instruction at a boundary, or before the first one
+  -- memory ran out for the instruction at a boundary, or before the first boundary
   pub record IsShort : Type 0 where
     pub run : Stops
     pub given : GotFront held held' run.at.state.given

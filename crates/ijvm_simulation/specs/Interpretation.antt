@@ -3,7 +3,7 @@ use Rattle.std.specs.Prelude.{ℕ, List}
 use Rattle.mic_clock.specs.Meaning.{Meaning}
 use Rattle.ijvm_meaning.specs.Cost.{Timing}
 
--- its meaning, when its next instruction is ready, the words of its store, where a run begins, and what is spent
+-- a machine's meaning, when its next instruction is ready, the words of its store, where a run begins, and what is spent
 pub record Interpretation (M S : Type 0) : Type 1 where
   pub state : M → S
   pub meaning : Meaning S

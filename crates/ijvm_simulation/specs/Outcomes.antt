@@ -10,14 +10,14 @@ use Rattle.ijvm_image.specs.Image.{ImageView, method_at}
 use Rattle.ijvm_meaning.specs.Frames.{Frame, State, frames_of, base}
 use Rattle.ijvm_meaning.specs.Step.{StepOutcome, Goes, Halts, Errs, Limits, Stuck, is_own, moved, with_local, way, in_method, taken}
 
--- there is a top operand, of which this holds, and of those below it
+-- the operands have a top, and this holds of it and of those below it
 pub record WithTop (operands : List ℕ) (Leads : ℕ → List ℕ → Type 0) : Type 0 where
   pub top : ℕ
   pub rest : List ℕ
   pub are : operands ≡ top ∷ rest
   pub leads : Leads top rest
 
--- there are a top operand and a second one, of which this holds, and of those below them
+-- the operands have a top and a second one, and this holds of both and of those below them
 pub record WithTwo (operands : List ℕ) (Leads : ℕ → ℕ → List ℕ → Type 0) : Type 0 where
   pub top : ℕ
   pub second : ℕ

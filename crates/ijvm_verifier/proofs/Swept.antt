@@ -156,7 +156,7 @@ none_overlap image seen end closed s z b (p, q, ne, cp, cq) = ne (s.apart p q b 
     met (Code u j) lt = omega arith
     met (Header e) lt = omega arith
 
--- and nothing stands past the text
+-- nothing stands past the text
 pub none_behind : (image : ImageView) (seen : List (Option Kept)) (at : ℕ) → IsClosed image seen → length image.text ≤ at → (p : Piece) → Covers image p at → ⊥
 none_behind image seen at closed past p c = omega (arith, (covers_inside image seen p at closed c).1)
 

@@ -55,7 +55,7 @@ text program =
 abbrev pub method_distances : ProgramView → ℕ × UnitView → List (ℕ × ℤ)
 method_distances program (index, method) = code_distances (code_begin program index) method.lines
 
--- of all lines, in the order of the text
+-- the distances of all lines, in the order of the text
 unfoldable pub distances : ProgramView → List (ℕ × ℤ)
 distances program = code_distances 0 program.main.lines ++ flat_map (method_distances program) (enumerate_from 0 program.methods)
 

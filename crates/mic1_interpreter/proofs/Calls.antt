@@ -42,7 +42,7 @@ module _ (stack_end : ℕ) (m : Micro) (w : World) where
   abbrev entry : ℕ
   entry = read_value stack_end w.words w.untaken from
 
-  -- its two counts
+  -- the method's two counts
   abbrev count : ℕ
   count = bit_or (wrap (256 * byte_in w.words entry)) (byte_in w.words (next entry))
 

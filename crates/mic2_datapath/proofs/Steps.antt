@@ -36,7 +36,7 @@ pub record Asked : Type 0 where
   pub mem : Mem
   pub at : Option ℕ
 
--- it is what the statement does, in a cycle that does not stall
+-- what a cycle asks is what the statement does, in a cycle that does not stall
 pub record IsAsked (s : Placed) (m : Micro) (p : Asked) : Type 0 where
   pub goes : is_stalled s m ≡ false
   pub given : p.ports ≡ ports_given (settled s m)
@@ -74,7 +74,7 @@ mar_there word m stalled value c dests computed goes dests_are =
     let v : c ≡ shifted s.part.shift (result_of s.part m) = computed.shifter goes ∙ ap (λ (x : ℕ). shifted s.part.shift x) (computed.alu goes) in
     λ i. (loaded (dests_are i) (v i) m.word (registers_in m)).mar
 
--- and the word that it is given
+-- the word that the word port is given
 pub mdr_there : (word : ℕ) (m : Micro) (stalled : Bool) (value c dests : ℕ) →
     let s = statement_of machines.Mic2 word in
     HasComputed s m stalled value c → stalled ≡ false → dests ≡ (fields_of machines.Mic2 word).c → (loaded dests c m.word (registers_in m)).mdr ≡ (settled s m).mdr
@@ -91,7 +91,7 @@ sampled_there s m c taken named named_is taken_is c_is =
     let there = λ (is : jumps s.part ≡ true). c_is ∙ sym (ap (λ (b : Bool). if b then shifted s.part.shift (result_of s.part m) else advanced (demand s) m.pc) is) in
     (λ i. unit_samples (named_is i) c (taken_is i) m.unit) ∙ same_sample (jumps s.part) c (settled s m).pc (demand s) m.unit there
 
--- and where the fetch unit stands then
+-- where the fetch unit stands after the edge, by the bits of the word and what is on the C bus
 pub unit_there : (s : Placed) (m : Micro) (words : List ℕ) (c taken : ℕ) (named : Bool) → named ≡ jumps s.part → taken ≡ demand s → c ≡ shifted s.part.shift (result_of s.part m) →
     unit_after named words c taken m.unit ≡ unit_after (jumps s.part) words (settled s m).pc (demand s) m.unit
 unit_there s m words c taken named named_is taken_is c_is =
@@ -194,7 +194,7 @@ refused_no_fault None e is fault = absurd (cc)
 refused_no_fault (Some (StackLimit at)) e is fault = let same : e ≡ fault_of (StackLimit at) = cc in subst IsFault same fault
 refused_no_fault (Some (OutOfMap at)) e is fault = let same : e ≡ fault_of (OutOfMap at) = cc in subst IsFault same fault
 
--- so it has no cause in the source or the sink
+-- a refusal has no cause in the source or the sink
 pub no_cause : (why : Option Refusal) (source sink : ℕ) (r : Result ⊤ BusFault) → IfErr r (λ e. refused_by why ≡ Some e) → HasFaultCause source source sink sink r
 no_cause why source sink r fails =
     record {
@@ -328,7 +328,7 @@ module _ (word : ℕ) (m : Micro) (left held : Option (List ℕ)) (bus : BusView
         stands = tt;
       }
 
-  -- and one that is not done returns the fault
+  -- an edge that is not done returns the fault
   pub fails_so : {T : Type 0} (e : BusFault) (t : Micro) (left' held' : Option (List ℕ)) (bus' : BusView) → Edges t left' held' bus' (Err e) →
       IsEdge mic2_meaning word m left held bus {T = T} t left' held' bus' (Err e)
   fails_so e t left' held' bus' edge =

@@ -188,7 +188,7 @@ impl Latches {
         }
     }
 
-    /// Shows the front of the queue on its places: the first byte where at least one is taken, the first two where more are.
+    /// Shows the front of the queue on its places: one byte where at least one is taken, and two where more are.
     #[inline(always)]
     pub fn show_front(&mut self, takes: u8)
         requires latches { AreLatches self.old }

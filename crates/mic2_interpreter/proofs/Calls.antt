@@ -41,7 +41,7 @@ module _ (o : Origin) (m : Micro) (w : World) where
   abbrev pub entry : ℕ
   entry = read_value (length o.words) w.words w.untaken from
 
-  -- its two counts
+  -- the method's two counts
   abbrev pub count : ℕ
   count = 256 * byte_in o.words entry + byte_in o.words (entry + 1)
 

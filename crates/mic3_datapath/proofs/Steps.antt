@@ -33,7 +33,7 @@ pub record Asked : Type 0 where
   pub mem : Mem
   pub at : Option ℕ
 
--- it is what the cycle does in which this issues
+-- what a cycle asks is what the cycle does in which this issues
 pub record IsAsked (i : Option Issued) (p : Pipeline) (q : Asked) : Type 0 where
   pub given : q.ports ≡ ports_given (settled i p)
   pub memory : q.mem ≡ mem_in p.result

@@ -49,7 +49,7 @@ addresses_drop zero ss all = all
 addresses_drop (suc n) [] all = tt
 addresses_drop (suc n) (s ∷ ss) all = addresses_drop n ss all.1
 
--- of a state that was kept last, and those before it
+-- MPC is an address in the state that was kept last, and in those before it
 pub addresses_less : (ss : List Snapshot) (s : Snapshot) → HaveAddresses (ss ++ s ∷ []) → HaveAddresses ss × HasAddress s
 addresses_less [] s all = (tt, all.0)
 addresses_less (t ∷ ss) s all = let rest = addresses_less ss s all.1 in ((all.0, rest.0), rest.1)

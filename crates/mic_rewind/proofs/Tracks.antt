@@ -39,7 +39,7 @@ pub LeadTo-last : (cs : List Cycle) (c : Cycle) (m : Moment) (words : List ℕ) 
 LeadTo-last [] c m words h = h.0
 LeadTo-last (d ∷ ds) c m words h = LeadTo-last ds c m words h.1
 
--- and those before it led to where it began
+-- the cycles before the last one led to where it began
 pub LeadTo-front : (cs : List Cycle) (c : Cycle) (m : Moment) (words : List ℕ) → LeadTo (cs ++ c ∷ []) m words → LeadTo cs c.before (undone c.written words)
 LeadTo-front [] c m words h = tt
 LeadTo-front (d ∷ ds) c m words h =

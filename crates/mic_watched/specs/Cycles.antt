@@ -58,6 +58,6 @@ cycle_on state m mpc board =
       boundary = boundary_in board.counts;
     }
 
--- that cycle, where it did not end the board
+-- the last cycle of a board, where it did not end the board
 abbrev pub shown_on : {M State : Type 0} → (M → State) → Meaning State → ℕ → BoardView M → List Cycle
 shown_on state m mpc board = shown_where board.end (cycle_on state m mpc board)

@@ -217,7 +217,7 @@ all_kept image seen start done a Start = start
 all_kept image seen start done b (Then a to reached follows) =
     (done a.at (kept_of a.unit a.depth) (all_kept image seen start done a reached)).1 a.unset to follows
 
--- so each reached method is kept from its start on
+-- each reached method is kept from its start on
 start_kept : (image : ImageView) (seen : List (Option Kept)) → ((a : Arrival) → Reached image a → IsKept seen a) → (e : ℕ) (a : Arrival) → Reached image a → a.unit ≡ Some e → slice_get seen (e + 4) ≡ Some (Some (kept_of (Some e) 0))
 start_kept image seen all e a Start unit = cc
 start_kept image seen all e b (Then a to reached (On r need g)) unit = start_kept image seen all e a reached (sym g.unit_is ∙ unit)
