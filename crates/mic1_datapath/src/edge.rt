@@ -199,7 +199,7 @@ fn edge_outside<S: Source, K: Sink>(
     Ok(())
 }
 
-/// The clock edge. An Err leaves what the latches mean.
+/// The clock edge. After an Err the latches mean what they meant before.
 #[inline(always)]
 pub fn edge<S: Source, K: Sink>(
     latches: &mut Latches,

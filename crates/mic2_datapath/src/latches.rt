@@ -126,7 +126,7 @@ pub fn load(
     settle(destinations, lines, c, arriving, places);
 }
 
-/// The fetch unit at a clock edge: it jumps to PC, or this many bytes are taken. An Err leaves it.
+/// The fetch unit at a clock edge: it jumps to PC, or this many bytes are taken. An Err leaves it as it was.
 #[inline(always)]
 #[tactic(auto, unfolding(mic2_fetch_unit::specs::FetchUnit::edge_refusal))]
 pub fn go(jumps: bool, pc: u32, taken: u8, bus: &Bus, unit: &mut FetchUnit) -> Result<(), BusFault>
@@ -318,7 +318,7 @@ impl Latches {
         Some(None)
     }
 
-    /// A cycle in which the machine waits for bytes. An Err leaves all.
+    /// A cycle in which the machine waits for bytes. An Err leaves everything as it was.
     pub fn stall(&mut self, bus: &Bus) -> Result<(), BusFault>
         requires { AreLatches self.old }
         ensures latches { AreLatches self.new }
@@ -358,7 +358,7 @@ impl Latches {
         straight_on(jam, addr, value)
     }
 
-    /// The edge of a cycle that does not stall, after its accesses: this word is under way. An Err leaves all.
+    /// The edge of a cycle that does not stall, after its accesses, with this word under way. An Err leaves all as is.
     #[inline(always)]
     pub fn advance(
         &mut self,

@@ -29,7 +29,7 @@ impl Model for FetchUnit {
     ghost invariant = { λ u. IsUnit (record { bytes = u.queue; imar = u.imar; skip = u.skip; pending = u.pending }) };
 }
 
-/// The address where a word is sampled, and else none.
+/// The address if a word is sampled; otherwise none.
 fn at_if(samples: bool, imar: u32) -> Option<u32>
     ensures { result ≡ (if samples then Some imar else None) }
 {
@@ -119,7 +119,7 @@ impl FetchUnit {
         self.queue.leave(taken, stay);
     }
 
-    /// The word address that an edge samples which takes this many bytes; none where it samples none.
+    /// The word address that an edge which takes this many bytes samples, if it samples one.
     #[inline(always)]
     pub fn will_fetch(&self, taken: u8) -> Option<u32>
         requires { taken ≤ length self.now.bytes }

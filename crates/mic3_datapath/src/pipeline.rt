@@ -311,7 +311,7 @@ impl Pipeline {
         }
     }
 
-    /// The edge after its access, which sampled this word if it read. An Err leaves all.
+    /// The edge after its access, which sampled this word if it read. An Err leaves everything as it was.
     #[inline(always)]
     pub fn advance(
         &mut self,

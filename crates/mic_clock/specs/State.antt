@@ -15,7 +15,7 @@ pub record Row : Type 0 where
 abbrev pub word : List ℕ → ℕ → Row
 word name value = record { name = name; digits = hex_text 8 value }
 
--- two digits a byte, and a dash where there is none
+-- two digits for each byte, or a dash where there is none
 abbrev pub queue_text : List ℕ → List ℕ
 queue_text [] = codes "-"
 queue_text (byte ∷ bytes) = flat_map (hex_text 2) (byte ∷ bytes)

@@ -68,7 +68,7 @@ pub trait Clocked {
         ensures word { word self.new ≡ word self.old }
         ensures value { result ≡ meaning.computes (word self.old) (state self.old) };
 
-    /// The clock edge. An Err leaves the machine's state.
+    /// The clock edge. An Err leaves the machine's state as it was.
     fn edge<S: Source, K: Sink>(
         &mut self,
         bus: &mut Bus,

@@ -31,7 +31,7 @@ fn words(line: &mut Line, rows: &[(&str, u32)])
     }
 }
 
-/// Appends two digits a byte, and a dash where there is none.
+/// Appends two digits for each byte, or a dash where there is none.
 fn queue(line: &mut Line, bytes: &[u8])
     requires few { length bytes.now ≤ 6 }
     requires room { length line.old + 12 ≤ 512 }
