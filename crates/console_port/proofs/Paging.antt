@@ -47,7 +47,7 @@ empty_at : (k : ℕ) → get_or empty_frame k 0 ≡ 0
 unfolding empty_frame
 empty_at k = zero_at 1024 k
 
--- what a list that is made longer by a frame has
+-- what a list has after it was made longer by a frame
 pub resized : (xs : List ℕ) (n len : ℕ) → len ≡ length xs → n ≡ len + 1024 → take n xs ++ zeros (n - len) ≡ xs ++ empty_frame
 unfolding empty_frame
 resized xs n len e f =
@@ -55,7 +55,7 @@ resized xs n len e f =
     let more : n - len ≡ 1024 = omega arith in
     ap (λ ys. ys ++ zeros (n - len)) all ∙ ap (λ (k : ℕ). xs ++ zeros k) more
 
--- a page gets a frame
+-- a page that gets a frame is one more page with a frame
 pub framed_more : (table : List ℕ) (page free : ℕ) → page < length table → get_or table page 0 ≡ 0 → 0 < free → framed (set table page free) ≡ framed table + 1
 unfolding framed
 framed_more table page free h none some =

@@ -23,7 +23,7 @@ IsLed left held bus left' held' bus' leads =
 abbrev pub IsRead : ℕ → ℕ → ℕ → World → World → Type 0
 IsRead stack_end at value w v = (value ≡ read_value stack_end w.words w.untaken at) × (v ≡ after_read stack_end w at)
 
--- after an Err: no memory word is changed, and but for a write that failed the same world is shown; after a fault nothing is kept
+-- After an Err no memory word is changed, and the same world is shown unless a write failed. After a fault nothing is kept.
 pub record Stands (left held : Option (List ℕ)) (bus : BusView) (left' held' : Option (List ℕ)) (bus' : BusView) (e : BusFault) : Type 0 where
   pub words : bus'.words ≡ bus.words
   pub same : e ≢ WriteFault → (w : World) → Shows left held bus w → Shows left' held' bus' w
@@ -36,6 +36,6 @@ pub record Stands (left held : Option (List ℕ)) (bus : BusView) (left' held' :
 abbrev pub ChangesOnly : ℕ → List ℕ → List ℕ → Type 0
 ChangesOnly at old new = (length new ≡ length old) × ((a : ℕ) → a ≢ at → slice_get new a ≡ slice_get old a)
 
--- what a refused access answers, where it is refused
+-- the fault that a refused access returns
 abbrev pub refused_by : Option Refusal → Option BusFault
 refused_by refusal = option_map fault_of refusal

@@ -7,7 +7,7 @@ use Rattle.console_port.specs.View.{ConsoleView}
 use Rattle.console_port.specs.declared.fault.BusFault.{BusFault}
 use Rattle.console_port.specs.declared.fault.BusFault.TheVariants.{ReadFault, WriteFault, StackLimit, OutOfMap}
 
--- the untaken bytes may be these: none after the end was met, else what the source tells that it has left, where it tells
+-- the untaken bytes may be these: none after the end was met, and before that what the source has left, where that is known
 abbrev pub Untaken : Option (List ℕ) → Bool → List ℕ → Type 0
 Untaken left true untaken = untaken ≡ []
 Untaken left false untaken = IfSome left (λ l. untaken ≡ l)
@@ -21,21 +21,21 @@ abbrev pub Asks : List ℕ → Option (List ℕ) → Bool → Type 0
 Asks [] left ended = (left ≡ Some []) × (ended ≡ true)
 Asks (byte ∷ rest) left ended = (left ≡ Some rest) × (ended ≡ false)
 
--- the source tells what it has left: nothing once its end was met
+-- what the source has left is known: nothing once its end was met
 pub record TellsLeft (left : Option (List ℕ)) (ended : Bool) : Type 0 where
   pub bytes : List ℕ
   pub tells : left ≡ Some bytes
   pub none_left : ended ≡ true → bytes ≡ []
 
--- where it told so before, it tells so after
+-- what was known before is known after
 abbrev pub StillTells : Option (List ℕ) → Bool → Option (List ℕ) → Bool → Type 0
 StillTells left ended left' ended' = TellsLeft left ended → TellsLeft left' ended'
 
--- the bytes given may be these: where the sink tells what it holds, that followed by the kept bytes
+-- the bytes given may be these: what the sink holds, where that is known, followed by the kept bytes
 abbrev pub Given : Option (List ℕ) → List ℕ → List ℕ → Type 0
 Given held kept given = IfSome held (λ h. given ≡ h ++ kept)
 
--- the sink has passed on all that it holds, where it had before
+-- the sink has passed on all that it holds, if it had before
 abbrev pub StaysFlushed : Option (List ℕ) → Option (List ℕ) → Option (List ℕ) → Option (List ℕ) → Type 0
 StaysFlushed held passed held' passed' = IsFlushed held passed → IsFlushed held' passed'
 

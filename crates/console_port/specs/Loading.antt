@@ -1,4 +1,4 @@
--- A loaded image: its text in the memory from byte 0, and its pool from where the map has it.
+-- A loaded image: its text in the memory from byte 0, and its pool from the map's address for it.
 use Rattle.std.specs.Prelude.{◌≡◌, ◌⊎◌, ℕ, ◌+◌, ◌*◌, ◌/◌, ◌<◌, ◌≤◌, List, length, slice_index}
 use Rattle.console_port.specs.declared.map.TheConstants.{POOL}
 use Rattle.console_port.specs.World.{byte_in}
@@ -7,12 +7,12 @@ use Rattle.console_port.specs.World.{byte_in}
 abbrev pub big_endian_word : ℕ → ℕ → ℕ → ℕ → ℕ
 big_endian_word a b c d = 16777216 * a + 65536 * b + 256 * c + d
 
--- word `at` of a text, with zeros behind its end
+-- word `at` of a text, with zeros after its end
 abbrev pub text_word : List ℕ → ℕ → ℕ
 text_word text at =
     big_endian_word (slice_index text (4 * at)) (slice_index text (4 * at + 1)) (slice_index text (4 * at + 2)) (slice_index text (4 * at + 3))
 
--- An image was loaded into a memory. Behind the text its last word has zeros, and every other word stays.
+-- An image was loaded into a memory. The text's last word is filled up with zeros, and every other word stays.
 pub record IsLoaded (text pool old new : List ℕ) : Type 0 where
   pub size : length new ≡ length old
   pub text_bytes : (byte : ℕ) → 4 * (byte / 4) < length text → byte_in new byte ≡ slice_index text byte

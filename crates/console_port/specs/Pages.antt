@@ -27,6 +27,6 @@ pub record ArePaged (table frames : List ℕ) (size : ℕ) : Type 0 where
 unfoldable pub empty_frame : List ℕ
 empty_frame = replicate 1024 0
 
--- so many words have room for the first frame and one for each page
+-- this many words have room for the first frame and one for each page
 abbrev pub HasRoom : List ℕ → ℕ → Type 0
 HasRoom table room = 1024 * (length table + 1) ≤ room

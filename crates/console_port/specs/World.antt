@@ -1,4 +1,4 @@
--- The world of a machine: the memory's words, the console bytes not yet taken and those given. This profile's memory map says which access it has.
+-- The world of a machine: the memory's words, the console bytes not yet taken and those given. This profile's memory map decides each access.
 use Rattle.std.specs.Prelude.{ℕ, ◌-◌, ◌/◌, ◌%◌, ◌^◌, nat_lt, ◌==◌, if◌then◌else◌, List, [], ◌∷◌, ◌++◌, drop, slice_index, slice_set, Option, Some, None}
 use Rattle.console_port.specs.declared.fault.BusFault.{BusFault}
 use Rattle.console_port.specs.declared.fault.BusFault.TheVariants as faults
@@ -14,7 +14,7 @@ pub data Refusal : Type 0 where
   StackLimit : (at : ℕ) → Refusal
   OutOfMap : (at : ℕ) → Refusal
 
--- the answer of a refused access
+-- the fault that a refused access returns
 abbrev pub fault_of : Refusal → BusFault
 fault_of (StackLimit at) = faults.StackLimit at
 fault_of (OutOfMap at) = faults.OutOfMap at
@@ -51,9 +51,9 @@ abbrev pub next_byte : List ℕ → ℕ
 next_byte [] = 0
 next_byte (byte ∷ bytes) = byte % 256
 
--- What follows is of accesses that are not refused.
+-- The definitions below are for accesses that are not refused.
 
--- what a read there gives, of these words and untaken bytes
+-- the value that a read there gives, from these words and untaken bytes
 unfoldable pub read_value : ℕ → List ℕ → List ℕ → ℕ → ℕ
 read_value stack_end words untaken at = if nat_lt at stack_end then slice_index words at else next_byte untaken
 

@@ -1,4 +1,4 @@
-//! Memory and console behind one address: what the wires of a machine reach.
+//! Memory and console in one address space: what the wires of a machine reach.
 
 ghost use Rattle.mic_base.specs.Streams.{IsFlushed};
 ghost use Rattle.std.specs.Prelude.{◌/◌, ◌==◌, ◌≡◌, ◌≢◌, ◌≤◌, ◌<◌, [], ℕ, List, Option, Some, None, Ok, Err, true, false, length, replicate, IsTrue, ◌↔◌, IsSome, slice_get, slice_index, slice_set, IsOk, IfOk, OnOk, OnErr, IfErr};
@@ -19,7 +19,7 @@ use mic_base::{Sink, Source};
 use std::alloc::{AllocError, Global};
 use std::marker::Model;
 
-/// Memory words and a console. Each access says by the memory map what it reaches.
+/// Memory words and a console. The memory map decides what each access reaches.
 #[derive(Drop)]
 pub struct Bus {
     memory: Pages,
@@ -58,7 +58,7 @@ impl Bus {
         write_image(&mut self.memory, text, pool);
     }
 
-    /// Whether a memory word is there.
+    /// Whether there is a memory word at this address.
     pub fn has(&self, at: u32) -> bool
         ensures { IsTrue result ↔ (at < length self.now.words) }
     {
@@ -104,7 +104,7 @@ impl Bus {
         }
     }
 
-    /// The memory word there, or none where no memory is.
+    /// The memory word there, or none where there is no memory.
     pub fn peek(&self, at: u32) -> Option<u32>
         ensures { result ≡ slice_get self.now.words at }
     {

@@ -89,7 +89,7 @@ impl Console {
         Ok(())
     }
 
-    /// Puts the kept bytes to the sink, and then keeps the byte: apart, because few calls of `give` need it.
+    /// Puts the kept bytes to the sink, and then keeps the byte. It stands apart because few calls of `give` need it.
     #[cold]
     #[inline(never)]
     fn give_to_full<K: Sink>(&mut self, byte: u8, sink: &mut K) -> Result<(), BusFault>

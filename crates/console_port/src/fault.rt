@@ -6,7 +6,7 @@ pub enum BusFault {
     ReadFault,
     /// The sink failed.
     WriteFault,
-    /// A write behind the memory, at this word address.
+    /// A write past the end of the memory, at this word address below `STACK_SIDE`.
     StackLimit(u32),
     /// No memory and no console at this word address.
     OutOfMap(u32),

@@ -1,4 +1,4 @@
-//! Memory words and a console behind one address, between a source and a sink of bytes.
+//! Memory words and a console in one address space, between a source and a sink of bytes.
 #![tactic(auto)]
 
 pub mod bus;

@@ -13,7 +13,7 @@ fn byte_or_zero(text: &[u8], at: usize) -> u32
     if at < text.len() { text[at] as u32 } else { 0 }
 }
 
-/// Word `at` of a text, the most significant byte first, with zeros behind its end.
+/// Word `at` of a text, the most significant byte first, with zeros after its end.
 fn text_word(text: &[u8], at: usize) -> u32
     requires { at < POOL }
     ensures { result ≡ text_word text.now at }

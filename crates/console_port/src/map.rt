@@ -3,7 +3,7 @@
 /// The word address of the console.
 pub const CONSOLE: u32 = 0xFFFF_FFFD;
 
-/// A write behind the memory and below this word address goes beyond the stack.
+/// A write past the end of the memory and below this word address goes beyond the stack.
 pub const STACK_SIDE: u32 = 0x8000_0000;
 
 /// The most bytes of a text, which stands in memory from byte 0.

@@ -33,7 +33,7 @@ impl Model for Pages {
 }
 
 impl Pages {
-    /// So many words of 0. No page has a frame.
+    /// A memory of `size` words, all 0. No page has a frame.
     pub fn new(alloc: Global, size: u32) -> Result<Pages, AllocError>
         ensures { IfOk result (λ pages. pages ≡ replicate size 0) }
     {
@@ -48,7 +48,7 @@ impl Pages {
         })
     }
 
-    /// Whether a word is there.
+    /// Whether there is a word at this address.
     pub fn has(&self, at: u32) -> bool
         ensures { IsTrue result ↔ (at < length self.now) }
     {
@@ -64,7 +64,7 @@ impl Pages {
         self.frames[self.table[at / PAGE] + at % PAGE]
     }
 
-    /// The word there, or none behind the end.
+    /// The word there, or none past the end.
     pub fn get(&self, at: u32) -> Option<u32>
         ensures { result ≡ slice_get self.now at }
     {

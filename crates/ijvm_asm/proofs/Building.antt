@@ -5,7 +5,7 @@ use Rattle.ijvm_asm.specs.Said.{Said}
 use Rattle.ijvm_asm.specs.Source.{Source}
 use Rattle.ijvm_asm.specs.Adding.{parser}
 
--- what lines from line `k` on say, each at its place, makes the one source of the other
+-- lines from line `k` on, each read at its place, lead from the one source to the other
 abbrev pub Build : ℕ → Source → List Said → Source → Type 0
 Build = Makes parser
 

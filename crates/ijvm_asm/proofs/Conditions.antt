@@ -1,4 +1,4 @@
--- What an outcome behind a test says of the test.
+-- What an outcome after a test shows of the test.
 use Rattle.std.proofs.Common.{◌≡◌, Bool, true, false, refl, ap, sym, cond}
 use Rattle.std.specs.Prelude.{Result, Ok, Err}
 use Rattle.source_text.specs.Walk.{FailsBy}

@@ -16,7 +16,7 @@ use Rattle.ijvm_asm.proofs.Totals.{body_keeps}
 
 -- ---- a unit
 
--- the unit behind its locals
+-- the unit after its locals
 abbrev with_locals : Option (List ℕ) → List (List ℕ) → Option Locals → DraftView
 with_locals name ps o = record (begun name ps) { names = ps ++ locals_in o }
 

@@ -1,4 +1,4 @@
--- The lines of sections make what the sections make, one behind the other.
+-- The lines of sections make what the sections make, one after the other.
 use Rattle.std.proofs.Common.{◌≡◌, ℕ, ◌+◌, List, [], ◌∷◌, ◌++◌, map, replicate, length, Option, Some, None, refl, ap, sym, subst, ◌∙◌}
 use Rattle.std.proofs.lemmas.List.{append_assoc}
 use Rattle.ijvm_line.specs.declared.place.Mark.{Mark}
@@ -27,7 +27,7 @@ make_lines (Constants items) k s u e m = makes_section k s u items e m
 make_lines (Main body) k s u e m = makes_main k s u body e m
 make_lines (Method n ps body) k s u e m = makes_method k s u n ps body e m
 
--- behind a section the next one begins
+-- after a section the next one begins
 pub ends_outside : (x : Section) (k : ℕ) (s u : Source) → s.place ≡ places.Outside → Makes k s x u → u.place ≡ places.Outside
 ends_outside Between k s u e m = ap (λ w. w.place) (sym m) ∙ e
 ends_outside (Constants items) k s u e (n, new, q) = ap (λ w. w.place) q

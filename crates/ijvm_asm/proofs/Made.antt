@@ -1,4 +1,4 @@
--- What sections make of the reader's record, one behind the other: the lines of a unit, then the sections that hold them.
+-- What sections make of the reader's record, one after the other: the lines of a unit, then the sections that hold them.
 use Rattle.std.specs.Prelude.{◌≡◌, ℕ, ◌+◌, ◌≤◌, Bool, true, false, List, [], ◌∷◌, ◌++◌, map, length, Option, Some, None}
 use Rattle.ijvm_program.specs.Program.{most_names}
 use Rattle.ijvm_program.specs.declared.line.Constant.{Constant}
@@ -12,7 +12,7 @@ use Rattle.ijvm_asm.specs.Making.{AreConstants, defined}
 
 -- ---- a unit
 
--- the locals stand behind the parameters, and the code of the unit follows
+-- the locals stand after the parameters, and the code of the unit follows
 abbrev pub MakesLocals : Source → List (Option (List ℕ)) → Source → Type 0
 MakesLocals s items u = AreLocals s.unit.names (declared items)
     × (u ≡ record s { place = places.Code; unit = record s.unit { names = s.unit.names ++ declared items } })
@@ -35,7 +35,7 @@ MakesCode k s items u = AreNew s.unit.labels (labels_in items)
       };
     })
 
--- the unit may declare locals, behind blank lines, and its code starts at `code_from`
+-- the unit may declare locals, after blank lines, and its code starts at `code_from`
 abbrev pub OpensLocals : ℕ → Source → Option Locals → Source → Type 0
 OpensLocals k s None u = s ≡ u
 OpensLocals k s (Some d) u = MakesLocals (record s { place = places.Locals; inner = k + d.blank_lines; may_declare = false }) d.names u
@@ -49,7 +49,7 @@ pub record MakesBody (k : ℕ) (s : Source) (body : Body) (u : Source) : Type 0 
 
 -- ---- sections
 
--- it is the only one, its names are new, and it adds them in order with their values
+-- the section of constants is the only one, its names are new, and it adds them in order with their values
 abbrev pub MakesConstants : ℕ → Source → List (Option Constant) → Source → Type 0
 MakesConstants k s items u = (s.seen_constants ≡ false) × AreConstants s.methods s.constants (defined items)
     × (u ≡ record s {
@@ -60,14 +60,14 @@ MakesConstants k s items u = (s.seen_constants ≡ false) × AreConstants s.meth
       values = s.values ++ map (λ c. c.value) (defined items);
     })
 
--- there is one main
+-- main is the only one
 pub record MakesMain (k : ℕ) (s : Source) (body : Body) (u : Source) : Type 0 where
   pub first : s.seen_main ≡ false
   pub last : Source
   pub content : MakesBody (k + 1) (record s { place = places.Code; section = k; may_declare = true; seen_main = true; unit = begun None [] }) body last
   pub ends : u ≡ record last { place = places.Outside; unit = begun None []; main = Some last.unit }
 
--- its name is that of no constant and of no method before it, its parameters are at most 65,534
+-- the method's name is that of no constant and of no method before it, and its parameters are at most 65,534
 pub record MakesMethod (k : ℕ) (s : Source) (name : List ℕ) (ps : List (List ℕ)) (body : Body) (u : Source) : Type 0 where
   pub is_new : (names.place_of_name s.constants name ≡ None) × (names.place_of_name s.methods name ≡ None)
   pub once : AreNew [] ps
@@ -76,7 +76,7 @@ pub record MakesMethod (k : ℕ) (s : Source) (name : List ℕ) (ps : List (List
   pub content : MakesBody (k + 1) (record s { place = places.Code; section = k; may_declare = true; methods = s.methods ++ name ∷ []; unit = begun (Some name) ps }) body last
   pub ends : u ≡ record last { place = places.Outside; unit = begun None []; units = last.units ++ last.unit ∷ [] }
 
--- what a section makes, behind the sections before it
+-- what a section makes, after the sections before it
 abbrev pub Makes : ℕ → Source → Section → Source → Type 0
 Makes k s Between u = s ≡ u
 Makes k s (Constants items) u = MakesConstants k s items u

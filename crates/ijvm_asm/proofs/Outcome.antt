@@ -1,4 +1,4 @@
--- A source is read as what it spells: the lines for themselves, one behind the other, and all together.
+-- A source is read as what it spells: each line by itself, one line after the other, and all together.
 use Rattle.std.proofs.Common.{◌≡◌, ℕ, List, refl, ap, sym, subst, ◌∙◌, false}
 use Rattle.std.specs.Prelude.{Result, Ok, Err, IfOk, IfErr}
 use Rattle.source_text.specs.Content.{contents}

@@ -1,4 +1,4 @@
--- A line is refused exactly where it does not fit behind the lines before it, for the reason that it has.
+-- A line is refused exactly where it does not fit after the lines before it, for the reason that it has.
 use Rattle.std.proofs.Common.{◌≡◌, ℕ, ◌+◌, Bool, true, false, List, [], ◌∷◌, ◌++◌, Option, Some, None, length, refl, ap, sym, subst, ◌∙◌, inl, inr, cond}
 use Rattle.std.specs.Prelude.{◌||◌, not, Result, Ok, Err, is_some, IsSome, nat_le, nat_lt}
 use Rattle.ijvm_program.specs.Program.{most_names}

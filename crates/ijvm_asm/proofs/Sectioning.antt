@@ -48,7 +48,7 @@ at_place s p xs e r = subst (λ q. Rest q s.may_declare (is_some s.unit.name) xs
 to_place : (s : Source) (p : Place) (xs : List Said) → s.place ≡ p → RestOf s xs → Rest p s.may_declare (is_some s.unit.name) xs
 to_place s p xs e r = subst (λ q. Rest q s.may_declare (is_some s.unit.name) xs) e r
 
--- what is left behind the source that a line makes
+-- what is left after the source that a line makes
 made : (s u : Source) (xs : List Said) → ok s ≡ ok u → RestOf u xs → RestOf s xs
 made s u xs h r = let q : s ≡ u = cc in subst (λ w. RestOf w xs) (sym q) r
 
@@ -79,7 +79,7 @@ ended_code m l i xs (code, rest, q) = (Some (record { label = l; instruction = i
 ended_end : (m : Mark) (xs : List Said) (rest : List Section) → xs ≡ lines_of rest → Ended m (Dotted m ∷ xs)
 ended_end m xs rest q = ([], rest, cons _ _ _ q)
 
--- code lines alone are a unit
+-- code lines by themselves are a unit
 fresh_ended : (m : Mark) (xs : List Said) → Ended m xs → Fresh m xs
 fresh_ended m xs (code, rest, q) = (record { locals = None; code = code }, rest, q)
 

@@ -98,7 +98,7 @@ some_size (operands.Name []) = omega arith
 some_size (operands.Name (b ∷ n)) = omega arith
 some_size (operands.Number v) = omega arith
 
--- a word, before what stands behind it
+-- a word, and what stands after it
 pub behind_word : (kind : Kind) (rest ts : List Token) → Begins kind rest ts → kind_least kind + tokens_size rest ≤ tokens_size ts
 behind_word kind rest ts b =
     let a = (word_bytes b.text kind b.of_kind).0 in

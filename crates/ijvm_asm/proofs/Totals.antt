@@ -30,7 +30,7 @@ abbrev pub units_total : List DraftView → ℕ
 units_total [] = 0
 units_total (u ∷ us) = (5 + lines_size u.lines) + units_total us
 
--- its entries, and the bytes of its code and its headers
+-- the total of a source: its entries, and the bytes of its code and its headers
 abbrev pub total : Source → ℕ
 total s = length s.constants + (main_total s.main + units_total s.units)
 

@@ -77,7 +77,7 @@ abbrev pub IsNew : List (List ℕ) → Option (List ℕ) → Type 0
 IsNew seen None = ⊤
 IsNew seen (Some l) = names.place_of_name seen l ≡ None
 
--- the source behind code line `k`
+-- the source after code line `k`
 abbrev pub after : ℕ → Source → Option (List ℕ) → Option Instruction → Source
 after k s l i = record s { unit = add_instruction k (labelled s.unit l) i; may_declare = false }
 

@@ -10,7 +10,7 @@ use Rattle.ijvm_asm.specs.Names.{all_units, IsLowest, IsUnknownAt, IsUnknownIn, 
 use Rattle.ijvm_asm.specs.ReadingNames.{lower, operation_of, or_line, unknown, unknown_lines, unknown_main, unknown_units}
 use Rattle.ijvm_asm.proofs.Standing.{operation_again, operation_is}
 
--- none of the lines is so, or this is the lowest
+-- none of the lines has the property, or this is the lowest that has it
 abbrev Least : Option ℕ → (ℕ → Type 0) → Type 0
 Least None P = (j : ℕ) → P j → ⊥
 Least (Some k) P = IsLowest P k

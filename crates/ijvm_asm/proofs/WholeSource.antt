@@ -1,4 +1,4 @@
--- What the whole source is read as is the program that it is, or its late refusal.
+-- The whole source is read as the program that it is, or as its late refusal.
 use Rattle.std.proofs.Common.{◌≡◌, ℕ, List, [], ◌∷◌, Option, Some, None, refl, ap, sym, subst, ◌∙◌, inl, inr}
 use Rattle.std.specs.Prelude.{Ok, Err, IsSome, IsSomeAnd}
 use Rattle.ijvm_program.specs.declared.line.CodeLine.{CodeLine}

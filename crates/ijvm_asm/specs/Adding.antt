@@ -62,7 +62,7 @@ abbrev pub begin_locals : ℕ → Source → Result Source AsmError
 begin_locals k s = if not s.may_declare then Err (errors.BadLine k)
     else Ok (record s { place = places.Locals; inner = k; may_declare = false })
 
--- a unit is ended by its own word, and not behind a label without an instruction
+-- a unit is ended by its own word, and not after a label without an instruction
 abbrev pub end_main : ℕ → Source → Result Source AsmError
 end_main k s = if is_some s.unit.name || s.unit.pending then Err (errors.BadLine k)
     else Ok (record s { place = places.Outside; unit = begun None []; main = Some s.unit })
@@ -90,7 +90,7 @@ abbrev pub add_constant : ℕ → Source → List ℕ → ℕ → Result Source 
 add_constant k s name value = if is_declared s name then Err (errors.DuplicateName k)
     else Ok (record s { constants = s.constants ++ name ∷ []; values = s.values ++ value ∷ [] })
 
--- names behind those that were seen, unless one comes twice
+-- names after those that were seen, unless one comes twice
 abbrev pub gather : List (List ℕ) → List (List ℕ) → Option (List (List ℕ))
 gather seen [] = Some seen
 gather seen (name ∷ names) = if is_some (place_of_name seen name) then None else gather (seen ++ name ∷ []) names

@@ -34,7 +34,7 @@ abbrev pub is_memory : AsmError → Bool
 is_memory errors.OutOfMemory = true
 is_memory _ = false
 
--- a refusal is the one that is there, and memory runs out only where there is none
+-- the error is the refusal, or, where there is none, that memory ran out
 abbrev pub RefusesBy : {A : Type 0} → AsmError → Result A AsmError → Type 0
 RefusesBy e (Ok a) = e ≡ errors.OutOfMemory
 RefusesBy e (Err f) = e ≡ f

@@ -1,4 +1,4 @@
--- What sections declare, one behind the other: no name comes twice among those that it must differ from.
+-- What sections declare, one after the other: no name comes twice among those that it must differ from.
 use Rattle.std.specs.Prelude.{◌≡◌, ℕ, ◌+◌, ◌≤◌, Bool, true, false, List, [], ◌∷◌, ◌++◌, map, length, Option, Some, None, ⊤}
 use Rattle.ijvm_program.specs.Program.{most_names}
 use Rattle.ijvm_program.specs.declared.line.Constant.{Constant}
@@ -35,7 +35,7 @@ AreConstants methods seen [] = ⊤
 AreConstants methods seen (c ∷ cs) = (names.place_of_name seen c.name ≡ None) × (names.place_of_name methods c.name ≡ None)
     × AreConstants methods (seen ++ c.name ∷ []) cs
 
--- it is the only section of constants, its names are new, and it adds them in order with their values
+-- the section of constants is the only one, its names are new, and it adds them in order with their values
 pub record AddsConstants (d : Declarations) (items : List (Option Constant)) (e : Declarations) : Type 0 where
   pub first : d.seen_constants ≡ false
   pub new : AreConstants d.methods d.constants (defined items)
@@ -47,14 +47,14 @@ pub record AddsConstants (d : Declarations) (items : List (Option Constant)) (e 
 
 -- ---- units
 
--- it is the only main; line `k` begins it
+-- main is the only one; line `k` begins it
 pub record AddsMain (k : ℕ) (d : Declarations) (body : Body) (e : Declarations) : Type 0 where
   pub first : d.main ≡ None
   pub unit : DraftView
   pub is : MakesUnit (k + 1) None [] body unit
   pub adds : e ≡ record d { main = Some unit }
 
--- its name is that of no constant and of no method before it, and its parameters are at most 65,534; line `k` begins it
+-- the method's name is that of no constant and of no method before it, and its parameters are at most 65,534; line `k` begins it
 pub record AddsMethod (k : ℕ) (d : Declarations) (name : List ℕ) (ps : List (List ℕ)) (body : Body) (e : Declarations) : Type 0 where
   pub new : (names.place_of_name d.constants name ≡ None) × (names.place_of_name d.methods name ≡ None)
   pub once : AreNew [] ps
@@ -63,7 +63,7 @@ pub record AddsMethod (k : ℕ) (d : Declarations) (name : List ℕ) (ps : List 
   pub is : MakesUnit (k + 1) (Some name) ps body unit
   pub adds : e ≡ record d { methods = d.methods ++ name ∷ []; units = d.units ++ unit ∷ [] }
 
--- ---- sections, one behind the other
+-- ---- sections, one after the other
 
 -- what a section adds to what the sections before it declare
 abbrev pub SectionAdds : ℕ → Declarations → Section → Declarations → Type 0
@@ -72,7 +72,7 @@ SectionAdds k d (Constants items) e = AddsConstants d items e
 SectionAdds k d (Main body) e = AddsMain k d body e
 SectionAdds k d (Method name ps body) e = AddsMethod k d name ps body e
 
--- sections from line `k` on, each behind those before it
+-- sections from line `k` on, each after those before it
 abbrev pub SectionsDeclare : ℕ → Declarations → List Section → Declarations → Type 0
 SectionsDeclare k d [] e = d ≡ e
 SectionsDeclare k d (x ∷ xs) e = (c : Declarations) × SectionAdds k d x c × SectionsDeclare (k + length (section_lines x [])) c xs e

@@ -22,7 +22,7 @@ Pairwise R [] [] = ⊤
 Pairwise R (x ∷ xs) (y ∷ ys) = R x y × Pairwise R xs ys
 Pairwise R _ _ = ⊥
 
--- main's locals are numbered from 0; a method's parameters from 1, and its locals behind them
+-- main's locals are numbered from 0; a method's parameters from 1, and its locals after them
 abbrev pub first_index : DraftView → ℕ
 first_index u = if is_some u.name then 1 else 0
 
@@ -80,12 +80,12 @@ pub record IsProgramOf (d : Declarations) (p : ProgramView) : Type 0 where
 abbrev pub IsUnknownLine : List (List ℕ) → List (List ℕ) → DraftView → DraftLine → ℕ → Type 0
 IsUnknownLine constants methods u draft k = (draft.line ≡ k) × NamesNone constants methods u draft.instruction
 
--- so does one of these lines of a unit
+-- one of these lines of a unit has this number and names what is not declared
 abbrev pub IsUnknownIn : List (List ℕ) → List (List ℕ) → DraftView → List DraftLine → ℕ → Type 0
 IsUnknownIn constants methods u [] k = ⊥
 IsUnknownIn constants methods u (d ∷ ds) k = IsUnknownLine constants methods u d k ⊎ IsUnknownIn constants methods u ds k
 
--- so does a line of one of these units
+-- a line of one of these units has this number and names what is not declared
 abbrev pub IsUnknownAt : List (List ℕ) → List (List ℕ) → List DraftView → ℕ → Type 0
 IsUnknownAt constants methods [] k = ⊥
 IsUnknownAt constants methods (u ∷ us) k = IsUnknownIn constants methods u u.lines k ⊎ IsUnknownAt constants methods us k
@@ -94,7 +94,7 @@ abbrev pub all_units : Option DraftView → List DraftView → List DraftView
 all_units None us = us
 all_units (Some main) us = main ∷ us
 
--- it is so, and nothing below it is
+-- the number has the property, and none below it has
 pub record IsLowest (P : ℕ → Type 0) (k : ℕ) : Type 0 where
   pub holds : P k
   pub lowest : (j : ℕ) → P j → k ≤ j

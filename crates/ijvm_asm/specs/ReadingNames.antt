@@ -67,7 +67,7 @@ unknown s = unknown_units s.constants s.methods (unknown_main s.constants s.meth
 
 -- ---- units
 
--- the lines behind those that are done
+-- the lines after those that are done
 abbrev pub lines_from : List (List ℕ) → List (List ℕ) → DraftView → List CodeLine → List DraftLine → Option (List CodeLine)
 lines_from constants methods u done [] = Some done
 lines_from constants methods u done (d ∷ ds) =

@@ -1,4 +1,4 @@
--- Why a line is refused behind others: they are the first lines of some sections, and with this line they are not.
+-- Why a line is refused after others: they are the first lines of some sections, and with this line they are not.
 use Rattle.std.specs.Prelude.{◌≡◌, ◌⊎◌, ℕ, ◌+◌, List, [], ◌∷◌, ◌++◌, None, IsSome}
 use Rattle.source_text.specs.Text.{LineRefusals}
 use Rattle.ijvm_tokens.specs.declared.token.Token.{Token}
@@ -23,7 +23,7 @@ pub record IsFront (xs : List Said) : Type 0 where
   pub split : xs ++ others ≡ lines_of sections
   pub made : SectionsDeclare 1 nothing sections declares
 
--- the line behind these stands at this place: it may be blank there
+-- the line after these stands at this place: it may be blank there
 abbrev pub StandsAt : List Said → Place → Type 0
 StandsAt xs place = IsFront (xs ++ BlankAt place ∷ [])
 
@@ -37,7 +37,7 @@ names_behind ns (Dotted marks.EndMain) = []
 names_behind ns (Dotted marks.EndMethod) = []
 names_behind ns _ = ns
 
--- the parameters and locals of the unit that is open behind these lines, which has these before them
+-- the parameters and locals of the unit that is open after these lines, which has these before them
 abbrev pub open_names : List (List ℕ) → List Said → List (List ℕ)
 open_names ns [] = ns
 open_names ns (x ∷ xs) = open_names (names_behind ns x) xs
@@ -60,7 +60,7 @@ opened_by k (Dotted marks.EndMethod) opened = behind_end opened
 opened_by k (Dotted marks.EndLocals) opened = behind_end opened
 opened_by k _ opened = opened
 
--- the lines that began what is open behind these lines, the innermost first; the first of these is line `k`
+-- the lines that began what is open after these lines, the innermost first; the first of these is line `k`
 abbrev pub open_lines : ℕ → List ℕ → List Said → List ℕ
 open_lines k opened [] = opened
 open_lines k opened (x ∷ xs) = open_lines (k + 1) (opened_by k x opened) xs
@@ -71,7 +71,7 @@ IsInnermost xs k = (outer : List ℕ) × (open_lines 1 [] xs ≡ k ∷ outer)
 
 -- ---- why a line does not fit
 
--- why line `k` does not fit behind these lines: a dotted word is a bad line; what declares a name declares it a second time, or the
+-- why line `k` does not fit after these lines: a dotted word is a bad line; what declares a name declares it a second time, or the
 -- unit has too many
 abbrev pub IsReason : ℕ → List Said → Said → AsmError → Type 0
 IsReason k before (BlankAt place) e = ⊥
@@ -83,7 +83,7 @@ IsReason k before (Declares name) e = ((e ≡ errors.DuplicateName k) × IsSome 
     ⊎ ((e ≡ errors.TooManyNames k) × (names.place_of_name (open_names [] before) name ≡ None))
 IsReason k before (Codes label instruction) e = e ≡ errors.DuplicateName k
 
--- what line `k` says at its place does not fit behind these lines, for this reason
+-- what line `k` says at its place does not fit after these lines, for this reason
 pub record IsMisfit (k : ℕ) (before : List Said) (x : Said) (e : AsmError) : Type 0 where
   pub stands : StandsAt before (place_of x)
   pub misfit : IsFront (before ++ x ∷ []) → ⊥
@@ -99,6 +99,6 @@ at_line k faults.OutOfRange = errors.OutOfRange k
 abbrev pub refusals : LineRefusals LineFault AsmError
 refusals = record { bad_token = errors.BadToken; at_line = at_line }
 
--- the tokens have this fault at the place behind these lines
+-- the tokens have this fault at the place after these lines
 abbrev pub HasFault : List Said → List Token → LineFault → Type 0
 HasFault before ts fault = (place : Place) × StandsAt before place × lines.IsRefused place ts fault

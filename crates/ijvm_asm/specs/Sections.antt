@@ -12,7 +12,7 @@ pub record CodeItem : Type 0 where
   pub label : Option (List ℕ)
   pub instruction : Option Instruction
 
--- the `.var` section of a unit, behind so many blank lines; `None` is a blank line
+-- the `.var` section of a unit, after this many blank lines; `None` is a blank line
 pub record Locals : Type 0 where
   pub blank_lines : ℕ
   pub names : List (Option (List ℕ))
@@ -41,7 +41,7 @@ abbrev pub code_line : Option CodeItem → Said
 code_line None = BlankAt places.Code
 code_line (Some c) = Codes c.label c.instruction
 
--- each of these is the lines of a part, before the lines behind it
+-- each of these is the lines of a part, followed by the lines `behind`
 abbrev pub locals_lines : Option Locals → List Said → List Said
 locals_lines None behind = behind
 locals_lines (Some d) behind = replicate d.blank_lines (BlankAt places.Code)

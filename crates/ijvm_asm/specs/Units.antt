@@ -1,4 +1,4 @@
--- The unit that a body makes: its locals stand behind its parameters, and its labels and instructions in order.
+-- The unit that a body makes: its locals stand after its parameters, and its labels and instructions in order.
 use Rattle.std.specs.Prelude.{◌≡◌, ℕ, ◌+◌, ◌<◌, ◌||◌, Bool, false, List, [], ◌∷◌, ◌++◌, map, length, Option, Some, None, is_some, ⊤}
 use Rattle.ijvm_program.specs.Program.{most_names}
 use Rattle.ijvm_line.specs.declared.place.Mark.TheVariants as marks
@@ -66,7 +66,7 @@ abbrev pub waits : Bool → Option Instruction → Bool
 waits label None = label
 waits label (Some instruction) = false
 
--- the last label has no instruction behind it
+-- the last label has no instruction after it
 abbrev pub waits_behind : Bool → List (Option CodeItem) → Bool
 waits_behind label [] = label
 waits_behind label (None ∷ items) = waits_behind label items

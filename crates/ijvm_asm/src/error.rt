@@ -14,7 +14,7 @@ pub enum AsmError {
     /// The tokens do not follow the grammar at that place.
     #[error("line {0}: bad line")]
     BadLine(u32),
-    /// A number does not read.
+    /// A number cannot be read.
     #[error("line {0}: bad number")]
     BadNumber(u32),
     /// A number is out of its range.

@@ -11,7 +11,7 @@ use mic_base::Name;
 use source_names::NameList;
 use std::alloc::{AllocError, Global};
 
-/// Main's locals are numbered from 0; a method's parameters from 1, and its locals behind them.
+/// Main's locals are numbered from 0; a method's parameters from 1, and its locals after them.
 fn first_index(unit: &Draft) -> u16
     ensures is { result ≡ first_index unit.now }
     ensures small { result ≤ 1 }

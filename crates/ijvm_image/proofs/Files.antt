@@ -289,7 +289,7 @@ record IsRead (file : List ℕ) (place : ℕ) (first : Option ℕ) (b : Block) :
   inside : b.to ≤ length file
   stands : drop place file ≡ block_of b.origin (slice_range file b.from b.to) ++ drop b.to file
 
--- a part, and what is behind it
+-- a part, and what is after it
 parted : (file : List ℕ) (from size : ℕ) → drop from file ≡ slice_range file from (from + size) ++ drop (from + size) file
 parted file from size =
     let many : from + size - from ≡ size = omega arith in

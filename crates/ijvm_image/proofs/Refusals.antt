@@ -1,4 +1,4 @@
--- The reader answers the first refusal that holds.
+-- The reader returns the first refusal that holds.
 use Rattle.std.proofs.Common.{◌≡◌, ◌⊎◌, ◌∙◌, ap, refl, sym, nat_le, nat_lt, not, ℕ, ◌+◌, Bool, true, false, if◌then◌else◌, ◌==◌, List, [], ◌∷◌, length, Option, Some, None, Result, Ok, Err, IfErr, inl, inr, arith, subst}
 use Rattle.ijvm_image.specs.declared.reader.Block.{Block}
 use Rattle.ijvm_image.specs.declared.image.ImageError.{ImageError}
@@ -46,7 +46,7 @@ size_rows file place rows =
     (not (is_size (word_at file place) (word_at file (place + 4))), errors.BadSize (word_at file (place + 4))) ∷
     (not (nat_le (place + 8 + word_at file (place + 4)) (length file)), errors.Truncated (length file)) ∷ rows
 
--- and from that of its origin on
+-- the rows of a block from that of its origin on
 abbrev origin_rows : List ℕ → ℕ → Option ℕ → Rows → Rows
 origin_rows file place first rows =
     (not (is_origin first (word_at file place)), errors.BadOrigin (word_at file place)) ∷ (not (nat_le (place + 8) (length file)), errors.Truncated (length file)) ∷

@@ -20,7 +20,7 @@ pub record IsImage (image : ImageView) : Type 0 where
   pub limits : IsWithinLimits image.text image.pool
 
 -- A method begins at its entry with two counts of two bytes, its parameters with the object reference and its other locals, and its
--- code stands behind them.
+-- code stands after them.
 
 unfoldable pub params : List ℕ → ℕ → ℕ
 params text entry = 256 * slice_index text entry + slice_index text (entry + 1)

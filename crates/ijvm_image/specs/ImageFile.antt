@@ -38,7 +38,7 @@ text_first image = word_bytes magic ++ (text_block image ++ pool_block image)
 abbrev pub IsFileOf : List ℕ → ImageView → Type 0
 IsFileOf file image = (file ≡ file_of image) ⊎ (file ≡ text_first image)
 
--- The fields of a file, where there are none a byte counts as 0.
+-- The fields of a file. A byte past its end counts as 0.
 
 -- the number of the two bytes there
 abbrev pub half_at : List ℕ → ℕ → ℕ
@@ -47,13 +47,13 @@ half_at file place = 256 * slice_index file place + slice_index file (place + 1)
 abbrev pub word_at : List ℕ → ℕ → ℕ
 word_at file place = 65536 * half_at file place + half_at file (place + 2)
 
--- Refusals. Each row has what is true of a file, and the refusal that answers it; the first row that holds is the answer.
+-- Refusals. Each row has a condition on a file, and the refusal for it; the first row that holds has the file's refusal.
 
 -- the file ends before this place
 abbrev pub is_cut : List ℕ → ℕ → Bool
 is_cut file place = not (nat_le place (length file))
 
--- an origin that a block may have behind a block of the other
+-- an origin that a block may have after a first block, if there was one
 abbrev pub is_origin : Option ℕ → ℕ → Bool
 is_origin None origin = (origin == text_origin) || (origin == pool_origin)
 is_origin (Some first) origin = ((origin == text_origin) || (origin == pool_origin)) && not (origin == first)
@@ -61,7 +61,7 @@ is_origin (Some first) origin = ((origin == text_origin) || (origin == pool_orig
 abbrev pub is_size : ℕ → ℕ → Bool
 is_size origin size = nat_le size 65536 && ((origin == text_origin) || (size % 4 == 0))
 
--- the block that begins at this place: its origin, its size and its bytes; `rows` are those behind it
+-- the block that begins at this place: its origin, its size and its bytes; `rows` are those after it
 abbrev pub block_rows : List ℕ → ℕ → Option ℕ → List (Bool × ImageError) → List (Bool × ImageError)
 block_rows file place first rows =
     (is_cut file (place + 4), errors.Truncated (length file)) ∷
@@ -100,7 +100,7 @@ IsOfOneImage file = (p q : ImageView) → IsWithinLimits p.text p.pool → IsWit
 abbrev pub IsNeverBoth : List ℕ → Type 0
 IsNeverBoth file = (p : ImageView) (e : ImageError) → IsWithinLimits p.text p.pool → IsFileOf file p → IsRefused file e → ⊥
 
--- the answer is the image within the limits of which this is the file, unless memory ran out
+-- the result is the image within the limits of which this is the file, unless memory ran out
 abbrev pub ReadsImage : List ℕ → Result ImageView ImageError → Type 0
 ReadsImage file answer = (image : ImageView) → IsWithinLimits image.text image.pool → IsFileOf file image →
     (answer ≡ Ok image) ⊎ (answer ≡ Err errors.OutOfMemory)

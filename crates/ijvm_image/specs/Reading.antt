@@ -34,7 +34,7 @@ pub record IsWithin (file : List ℕ) (b : Block) : Type 0 where
   pub inside : b.to ≤ length file
   pub small : b.to ≤ b.from + 65536
 
--- so many words from a place on
+-- this many words from a place on
 abbrev pub words_at : List ℕ → ℕ → ℕ → List ℕ
 words_at file place zero = []
 words_at file place (suc n) = word_at file place ∷ words_at file (place + 4) n

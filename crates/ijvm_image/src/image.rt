@@ -7,7 +7,7 @@ use std::alloc::{AllocError, AllocFailed};
 use std::marker::Model;
 use thiserror::Error;
 
-/// Why a file is no image file. The first fault from the front is told.
+/// Why a file is no image file. The first fault from the front is reported.
 #[derive(Clone, Copy, Debug, PartialEq, Eq, Error)]
 pub enum ImageError {
     /// A field or a block is cut at the file's end, which is here.

@@ -48,7 +48,7 @@ fn field(file: &[u8], place: usize) -> Result<u32, ImageError>
     Ok(word_at(file, place))
 }
 
-/// Whether a block may have this origin behind a first block.
+/// Whether a block may have this origin after a first block.
 fn is_origin(first: Option<u32>, origin: u32) -> bool
     ensures { result ≡ is_origin first origin }
 {
@@ -94,7 +94,7 @@ fn block_at(file: &[u8], place: usize, first: Option<u32>) -> Result<Block, Imag
     block_from(file, origin, place + 8, size)
 }
 
-/// So many words from a place on.
+/// This many words from a place on.
 fn words_at(alloc: Global, file: &[u8], place: usize, count: usize) -> Result<Vec<u32>, AllocError>
     requires { place + 4 * count ≤ length file.now }
     ensures { IfOk result (λ words. words.items ≡ words_at file.now place count) }

@@ -1,4 +1,4 @@
--- Instructions and their bytes are each other's, but for the second spelling of IOR.
+-- Instructions and their bytes correspond one to one, except for the second spelling of IOR.
 use Rattle.std.proofs.Common.{◌≡◌, ◌⊎◌, ◌<◌, ◌≤◌, ℕ, zero, suc, All, ℤ, nat_le, FitsSigned, ◌+◌, ◌*◌, ◌/◌, ◌%◌, Bool, true, false, if◌then◌else◌, ◌==◌, List, [], ◌∷◌, ◌++◌, length, take, drop, append_assoc, length-append, slice_index, Option, Some, None, refl, sym, ap, ◌∙◌, inl, inr, arith, subst}
 use Rattle.std.proofs.lemmas.Bool.Decides.{nat_tests}
 use Rattle.std.proofs.lemmas.List.{drop_more}
@@ -17,7 +17,7 @@ chosen_by P x y j rest i true is here there e =
     subst P found (here same)
 chosen_by P x y j rest i false is here there e = there e
 
--- a row of the decoder: what holds of the row's instruction, and of those of the rows behind it, holds of the one that is found
+-- a row of the decoder: what holds of the row's instruction, and of those of the rows after it, holds of the one that is found
 pub chosen : (P : Instr → Type 0) (x y : ℕ) (j : Instr) (rest : Option Instr) (i : Instr) →
     (x ≡ y → P j) → (rest ≡ Some i → P i) → (if x == y then Some j else rest) ≡ Some i → P i
 chosen P x y j rest i here there e = chosen_by P x y j rest i (x == y) refl here there e
@@ -173,7 +173,7 @@ whole-some many at (Some j) i e =
 pub whole-fits : (many at : ℕ) (i : Instr) → at + size_of (row_of i) ≤ many → whole many at (Some i) ≡ Some i
 whole-fits many at i h = grind (arith, nat_tests)
 
--- so many bytes from an address on
+-- this many bytes from an address on
 abbrev bytes_from : List ℕ → ℕ → ℕ → List ℕ
 bytes_from text at zero = []
 bytes_from text at (suc n) = slice_index text at ∷ bytes_from text (at + 1) n
@@ -202,7 +202,7 @@ stand_from : (text : List ℕ) (at : ℕ) (bytes : List ℕ) → bytes_from text
 stand_from text at [] e h = omega arith
 stand_from text at (x ∷ xs) e h = ((cc), stand_from text (at + 1) xs (cc) (omega arith))
 
--- and the other way round
+-- the bytes from an address on are those that stand there
 bytes_from-stand : (text : List ℕ) (at : ℕ) (bytes : List ℕ) → StandAt text at bytes → bytes_from text at (length bytes) ≡ bytes
 bytes_from-stand text at [] h = refl
 bytes_from-stand text at (x ∷ xs) h =
@@ -314,7 +314,7 @@ whole_second text at stands =
     let fits : at + 1 ≤ length text = stands.1 in
     rw first (whole-fits (length text) at Ior fits)
 
--- and what is spelled there is read
+-- what is spelled at an address is read there
 pub instr_at-spelled : (text : List ℕ) (at : ℕ) (i : Instr) (bytes : List ℕ) → IsInstr i → SpellsInstr bytes i → StandAt text at bytes → instr_at text at ≡ Some i
 instr_at-spelled text at i bytes real spells stands =
     elim spells [
@@ -350,7 +350,7 @@ part_stands before (x ∷ xs) after =
 pub length-spelled : (i : Instr) (bytes : List ℕ) → SpellsInstr bytes i → length bytes ≡ size_of (row_of i)
 length-spelled i bytes spells = elim spells [ inl e ↦ ap length e | inr e ↦ rw (e.0, e.1) refl ]
 
--- what an instruction's bytes and anything behind them are read as
+-- what an instruction's bytes and anything after them are read as
 pub front-decoded : (bytes : List ℕ) (i : Instr) (front rest : List ℕ) → IsInstr i → SpellsInstr front i → bytes ≡ front ++ rest → instr_at bytes 0 ≡ Some i
 front-decoded bytes i front rest real spells e =
     instr_at-spelled bytes 0 i front real spells (subst (λ (text : List ℕ). StandAt text 0 front) (sym e) (part_stands [] front rest))
@@ -422,7 +422,7 @@ instr_at-real text at i small e =
     of_bytes-real _ _ _ _ _ _ i (byte_below text (at + 1) small) (byte_below text (at + 2) small) (byte_below text (at + 3) small)
     (byte_below text (at + 4) small) (byte_below text (at + 5) small) found.0
 
--- and stands inside the text
+-- what is read at an address ends inside the text
 pub instr_at-ends : (text : List ℕ) (at : ℕ) (i : Instr) → instr_at text at ≡ Some i → at + size_of (row_of i) ≤ length text
 unfolding instr_at
 instr_at-ends text at i e =

@@ -27,7 +27,7 @@ plain opcode needs gives mic1 mic2 =
       mic2 = Always mic2;
     }
 
--- the same behind the prefix WIDE
+-- such a row with the prefix WIDE before its opcode
 abbrev pub wide : ℕ → ℕ → ℕ → ℕ → ℕ → Row
 wide opcode needs gives mic1 mic2 = record (plain opcode needs gives mic1 mic2) { wide = true }
 
@@ -46,7 +46,7 @@ call opcode constant cycles1 early2 late2 =
     record (plain opcode 0 1 cycles1 0) { operands = Index constant; flow = Call constant; constant = Some constant; mic2 = ByEntry early2 late2 }
 
 -- The table: mnemonic, opcode, needs, gives, cycles on Mic-1 and on Mic-2; then the operands, where the instruction leads, and what it names.
--- A call needs its method's parameters besides.
+-- A call also needs its method's parameters.
 abbrev pub named_row : Instr → List ℕ × Row
 named_row Nop = (codes "NOP", plain 0x00 0 0 2 1)
 named_row (Bipush b) = (codes "BIPUSH", record (plain 0x10 0 1 4 2) { operands = Byte b })
@@ -75,7 +75,7 @@ named_row Out = (codes "OUT", plain 0xFD 1 0 8 7)
 named_row Err = (codes "ERR", record (plain 0xFE 0 0 1 0) { flow = End })
 named_row Halt = (codes "HALT", record (plain 0xFF 0 0 1 0) { flow = End })
 
--- the mnemonic, behind WIDE where its opcode is
+-- the mnemonic, after WIDE where its opcode is
 abbrev pub mnemonic_of : Instr → List ℕ
 mnemonic_of i = (named_row i).0
 
@@ -187,7 +187,7 @@ begun_at text at =
     of_bytes (slice_index text at) (slice_index text (at + 1)) (slice_index text (at + 2))
     (slice_index text (at + 3)) (slice_index text (at + 4)) (slice_index text (at + 5))
 
--- the instruction, if it ends inside a text of so many bytes
+-- the instruction, if it ends inside a text of this many bytes
 abbrev pub whole : ℕ → ℕ → Option Instr → Option Instr
 whole many at None = None
 whole many at (Some i) = if nat_le (at + size_of (row_of i)) many then Some i else None
@@ -200,7 +200,7 @@ instr_at text at = whole (length text) at (begun_at text at)
 abbrev pub IsReadAt : List ℕ → ℕ → Instr → Type 0
 IsReadAt text at i = instr_at text at ≡ Some i
 
--- its bytes are read as it wherever they stand
+-- the bytes of an instruction are read as it wherever they stand
 abbrev pub IsReadBack : Instr → List ℕ → List ℕ → Type 0
 IsReadBack i before after = IsReadAt (before ++ (spelling i ++ after)) (length before) i
 

@@ -5,7 +5,7 @@ ghost use Rattle.ijvm_instr.specs.Instructions.{plain, wide, jump, branch, call,
 
 use crate::instr::Instr;
 
-/// What stands behind an opcode.
+/// What stands after an opcode.
 #[derive(Clone, Copy, Debug, PartialEq, Eq)]
 pub enum Operands {
     None,
@@ -48,7 +48,7 @@ pub enum Cost {
 /// A row of the instruction table.
 #[derive(Clone, Copy, Debug, PartialEq, Eq)]
 pub struct Row {
-    /// The opcode stands behind the prefix WIDE.
+    /// The opcode stands after the prefix WIDE.
     pub wide: bool,
     pub opcode: u8,
     pub operands: Operands,
@@ -112,7 +112,7 @@ impl Row {
         }
     }
 
-    /// The same behind the prefix WIDE.
+    /// Such a row with the prefix WIDE before its opcode.
     fn wide(opcode: u8, needs: u32, gives: u32, mic1: u64, mic2: u64) -> Row
         ensures { result ≡ wide opcode needs gives mic1 mic2 }
     {
@@ -165,14 +165,14 @@ impl Row {
         }
     }
 
-    /// With these operands.
+    /// The row with these operands.
     fn with(self, operands: Operands) -> Row
         ensures { result ≡ record self { operands = operands } }
     {
         Row { operands, ..self }
     }
 
-    /// With a constant's index.
+    /// The row with a constant's index.
     fn names(self, constant: u16) -> Row
         ensures { result ≡ record self { operands = Operands.Index constant; constant = Some constant } }
     {
@@ -183,7 +183,7 @@ impl Row {
         }
     }
 
-    /// With operands that name a local, which it reads.
+    /// The row with operands that name a local, which it reads.
     fn reads(self, operands: Operands) -> Row
         ensures { result ≡ record self { operands = operands; reads = operand_index operands } }
     {
@@ -194,7 +194,7 @@ impl Row {
         }
     }
 
-    /// With operands that name a local, which it stores to.
+    /// The row with operands that name a local, which it stores to.
     fn stores(self, operands: Operands) -> Row
         ensures { result ≡ record self { operands = operands; stores = operand_index operands } }
     {
@@ -263,7 +263,7 @@ fn named_row(instr: Instr) -> (&'static str, Row)
     }
 }
 
-/// The mnemonic, behind WIDE where its opcode is.
+/// The mnemonic, after WIDE where its opcode is.
 pub fn name(instr: Instr) -> &'static str
     ensures is { result.now ≡ mnemonic_of instr }
     ensures len { length result.now ≤ 13 }

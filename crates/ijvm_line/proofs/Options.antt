@@ -1,4 +1,4 @@
--- What an answer says of the parts that it was made from.
+-- What a result says of the parts that it was made from.
 use Rattle.std.proofs.Common.{◌≡◌, Bool, true, false, Option, Some, None, refl, inl, inr, cond}
 use Rattle.std.specs.Prelude.{option_map, ◌⊎◌}
 

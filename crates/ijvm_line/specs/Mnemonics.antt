@@ -1,4 +1,4 @@
--- The words that begin an instruction's line, and which operands stand behind each.
+-- The words that begin an instruction's line, and which operands follow each.
 use Rattle.std.specs.Prelude.{◌≡◌, ◌⊎◌, ℕ, List, Option, Some, None, option_and_then, codes, find, if◌then◌else◌}
 use Rattle.std.specs.Str.{str_eq_ignore_ascii_case, str_to_ascii_lowercase}
 use Rattle.ijvm_instr.specs.declared.instr.Instr.{Instr}
@@ -10,7 +10,7 @@ use Rattle.ijvm_line.specs.declared.mnemonic.Access.TheVariants as accesses
 use Rattle.ijvm_line.specs.declared.mnemonic.Kind.{Kind}
 use Rattle.ijvm_line.specs.declared.mnemonic.Kind.TheVariants as kinds
 
--- which operands stand behind an instruction's mnemonic; a wide form is begun by WIDE
+-- which operands follow an instruction's mnemonic; a wide form begins with WIDE
 abbrev pub kind_of : Instr → Option Kind
 kind_of (instrs.Bipush b) = Some kinds.Push
 kind_of (instrs.LdcW k) = Some kinds.Constant

@@ -37,7 +37,7 @@ abbrev pub in_range : {A : Type 0} → Option A → Result A LineFault
 in_range (Some a) = Ok a
 in_range None = Err faults.OutOfRange
 
--- a number that does not read, or is out of its range
+-- a number that cannot be read, or is out of its range
 abbrev pub number : {A : Type 0} → (ℤ → Option A) → Option ℤ → Result A LineFault
 number range None = Err faults.BadNumber
 number range (Some v) = in_range (range v)

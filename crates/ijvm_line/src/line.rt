@@ -13,7 +13,7 @@ use ijvm_tokens::Token;
 pub enum LineFault {
     /// The tokens do not follow the grammar at that place.
     BadLine,
-    /// A number does not read.
+    /// A number cannot be read.
     BadNumber,
     /// A number is out of its range.
     OutOfRange,

@@ -1,4 +1,4 @@
-//! The words that begin an instruction's line, and what kind of operands stands behind each.
+//! The words that begin an instruction's line, and what kind of operands follows each.
 
 ghost use Rattle.std.specs.Prelude.{◌≡◌};
 ghost use Rattle.std.specs.Str.{str_eq_ignore_ascii_case};
@@ -14,7 +14,7 @@ pub enum Access {
     Store,
 }
 
-/// Which operands stand behind a word.
+/// Which operands follow a word.
 #[derive(Clone, Copy, Debug, PartialEq, Eq)]
 pub enum Kind {
     /// None: it is this instruction.
@@ -52,7 +52,7 @@ fn spelled_in(table: &[Instr], text: &[u8]) -> Option<Instr>
         .find(|instr| is_spelled(name(*instr), text))
 }
 
-/// The kind of operands behind an instruction's mnemonic. The wide forms are begun by WIDE.
+/// The kind of operands after an instruction's mnemonic. The wide forms begin with WIDE.
 fn kind_of(instr: Instr) -> Option<Kind>
     ensures { result ≡ kind_of instr }
 {

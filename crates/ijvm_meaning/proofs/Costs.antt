@@ -17,7 +17,7 @@ over operands = moved (start_of 0 []) operands 0
 abbrev pool : List ℕ
 pool = 12 ∷ 13 ∷ 14 ∷ 15 ∷ []
 
--- over these operands the instruction costs so many cycles on Mic-1 and on Mic-2
+-- over these operands the instruction costs this many cycles on Mic-1 and on Mic-2
 abbrev Costs : Instr → List ℕ → ℕ → ℕ → Type 0
 Costs i operands mic1 mic2 =
     (cost (record { text = []; pool = pool }) (timing_of Mic1) i (over operands) ≡ mic1) × (cost (record { text = []; pool = pool }) (timing_of Mic2) i (over operands) ≡ mic2)

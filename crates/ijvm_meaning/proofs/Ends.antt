@@ -70,7 +70,7 @@ ends_next : (p : TimedImage) (bound n : ℕ) (b : Point) (to : State) (f : Finis
 ends_next p bound zero b to f less goes e = absurd (cc)
 ends_next p bound (suc n) b to f less goes e = (n, sym (one_on p bound n b to less goes) ∙ e)
 
--- and the other way round
+-- the end of a run is that of each boundary that it passes
 pub ends_at : (p : TimedImage) (bound : ℕ) (from at : Point) (f : Finish) → Passes p bound from at → EndsBy p bound from f → EndsBy p bound at f
 ends_at p bound from at f (Start a same) e = subst (λ (x : Point). EndsBy p bound x f) (sym same) e
 ends_at p bound from at f (More b next to first less goes is) e =
@@ -93,7 +93,7 @@ one_more image n zero s t to e goes =
     ap (λ (x : State). after (state_after image n zero) (step_outcome image n x)) same ∙ ap (after (state_after image n zero)) goes
 one_more image n (suc k) s t to e goes = one_more_by image n k (step_outcome image n s) t to (λ u below. one_more image n k u t to below goes) e
 
--- each boundary's state is that after so many instructions
+-- each boundary's state is that after this many instructions
 pub passed_state : (p : TimedImage) (bound : ℕ) (from at : Point) → Passes p bound from at → (k : ℕ) × (state_after p.image p.stack_end k from.state ≡ Some at.state)
 passed_state p bound from at (Start a same) = (zero, ap (λ (x : Point). Some x.state) (sym same))
 passed_state p bound from at (More b next to first less goes is) =

@@ -98,7 +98,7 @@ echo-bound-100 : run_of Mic1 echo [] 0 [] 100 30
 unfolding of_bytes instr_at wrap params others
 echo-bound-100 = refl
 
--- a call of a method that adds its two parameters, behind k instructions NOP
+-- a call of a method that adds its two parameters, after k instructions NOP
 abbrev add : ℕ → List ℕ
 add k = replicate k 0 ++ (0x13 ∷ 0x00 ∷ 0x00 ∷ 0x10 ∷ 0x14 ∷ 0x10 ∷ 0x16 ∷ 0xB6 ∷ 0x00 ∷ 0x01 ∷ 0xFD ∷ 0xFF ∷ 0x00 ∷ 0x03 ∷ 0x00 ∷ 0x01 ∷ 0x15 ∷ 0x01 ∷ 0x15 ∷ 0x02 ∷ 0x60 ∷ 0x36 ∷ 0x03 ∷ 0x15 ∷ 0x03 ∷ 0xAC ∷ [])
 

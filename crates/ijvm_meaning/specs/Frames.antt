@@ -25,7 +25,7 @@ pub record State : Type 0 where
 abbrev pub frames_of : State → List Frame
 frames_of s = s.running ∷ s.callers
 
--- the start of a run: main's frame with so many locals, each 0
+-- the start of a run: main's frame with this many locals, each 0
 abbrev pub start_of : ℕ → List ℕ → State
 start_of main_locals input =
     record {
@@ -47,11 +47,11 @@ kept_words (Some back) = 2
 abbrev pub operands_at : ℕ → Frame → ℕ
 operands_at lv f = lv + length f.locals + kept_words f.back
 
--- the word address behind the last operand
+-- the word address after the last operand
 abbrev pub frame_end : ℕ → Frame → ℕ
 frame_end lv f = operands_at lv f + length f.operands
 
--- the word address behind these frames, where the next frame begins
+-- the word address after these frames, where the next frame begins
 abbrev pub base : List Frame → ℕ
 base [] = 0x8000
 base (f ∷ fs) = frame_end (base fs) f

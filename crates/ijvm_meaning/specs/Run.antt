@@ -24,7 +24,7 @@ pub record Finish : Type 0 where
   pub end : RunEnd
   -- the last boundary
   pub last : Point
-  -- the state that is left: the last boundary's, but that an IN that met the stack's end has taken its byte
+  -- the state that is left: the last boundary's, except that an IN that met the stack's end has taken its byte
   pub left : State
   pub cycles : ℕ
   pub instructions : ℕ
@@ -32,7 +32,7 @@ pub record Finish : Type 0 where
 abbrev pub first_point : TimedImage → ℕ → List ℕ → Point
 first_point p main_locals input = record { state = start_of main_locals input; cycles = p.timing.boot; instructions = 0 }
 
--- the point behind a completed instruction that goes on to this state
+-- the point after a completed instruction that goes on to this state
 abbrev pub point_after : TimedImage → Point → State → Point
 point_after p at to = record { state = to; cycles = at.cycles + next_cost p.image p.timing at.state; instructions = at.instructions + 1 }
 
@@ -51,7 +51,7 @@ completed p at end =
 abbrev pub stopped : Point → RunEnd → State → Finish
 stopped at end left = record { end = end; last = at; left = left; cycles = at.cycles; instructions = at.instructions }
 
--- what comes of an outcome; `more` is the rest of the run
+-- what follows an outcome; `more` is the rest of the run
 abbrev pub after_outcome : (Point → Option Finish) → TimedImage → Point → StepOutcome → Option Finish
 after_outcome more p at (Goes to) = more (point_after p at to)
 after_outcome more p at Halts = Some (completed p at ends.Halt)
@@ -64,7 +64,7 @@ abbrev pub after_test : (Point → Option Finish) → TimedImage → Point → B
 after_test more p at true = Some (stopped at ends.Bound at.state)
 after_test more p at false = after_outcome more p at (step_outcome p.image p.stack_end at.state)
 
--- The definition of a run's end: where it ends that goes on from this point, if it needs no more than so many points. What follows says the
+-- The definition of a run's end: where it ends that goes on from this point, if it needs no more than this many points. What follows says the
 -- same of ends, boundaries and states: by the law `runs_end_once` a run has one end, at a boundary that it passes.
 abbrev pub finish_from : TimedImage → ℕ → ℕ → Point → Option Finish
 finish_from p bound zero at = None
@@ -88,7 +88,7 @@ after more Errs = None
 after more (Limits left) = None
 after more Stuck = None
 
--- the state after so many completed instructions, without a bound
+-- the state after this many completed instructions, without a bound
 abbrev pub state_after : ImageView → ℕ → ℕ → State → Option State
 state_after image stack_end zero s = Some s
 state_after image stack_end (suc k) s = after (state_after image stack_end k) (step_outcome image stack_end s)
@@ -99,7 +99,7 @@ state_after image stack_end (suc k) s = after (state_after image stack_end k) (s
 abbrev pub EndsOnce : TimedImage → ℕ → Point → Type 0
 EndsOnce p bound from = (f g : Finish) → EndsBy p bound from f → EndsBy p bound from g → f ≡ g
 
--- it passes the boundary at which it ends
+-- the run from this point passes the boundary at which it ends
 abbrev pub PassesItsEnd : TimedImage → ℕ → Point → Type 0
 PassesItsEnd p bound from = (f : Finish) → EndsBy p bound from f → Passes p bound from f.last
 
@@ -115,10 +115,10 @@ StepsLead p from at = (k : ℕ) × (state_after p.image p.stack_end k from.state
 abbrev pub GoesOnInWords : ImageView → ℕ → State → State → Type 0
 GoesOnInWords image stack_end s to = AreWords s → step_outcome image stack_end s ≡ Goes to → AreWords to
 
--- one that meets the stack's end leaves words
+-- an instruction that meets the stack's end leaves words
 abbrev pub EndsInWords : ImageView → ℕ → State → State → Type 0
 EndsInWords image stack_end s left = AreWords s → step_outcome image stack_end s ≡ Limits left → AreWords left
 
--- so does each boundary that the run passes
+-- each boundary that the run passes has words
 abbrev pub PassesInWords : TimedImage → ℕ → ℕ → Type 0
 PassesInWords p bound main_locals = (input : List ℕ) (at : Point) → Passes p bound (first_point p main_locals input) at → AreWords at.state

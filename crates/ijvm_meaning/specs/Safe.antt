@@ -18,6 +18,6 @@ pub data ComesTo (image : ImageView) (stack_end : ℕ) (s : State) : State → T
 abbrev pub NeverStuck : ImageView → ℕ → State → Type 0
 NeverStuck image stack_end s = (to : State) → ComesTo image stack_end s to → step_outcome image stack_end to ≢ Stuck
 
--- a run of this image, with so many locals of main, never gets stuck
+-- a run of this image, with this many locals of main, never gets stuck
 abbrev pub IsSafe : ImageView → ℕ → ℕ → Type 0
 IsSafe image stack_end main_locals = NeverStuck image stack_end (start_of main_locals [])

@@ -79,7 +79,7 @@ combined f s [] = Stuck
 combined f s (y ∷ []) = Stuck
 combined f s (y ∷ x ∷ rest) = Goes (moved s (f x y ∷ rest) (s.at + 1))
 
--- the address behind a branch
+-- the address that a branch goes on to
 abbrev pub way : ℕ → ℤ → Bool → ℕ
 way at o taken = if taken then target at o else at + 3
 
@@ -103,11 +103,11 @@ abbrev pub onto : List ℕ → List (Option ℕ) → List (Option ℕ)
 onto [] locals = locals
 onto (p ∷ ps) locals = onto ps (Some p ∷ locals)
 
--- a method's frame with these parameters, the last one first, and so many other locals, none of which is set
+-- a method's frame with these parameters, the last one first, and this many other locals, none of which is set
 abbrev pub called : List ℕ → ℕ → ℕ → Frame
 called ps others back = record { locals = None ∷ onto ps (replicate others None); operands = []; back = Some back }
 
--- the state in a method with n parameters beside the object reference
+-- the state in a method with n parameters besides the object reference
 abbrev pub in_method : State → Method → ℕ → State
 in_method s m n =
     record s {

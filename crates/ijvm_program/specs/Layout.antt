@@ -1,4 +1,4 @@
--- Where the code of a program stands in its linked text: main first, then the methods in order, each behind a header of four bytes.
+-- Where the code of a program stands in its linked text: main first, then the methods in order, each after a header of four bytes.
 use Rattle.std.specs.Prelude.{ℕ, ◌+◌, ℤ, pos, List, take, sum_by}
 use Rattle.ijvm_instr.specs.declared.instr.Instr.{Instr}
 use Rattle.ijvm_instr.specs.declared.instr.Instr.TheVariants as instrs

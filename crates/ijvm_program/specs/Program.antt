@@ -11,7 +11,7 @@ pub record ProgramView : Type 0 where
   pub main : UnitView
   pub methods : List UnitView
 
--- the position that an operation names is one of so many constants, methods or code lines
+-- the position that an operation names is one of this many constants, methods or code lines
 abbrev pub NamesPosition : ℕ → ℕ → ℕ → Operation → Type 0
 NamesPosition constants methods lines (operations.Plain instr) = Unit {0}
 NamesPosition constants methods lines (operations.Constant index) = index < constants
@@ -22,7 +22,7 @@ NamesPosition constants methods lines (operations.To jump target) = target < lin
 abbrev pub most_names : ℕ
 most_names = 65534
 
--- a unit of a program of so many constants and methods: its lines and labels name positions that there are, and its parameters
+-- a unit of a program of this many constants and methods: its lines and labels name positions that there are, and its parameters
 -- and locals are few enough for the counts of a header
 pub record IsUnit (constants methods : ℕ) (unit : UnitView) : Type 0 where
   pub lines : All (λ line. NamesPosition constants methods (length unit.lines) line.operation) unit.lines
@@ -37,5 +37,5 @@ pub record IsProgram (program : ProgramView) : Type 0 where
   pub method_names : All (λ method. IsSome method.name) program.methods
   -- the pool has fewer words than a number of 32 bits can count
   pub few_entries : length program.constants + length program.methods < 2 ^ 32
-  -- and the text fewer bytes
+  -- the text has fewer bytes than a number of 32 bits can count
   pub fits : text_size program.main program.methods < 2 ^ 32

@@ -188,7 +188,7 @@ mapped : (g : List ℕ) (o : Option Finish) (f : Finish) → option_map (finish_
 mapped g None f e = absurd (cc)
 mapped g (Some first) f e = (first, refl, cc)
 
--- the end of a run behind given bytes is the run's own
+-- the end of a run after given bytes is the run's own
 pub ended_behind : (p : TimedImage) (bound : ℕ) (g : List ℕ) (at : Point) (f : Finish) → EndsBy p bound (point_behind g at) f →
     (first : Finish) × EndsBy p bound at first × (f ≡ finish_behind g first)
 ended_behind p bound g at f e =
@@ -213,7 +213,7 @@ on_behind told p bound g b next c c' on =
       is,
     )
 
--- and so are the boundaries that it reaches
+-- the boundaries that it reaches after given bytes are the run's own too
 pub reached_behind : (told : Bool) (p : TimedImage) (bound : ℕ) (g : List ℕ) (from : Point) (c0 : ConsoleView) (at : Point) (c : ConsoleView) → Reaches told p bound (point_behind g from) c0 at c →
     (first : Point) × Reaches told p bound from c0 first c × (at ≡ point_behind g first)
 reached_behind told p bound g from c0 at c (Begins a d same is) = (from, Begins from d refl is, same)

@@ -1,4 +1,4 @@
--- What comes of a call.
+-- The outcome of a call.
 use Rattle.std.proofs.Common.{◌≡◌, ◌<◌, ◌≤◌, ℕ, suc, ◌+◌, ◌-◌, nat_le, nat_lt, List, ◌∷◌, length, take, drop, replicate, Option, Some, None, ap, ◌∙◌, arith}
 use Rattle.std.proofs.lemmas.Bool.Decides.{nat_tests}
 use Rattle.std.proofs.lemmas.List.{length-drop, length-take-le, length-replicate}
@@ -9,7 +9,7 @@ use Rattle.ijvm_meaning.specs.Step.{Goes, Limits, Stuck, called, onto, limited, 
 use Rattle.ijvm_reference.specs.Machine.{MachineView, state_of, in_call}
 use Rattle.ijvm_reference.proofs.Placed.{length-onto}
 
--- the frames after a call take so many words more
+-- the frames after a call take this many words more
 base_call : (running : Frame) (callers : List Frame) (n others back : ℕ) → n + 1 ≤ length running.operands →
     base (called (take n running.operands) others back ∷ record running { operands = drop (n + 1) running.operands } ∷ callers) ≡ base (running ∷ callers) + others + 2
 base_call running callers n others back enough =

@@ -21,7 +21,7 @@ index-none [] i e = refl
 index-none (x ∷ xs) zero e = cc
 index-none (x ∷ xs) (suc i) e = index-none xs i e
 
--- whether a cost is at least, and at most, so many cycles
+-- whether a cost is at least, and at most, this many cycles
 
 abbrev at_least : ℕ → Cost → Bool
 at_least n (Always cycles) = nat_le n cycles
@@ -92,7 +92,7 @@ paid image n Out s to e = refl
 paid image n Err s to e = absurd (cc)
 paid image n Halt s to e = absurd (cc)
 
--- and none costs more than 23
+-- no instruction costs more than 23 cycles
 cheap : (i : Instr) → both (at_most 23) i ≡ true
 cheap Nop = refl
 cheap (Bipush b) = refl

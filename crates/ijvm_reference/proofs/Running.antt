@@ -31,7 +31,7 @@ use Rattle.ijvm_reference.specs.Kept.{HasKept}
 use Rattle.ijvm_reference.proofs.Keeping.{next_kept}
 use Rattle.ijvm_reference.specs.Runs.{program_of, point_at, RunEndsWith, EndsIn, IsAllBut, IsAtBoundary, IsCut, ComesFurther, StoppedBy, IsShown, ShownBy, LedTo, TurnsTo, GoesOn, counts_after, stop_by, Reaches, Begins, Onward, cut_by}
 
--- what a step leads to, told in other words
+-- what a step leads to may be replaced by what follows from it
 pub led_as : (left held : Option (List ℕ)) (c : ConsoleView) (left' held' : Option (List ℕ)) (c' : ConsoleView) (P Q : List ℕ → List ℕ → List ℕ → List ℕ → Type 0) →
     IsLedOn left held c left' held' c' P → ((u g u' g' : List ℕ) → Untaken left c.ended u → P u g u' g' → Q u g u' g') → LedTo Given left held c left' held' c' Q
 led_as left held c left' held' c' P Q led told = λ rest here.
@@ -49,7 +49,7 @@ ends_by : (p : TimedImage) (bound : ℕ) (at : Point) (o : StepOutcome) (f : Fin
 ends_by p bound at o f under is then_ =
     (suc zero, ap (after_test (finish_from p bound zero) p at) (lt-leb bound at.cycles under) ∙ ap (after_outcome (finish_from p bound zero) p at) is ∙ then_)
 
--- and that instruction is completed
+-- the run ends at this boundary, whose instruction is completed
 completed_ends : (o : StepOutcome) (end : RunEnd) (bound : ℕ) (machine : Machine) (old new : MachineView) (counts : Counts) (cost : ℕ) (u g u' g' : List ℕ) →
     counts.cycles < bound → counts.boundary ≡ counts.cycles → cost ≡ next_cost old.image (timing_of machine) (state_of old [] []) →
     ((p : TimedImage) (at : Point) → after_outcome (finish_from p bound zero) p at o ≡ Some (completed p at end)) →
@@ -222,12 +222,12 @@ finish_passes p bound from at f (More b next to first under goes is) e =
     finish_passes p bound from b f first
     (suc e0.0, ap (after_test (finish_from p bound e0.0) p b) (lt-leb bound b.cycles under) ∙ ap (after_outcome (finish_from p bound e0.0) p b) goes ∙ e0.1)
 
--- the boundaries that it reaches are boundaries that it passes
+-- the boundaries that a run reaches are boundaries that it passes
 pub passed : (told : Bool) (p : TimedImage) (bound : ℕ) (from : Point) (c0 : ConsoleView) (at : Point) (c : ConsoleView) → Reaches told p bound from c0 at c → Passes p bound from at
 passed told p bound from c0 at c (Begins a d same is) = Start a same
 passed told p bound from c0 at c (Onward b next d d' first on) = More b next next.state (passed told p bound from c0 b d first) on.under on.goes on.counts
 
--- and it reaches each boundary that it passes
+-- a run reaches each boundary that it passes
 pub reached : (told : Bool) (p : TimedImage) (bound : ℕ) (from : Point) (c0 : ConsoleView) (at : Point) → Passes p bound from at → (c : ConsoleView) × Reaches told p bound from c0 at c
 reached told p bound from c0 at (Start a same) = (c0, Begins at c0 same refl)
 reached told p bound from c0 at (More b next to before under goes is) =

@@ -26,7 +26,7 @@ comes_on : (image : ImageView) (stack_end : ℕ) (s t to : State) → ComesTo im
 comes_on image stack_end s t to first (Here v same) = comes_as image stack_end s t v first same
 comes_on image stack_end s t to first (On a b v more step same) = On a b v (comes_on image stack_end s t a first more) step same
 
--- a run that never gets stuck does not after a step
+-- a run that never gets stuck does not get stuck after a step
 pub never_stuck_on : (image : ImageView) (stack_end : ℕ) (s t u v : State) → NeverStuck image stack_end s → SameFrames s t → step_outcome image stack_end t ≡ Goes u → SameFrames u v →
     NeverStuck image stack_end v
 never_stuck_on image stack_end s t u v never same step more = λ to comes. never to (comes_on image stack_end s v to (On t u v (Here t same) step more) comes)
@@ -86,7 +86,7 @@ never_after left held c left' held' c' end old new never led keeps =
     let same : NeverStuck old.image old.stack_end (state_of new [] []) = never_by end old new first.0 given.0 rest.0 next.0 never next.2 in
     subst (λ (n : ℕ). NeverStuck new.image n (state_of new [] [])) (sym keeps.stack_end) (subst (λ (image : ImageView). NeverStuck image old.stack_end (state_of new [] [])) (sym keeps.image) same)
 
--- whatever a turn of the machine answers
+-- whatever a turn of the machine returns
 pub never_turned : (left held : Option (List ℕ)) (c : ConsoleView) (left' held' : Option (List ℕ)) (c' : ConsoleView) (i : Option Instr) (r : Result (Option StepEnd) StepError) (old new : MachineView) →
     NeverStuck old.image old.stack_end (state_of old [] []) → IfOk r (λ end. IsLedOn left held c left' held' c' (Turns end old new)) →
     IfErr r (StepFails i left held c left' held' c' old new) → KeepsProgram old new →

@@ -133,7 +133,7 @@ told_given : (held : Option (List ℕ)) → Given held [] (told_of held ++ [])
 told_given None = tt
 told_given (Some h) = refl
 
--- What the source tells in the end.
+-- What is known in the end to be left of the source.
 
 rest_told : (left' : Option (List ℕ)) (ended : Bool) (rest : List ℕ) → TellsLeft left' ended → Untaken left' ended rest → left' ≡ Some rest
 rest_told left' true rest t here = t.tells ∙ ap some (t.none_left refl ∙ sym here)
@@ -154,7 +154,7 @@ told_if : (left : Option (List ℕ)) (ended : Bool) → ended ≡ false → is_s
 told_if None ended not_ended is = absurd (cc)
 told_if (Some bytes) ended not_ended is = told_bytes (Some bytes) ended bytes not_ended refl
 
--- a run that was driven from its first boundary to this stop: what the source and the sink told before it, and what came of it
+-- a run that was driven from its first boundary to this stop: what was known of the source and the sink before it, and what came of it
 pub record Driven (stop : Result PlainEnd AllocError) (left held left' held' : Option (List ℕ)) (c' : ConsoleView) (p : TimedImage) (main_locals bound : ℕ) (c : Counts) (new : MachineView) : Type 0 where
   pub input : List ℕ
   pub told : Untaken left false input
@@ -307,7 +307,7 @@ short e left held left' held' c1 p main_locals bound c new d holds =
       given = got_front (told_of held) b.0.state.given d.all held' holds (kept_front c1.kept d.all held' d.shown) b.3.given;
     }
 
--- there was no memory before the first boundary
+-- memory ran out before the first boundary
 pub short_first : (left held : Option (List ℕ)) (p : TimedImage) (main_locals bound : ℕ) → IsShort p main_locals bound left held left held
 short_first left held p main_locals bound =
     let input = some_untaken left false in

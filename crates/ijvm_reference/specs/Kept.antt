@@ -9,7 +9,7 @@ abbrev pub is_empty : List ℕ → Bool
 is_empty [] = true
 is_empty (x ∷ xs) = false
 
--- an IN over these untaken bytes; `told` says that the source tells them
+-- an IN over these untaken bytes; `told` says that they are known
 pub record ReadsIn (told : Bool) (untaken : List ℕ) (c c' : ConsoleView) : Type 0 where
   pub later : c.ended ≡ true → c' ≡ c
   pub emptied : c.ended ≡ false → c'.kept ≡ []
@@ -20,7 +20,7 @@ pub record WritesOut (c c' : ConsoleView) : Type 0 where
   pub more : length c.kept < 4096 → length c'.kept ≡ length c.kept + 1
   pub full : length c.kept ≡ 4096 → length c'.kept ≡ 1
 
--- from before an instruction to behind it
+-- from before an instruction to after it
 pub record Keeps (told : Bool) (i : Option Instr) (untaken : List ℕ) (c c' : ConsoleView) : Type 0 where
   pub read : i ≡ Some In → ReadsIn told untaken c c'
   pub write : i ≡ Some Out → WritesOut c c'

@@ -30,7 +30,7 @@ state_of m untaken given = record { running = m.running; callers = m.callers; at
 abbrev pub machine_at : ImageView → ℕ → State → MachineView
 machine_at image stack_end s = record { image = image; stack_end = stack_end; running = s.running; callers = s.callers; at = s.at }
 
--- the start of a run, with so many locals of main
+-- the start of a run, with this many locals of main
 abbrev pub started : ImageView → ℕ → ℕ → MachineView
 started image stack_end main_locals = machine_at image stack_end (start_of main_locals [])
 
@@ -89,11 +89,11 @@ outcome_of effects.Went s = Goes s
 outcome_of effects.StackLimit s = Limits s
 outcome_of effects.Stuck s = Stuck
 
--- this comes of the old machine, and leaves the new one; the console's bytes stay
+-- the old machine has this outcome, which leaves the new one; the console's bytes stay
 abbrev pub Leads : (State → StepOutcome) → Effect → MachineView → MachineView → Type 0
 Leads does effect old new = (untaken given : List ℕ) → does (state_of old untaken given) ≡ outcome_of effect (state_of new untaken given)
 
--- the same, of an instruction that may want memory
+-- `Leads` for an instruction that may run out of memory
 abbrev pub LeadsBy : Result Effect AllocError → (State → StepOutcome) → MachineView → MachineView → Type 0
 LeadsBy result does old new = IfOk result (λ effect. Leads does effect old new)
 

@@ -21,7 +21,7 @@ use Rattle.ijvm_reference.specs.Kept.{PutsKept, fresh}
 use Rattle.ijvm_reference.specs.Machine.{MachineView}
 use Rattle.ijvm_reference.specs.Runs.{Reaches, IsAllBut}
 
--- what a source or a sink tells, or nothing
+-- the bytes of a source or a sink, or none where they are not known
 abbrev pub told_of : Option (List ℕ) → List ℕ
 told_of told = unwrap_or told []
 
@@ -59,7 +59,7 @@ pub record Reports (r : PlainReport) (cycles instructions : ℕ) (last : Point) 
   pub sp : r.sp ≡ sp_of last.state
   pub lv : r.lv ≡ lv_of last.state
 
--- a source that told what it had left tells these bytes now
+-- where it was known what a source had left, these bytes are left now
 abbrev pub Leaves : Option (List ℕ) → Option (List ℕ) → List ℕ → Type 0
 Leaves left left' untaken = (bytes : List ℕ) → left ≡ Some bytes → left' ≡ Some untaken
 
@@ -72,7 +72,7 @@ abbrev pub GotFront : Option (List ℕ) → Option (List ℕ) → List ℕ → T
 GotFront held held' given = IfSome held' (λ h. (some more : List ℕ) × (h ≡ told_of held ++ some) × (some ++ more ≡ given))
 
 module _ (p : TimedImage) (main_locals bound : ℕ) (left held left' held' : Option (List ℕ)) where
-  -- the definition's run of the bytes that the source has left, where it tells them, goes to its end, and leaves what the run does not take
+  -- the definition's run of the bytes that the source has left, where they are known, goes to its end, and leaves what the run does not take
   pub record Finishes : Type 0 where
     pub input : List ℕ
     pub told : Untaken left false input
@@ -80,7 +80,7 @@ module _ (p : TimedImage) (main_locals bound : ℕ) (left held left' held' : Opt
     pub ends : EndsBy p bound (first_point p main_locals input) finish
     pub untaken : Leaves left left' finish.left.untaken
 
-  -- that run goes to a boundary that it passes, with what the console keeps there
+  -- the definition's run of those bytes goes to a boundary that it passes, with what the console keeps there
   pub record Stops : Type 0 where
     pub input : List ℕ
     pub told : Untaken left false input
@@ -125,12 +125,12 @@ module _ (p : TimedImage) (main_locals bound : ℕ) (left held left' held' : Opt
   abbrev pub IsCutByWrite : PlainReport → Type 0
   IsCutByWrite r = IsCutInside r ⊎ IsCutAtEnd r
 
-  -- there was no memory for the instruction at a boundary, or before the first one
+  -- memory ran out for the instruction at a boundary, or before the first boundary
   pub record IsShort : Type 0 where
     pub run : Stops
     pub given : GotFront held held' run.at.state.given
 
-  -- which of these a report says, by its end
+  -- which of these holds of a report, by its end
   pub record IsRunReport (r : PlainReport) : Type 0 where
     pub run : r.end ≢ ends.ReadFault → r.end ≢ ends.WriteFault → HasRun r
     pub read : r.end ≡ ends.ReadFault → IsCutByRead r

@@ -44,7 +44,7 @@ pub record RunEndsWith (p : TimedImage) (bound : ℕ) (from : Point) (c : Counts
   pub last : SameFrames finish.last.state finish.left
   pub left : finish.left ≡ state_of new untaken given
 
--- one boundary behind another, and what the console keeps at both
+-- one boundary after another, and what the console keeps at both
 pub record GoesOn (told : Bool) (p : TimedImage) (bound : ℕ) (at next : Point) (c c' : ConsoleView) : Type 0 where
   pub under : at.cycles < bound
   pub goes : step_outcome p.image p.stack_end at.state ≡ Goes next.state
@@ -75,7 +75,7 @@ pub record IsCut (e : StepError) (told : Bool) (c0 : ConsoleView) (held : Option
 abbrev pub EndsIn : RunEnd → TimedImage → ℕ → Point → Counts → MachineView → List ℕ → List ℕ → Type 0
 EndsIn end p bound from c new untaken given = (e : RunEndsWith p bound from c new untaken given) × (e.finish.end ≡ end)
 
--- where a run stops: at an end of the definition's, or where a fault or want of memory cuts it
+-- where a run stops: at an end of the definition's, or where a fault or a lack of memory cuts it
 abbrev pub StoppedBy : Bool → ConsoleView → Option (List ℕ) → Result PlainEnd AllocError → TimedImage → ℕ → Point → Counts → MachineView → List ℕ →
     List ℕ → Type 0
 StoppedBy told c0 held (Ok ends.Halt) = EndsIn defined.Halt
@@ -97,7 +97,7 @@ abbrev pub IsShown : Result PlainEnd AllocError → Option (List ℕ) → List �
 IsShown (Ok ends.WriteFault) held kept given = IfSome held (λ h. (more : List ℕ) × (given ≡ h ++ more))
 IsShown stop held kept given = Given held kept given
 
--- the same, where the run may go on
+-- the bytes that were given, as they are shown at a stop, or where the run may go on
 abbrev pub ShownBy : Option (Result PlainEnd AllocError) → Option (List ℕ) → List ℕ → List ℕ → Type 0
 ShownBy None held kept given = Given held kept given
 ShownBy (Some stop) held kept given = IsShown stop held kept given
@@ -121,7 +121,7 @@ TurnsTo told None bound machine old_counts counts c c' held' old new untaken giv
 TurnsTo told (Some stop) bound machine old_counts counts c c' held' old new untaken given untaken' given' =
     StoppedBy told c held' stop (program_of old machine) bound (point_at old old_counts.cycles old_counts.instructions untaken given) counts new untaken' given'
 
--- Frames are driven over a console, a source and a sink, by a turn or by turns up to a stop, whether or not the source tells what it has left.
+-- Frames are driven over a console, a source and a sink, by a turn or by turns up to a stop, whether or not it is known what the source has left.
 abbrev pub IsDriven : Option (Result PlainEnd AllocError) → ℕ → Machine → Counts → Counts → Option (List ℕ) →
     Option (List ℕ) → ConsoleView → Option (List ℕ) → Option (List ℕ) → ConsoleView →
     MachineView → MachineView → Type 0

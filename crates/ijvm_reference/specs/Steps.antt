@@ -26,13 +26,13 @@ IsLedOn left held c left' held' c' leads =
     (untaken : List ℕ) × Untaken left c.ended untaken ×
     ((given : List ℕ) → Given held c.kept given → (more : List ℕ) × Given held' c'.kept more × leads untaken given rest more)
 
--- what comes of an instruction over the console
+-- the outcome of an instruction over the console
 abbrev pub LedBy : (State → StepOutcome) → Option (List ℕ) → Option (List ℕ) → ConsoleView → Option (List ℕ) →
     Option (List ℕ) → ConsoleView → MachineView → MachineView → Effect → Type 0
 LedBy does left held c left' held' c' old new effect =
     IsLedOn left held c left' held' c' (λ u g u' g'. does (state_of old u g) ≡ outcome_of effect (state_of new u' g'))
 
--- these bytes are given behind those that were
+-- these bytes are given after those that were
 abbrev pub Gives : List ℕ → Option (List ℕ) → List ℕ → Option (List ℕ) → List ℕ → Type 0
 Gives bytes held kept held' kept' = (given : List ℕ) → Given held kept given → Given held' kept' (given ++ bytes)
 
@@ -41,7 +41,7 @@ step_end effects.Went = Some ends.Went
 step_end effects.StackLimit = Some ends.StackLimit
 step_end effects.Stuck = None
 
--- what each end of a step says
+-- what each end of a step means
 abbrev pub Does : StepEnd → MachineView → MachineView → List ℕ → List ℕ → List ℕ → List ℕ → Type 0
 Does ends.Went old new untaken given untaken' given' = step_outcome old.image old.stack_end (state_of old untaken given) ≡ Goes (state_of new untaken' given')
 Does ends.Halt old new untaken given untaken' given' =
@@ -51,7 +51,7 @@ Does ends.Err old new untaken given untaken' given' =
 Does ends.StackLimit old new untaken given untaken' given' =
     step_outcome old.image old.stack_end (state_of old untaken given) ≡ Limits (state_of new untaken' given')
 
--- what comes of an instruction: an end of a step, or none where the machine is stuck
+-- the outcome of an instruction: an end of a step, or none where the machine is stuck
 abbrev pub Turns : Option StepEnd → MachineView → MachineView → List ℕ → List ℕ → List ℕ → List ℕ → Type 0
 Turns None old new untaken given untaken' given' = step_outcome old.image old.stack_end (state_of old untaken given) ≡ Stuck
 Turns (Some end) old new untaken given untaken' given' = Does end old new untaken given untaken' given'
@@ -60,7 +60,7 @@ Turns (Some end) old new untaken given untaken' given' = Does end old new untake
 abbrev pub IfTurned : {E : Type 0} → Result (Option StepEnd) E → Type 0 → Type 0
 IfTurned result Holds = IfOk result (λ end. IsSome end → Holds)
 
--- after an Err: but for a write that failed the console's bytes are as they were
+-- after an Err the console's bytes are as they were, unless a write failed
 pub record IsCutOff (left held : Option (List ℕ)) (c : ConsoleView) (left' held' : Option (List ℕ)) (c' : ConsoleView) (e : StepError) : Type 0 where
   pub untaken : left' ≡ left
   pub ended : c'.ended ≡ c.ended
@@ -69,7 +69,7 @@ pub record IsCutOff (left held : Option (List ℕ)) (c : ConsoleView) (left' hel
   -- after a fault nothing is kept
   pub emptied : e ≢ errors.OutOfMemory → c'.kept ≡ []
 
--- the instruction at which an Err comes, over this console: the source is asked by IN alone, and the sink gets what the console keeps
+-- the instruction at which an Err comes, over this console: the source is asked only by IN, and the sink gets what the console keeps
 pub record IsMetBy (e : StepError) (i : Option Instr) (c : ConsoleView) : Type 0 where
   pub read : e ≡ errors.ReadFault → (i ≡ Some In) × (c.ended ≡ false)
   pub write : e ≡ errors.WriteFault → PutsKept i c
@@ -90,7 +90,7 @@ pub record HasStepCause {T : Type 0} (source source' sink sink' : ℕ) (result :
   pub source_same : result ≢ Err errors.ReadFault → source' ≡ source
   pub sink_same : result ≢ Err errors.WriteFault → sink' ≡ sink
 
--- The same over a source and a sink, or over a sink alone, whatever a source may have left.
+-- The relations above over a source and a sink, or over a sink alone, whatever a source may have left.
 
 abbrev pub CutsOff : {S K T : Type 0} → (S → Option (List ℕ)) → (K → Option (List ℕ)) → S → K → ConsoleView → S → K → ConsoleView → Result T StepError → Type 0
 CutsOff left held source sink c source' sink' c' result = IfErr result (IsCutOff (left source) (held sink) c (left source') (held sink') c')

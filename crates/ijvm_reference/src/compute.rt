@@ -10,7 +10,7 @@ use crate::machine::PlainMachine;
 use ijvm_instr::{Instr, target_of};
 use std::alloc::AllocError;
 
-/// What came of an instruction.
+/// The outcome of an instruction.
 #[derive(Clone, Copy, Debug, PartialEq, Eq)]
 pub enum Effect {
     Went,
@@ -42,7 +42,7 @@ impl Operator {
     }
 }
 
-/// Goes on behind an instruction that does nothing else.
+/// Goes on after an instruction that does nothing else.
 fn pass(machine: &mut PlainMachine) -> Effect
     requires { machine.old.at + 1 < 2 ^ 32 }
     ensures leads { Leads (λ s. Goes (moved s s.running.operands (s.at + 1))) result machine.old machine.new }
@@ -60,7 +60,7 @@ fn jump(machine: &mut PlainMachine, offset: i16) -> Effect
     Effect::Went
 }
 
-/// Pushes a value and goes on behind an instruction of this size.
+/// Pushes a value and goes on after an instruction of this size.
 pub fn push(machine: &mut PlainMachine, value: u32, size: u32) -> Result<Effect, AllocError>
     requires { machine.old.at + size < 2 ^ 32 }
     ensures ok { LeadsBy result (λ s. pushed machine.old.stack_end s value (s.at + size)) machine.old machine.new }
@@ -187,7 +187,7 @@ pub fn swap(machine: &mut PlainMachine) -> Effect
     Effect::Went
 }
 
-/// Jumps, or goes on behind the branch.
+/// Jumps, or goes on after the branch.
 fn choose(machine: &mut PlainMachine, taken: bool, offset: i16)
     requires { machine.old.at + 3 < 2 ^ 32 }
     ensures is { machine.new ≡ record machine.old { at = way machine.old.at offset taken } }

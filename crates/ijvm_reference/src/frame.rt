@@ -171,7 +171,7 @@ impl Frame {
         set_last(&mut self.operands, value);
     }
 
-    /// Exchanges the last two operands; otherwise, with fewer, answers false.
+    /// Exchanges the last two operands, or returns false where there are fewer.
     pub fn swap(&mut self) -> bool
         ensures { Swaps result self.old self.new }
     {
@@ -197,7 +197,7 @@ impl Frame {
         self.locals[index as usize] = Some(value);
     }
 
-    /// Stores to a local of its own; otherwise answers false and stores nothing.
+    /// Stores to a local of its own, or returns false and stores nothing.
     pub fn store(&mut self, index: u16, value: u32) -> bool
         ensures { Stores result index value self.old self.new }
     {

@@ -116,7 +116,7 @@ impl Model for Frames {
 }
 
 impl Frames {
-    /// The start of a run, with so many locals of main.
+    /// The start of a run, with this many locals of main.
     pub fn new(
         alloc: Global,
         image: &Image,

@@ -66,7 +66,7 @@ fn give_back(callers: &mut Vec<Frame>, caller: Frame)
 }
 
 impl PlainMachine {
-    /// The start of a run, with so many locals of main.
+    /// The start of a run, with this many locals of main.
     pub fn new(
         alloc: Global,
         image: &Image,
@@ -100,7 +100,7 @@ impl PlainMachine {
         self.lv
     }
 
-    /// The word address behind the last operand.
+    /// The word address after the last operand.
     pub fn end(&self) -> u32
         ensures is { result ≡ base (self.now.running ∷ self.now.callers) }
         ensures fits { result ≤ self.now.stack_end }
@@ -109,7 +109,7 @@ impl PlainMachine {
         self.lv + self.running.words()
     }
 
-    /// Whether so many more words fit below the stack's end.
+    /// Whether this many more words fit below the stack's end.
     pub fn has_room(&self, words: u32) -> bool
         ensures { result ≡ nat_le (base (self.now.running ∷ self.now.callers) + words) self.now.stack_end }
     {
@@ -161,7 +161,7 @@ impl PlainMachine {
         self.running.replace_top(value);
     }
 
-    /// Exchanges the last two operands; otherwise, with fewer, answers false.
+    /// Exchanges the last two operands, or returns false where there are fewer.
     #[tactic(auto, using(crate::proofs::Placed::placed_swap))]
     pub fn swap(&mut self) -> bool
         ensures swapped { Swaps result self.old.running self.new.running }
@@ -187,7 +187,7 @@ impl PlainMachine {
     }
 
     #[tactic(auto, using(crate::proofs::Placed::placed_store))]
-    /// Stores to a local that is the running frame's own; otherwise answers false.
+    /// Stores to a local that is the running frame's own, or returns false.
     pub fn store(&mut self, index: u16, value: u32) -> bool
         ensures stored { Stores result index value self.old.running self.new.running }
         ensures rest { self.new ≡ record self.old { running = self.new.running } }

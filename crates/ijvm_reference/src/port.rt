@@ -68,7 +68,7 @@ fn give_byte<K: Sink>(console: &mut Console, byte: u8, sink: &mut K) -> Result<(
     }
 }
 
-/// Takes a byte of the console, and pushes it where the stack has room.
+/// Takes a byte from the console, and pushes it where the stack has room.
 #[tactic(auto, using(crate::proofs::Keeping::short_met))]
 pub fn read_in<S: Source, K: Sink>(
     machine: &mut PlainMachine,

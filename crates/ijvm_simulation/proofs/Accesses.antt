@@ -43,7 +43,7 @@ port top w map long =
       given = λ v. rw t;
     }
 
--- a write behind the memory
+-- a write past the end of the memory
 pub limit : (top x : ℕ) → top ≤ x → x < 0x80000000 → write_refusal top x ≡ Some (StackLimit x)
 unfolding write_refusal
 limit top x beyond low =

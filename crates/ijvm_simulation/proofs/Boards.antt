@@ -1,4 +1,4 @@
--- What a board that was run over a verified image from its reset says of the run.
+-- What a board that was run over a verified image from its reset shows of the run.
 use Rattle.std.proofs.Common.{◌≡◌, ℕ, List, [], ◌++◌, Option, Some, None, IfSome, Bool, true, false, refl, sym, ◌∙◌, ap, subst}
 use Rattle.std.proofs.lemmas.List.{append-nil}
 use Rattle.mic_base.specs.Streams.{Holds}
@@ -37,7 +37,7 @@ holds_told : (held : Option (List ℕ)) → Holds (told_of held) held
 holds_told None = tt
 holds_told (Some h) = ([], sym (append-nil h))
 
--- what a source tells that may have left these bytes
+-- the bytes that a source may have left are those that it has left, where these are known
 still_told : (left : Option (List ℕ)) (ended : Bool) (rest : List ℕ) → TellsLeft left ended → Untaken left ended rest → left ≡ Some rest
 still_told left true rest t here = t.tells ∙ ap some (t.none_left refl ∙ sym here)
   where

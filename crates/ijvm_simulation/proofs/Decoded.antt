@@ -13,7 +13,7 @@ use Rattle.ijvm_simulation.specs.Bytes.{Reads}
 use Rattle.ijvm_simulation.proofs.Numbers.{byte_word, half_word}
 use Rattle.ijvm_instr.specs.Instructions.{row_of, size_of, begun_at, of_bytes, whole, instr_at}
 
--- one row of the decoder, then those behind it
+-- one row of the decoder, then those after it
 row_by : (P : Instr → Type 0) (x y : ℕ) (found rest : Option Instr) (i : Instr) (t : Bool) → (x == y) ≡ t →
     (x ≡ y → found ≡ Some i → P i) → (rest ≡ Some i → P i) → (if t then found else rest) ≡ Some i → P i
 row_by P x y found rest i true is here there e = let same : x ≡ y = grind (arith, nat_tests) in here same e
@@ -54,7 +54,7 @@ reads a b c d e f i lb lc le lf =
     (row P a 0xFE Err _ i (λ is. is)
     (row P a 0xFF Halt _ i (λ is. is) (λ none. absurd (cc))))))))))))))))))))))))))
 
--- a byte of a text, or the 0 behind it
+-- a byte of a text, or the 0 past its end
 small : (text : List ℕ) → All (λ b. b < 256) text → (k : ℕ) → slice_index text k < 256
 small text bytes k = elim (cases_lt k (length text)) [
   | inl within ↦ All-get_or (λ b. b < 256) text k 0 within bytes

@@ -1,4 +1,4 @@
--- What one instruction takes of a machine, and how a run goes on from a boundary or ends behind it.
+-- What one instruction takes of a machine, and how a run goes on from a boundary or ends after it.
 use Rattle.std.proofs.Common.{◌≡◌, ℕ, zero, suc, ◌+◌, ◌<◌, Bool, true, false, Option, Some, None, List, refl, arith, sym, ◌∙◌, ap, ap₂, subst, inl, inr}
 use Rattle.std.specs.Prelude.{nat_le, ◌==◌, is_some}
 use Rattle.std.proofs.lemmas.Bool.Decides.{nat_tests}
@@ -51,7 +51,7 @@ module _ {S : Type 0} (m : Meaning S) (words : List ℕ) (IsAt : State → S →
       let e : last_cycles r.counts.boundary ≡ at.cycles = ap last_cycles h.boundary in
       omega (arith, h.cycles)
 
-  -- the boundary behind an instruction that goes on
+  -- the boundary after an instruction that goes on
   pub record Moved (to : State) : Type 0 where
     pub k : ℕ
     pub spent : next_cost p.image p.timing at.state ≡ k
@@ -94,7 +94,7 @@ module _ {S : Type 0} (m : Meaning S) (words : List ℕ) (IsAt : State → S →
         inside = inside_pass v.n v.there t v.begins v.short v.passes;
       }
 
-  -- the run ends behind this boundary, where the definition's does
+  -- the run ends after this boundary, where the definition's does
   pub record Ended (f : Finish) : Type 0 where
     pub k : ℕ
     pub some : 0 < k

@@ -25,7 +25,7 @@ module _ (a b c d e f a' b' c' d' e' f' : ℕ) where
   two : {x y x' y' : ℕ} → x' ≡ x → y' ≡ y → 256 * x + y ≡ 256 * x' + y'
   two p q = sym (ap₂ (λ (m n : ℕ). 256 * m + n) p q)
 
-  -- what one row of bytes reads as, another does that has the same bytes as far as the instruction goes
+  -- one row of bytes reads as an instruction where another does that has the same bytes as far as the instruction goes
   reads_along : (i : Instr) → (0 < size_of (row_of i) → a' ≡ a) → (1 < size_of (row_of i) → b' ≡ b) → (2 < size_of (row_of i) → c' ≡ c) →
       (3 < size_of (row_of i) → d' ≡ d) → (4 < size_of (row_of i) → e' ≡ e) → (5 < size_of (row_of i) → f' ≡ f) → Reads a b c d e f i → Reads a' b' c' d' e' f' i
   reads_along Nop p q r s t u h = p (omega arith) ∙ h
@@ -99,7 +99,7 @@ module _ (v : VerifiedView) (o : Origin) (loads : Loads v o) (known : Known v) w
       let some : 0 < size_of (row_of f.0) = some_byte (row_of f.0).wide (row_of f.0).opcode (operand_bytes (row_of f.0).operands) in
       (f.0, record { begins = omega (arith, some, f.1.whole); finds = f.1; reads = reads s f.0 f.1 })
 
-  -- what the outcome of the next instruction says
+  -- what the outcome of the next instruction shows
   said : (s : State) (i : Instr) (out : StepOutcome) → instr_at v.image.text s.at ≡ Some i → step_outcome v.image v.map.stack_end s ≡ out → IsOutcome v.image v.map.stack_end s i out
   said s i out code e =
       subst (λ (x : StepOutcome). IsOutcome v.image v.map.stack_end s i x) (ap (step_if_any v.image v.map.stack_end s) (sym code) ∙ e) (says v.image v.map.stack_end s i)

@@ -1,4 +1,4 @@
--- What a machine at a boundary knows of its stack, and what it stands for behind an instruction.
+-- What a machine at a boundary knows of its stack, and what it stands for after an instruction.
 use Rattle.std.proofs.Common.{◌≡◌, ◌≢◌, ℕ, suc, ◌+◌, ◌-◌, ◌<◌, ◌≤◌, true, Some, List, [], ◌∷◌, ◌++◌, length, refl, arith, ◌∙◌, ap, sym, subst, get_or-set_other, length-set}
 use Rattle.std.specs.Prelude.{slice_index, slice_set}
 use Rattle.mic_words.specs.Arithmetic.{next, before}

@@ -42,7 +42,7 @@ module _ {S : Type 0} (m : Meaning S) (store : List ℕ) (IsAt : State → S →
     pub fine : Fine v at.state
     pub stalled : r.counts.stalls ≡ stalls
 
-  -- the stalls behind an instruction
+  -- the stalls after an instruction
   stalls_behind : (at : Point) (stalls : ℕ) (r : MicroRun S) (i : Instr) (to : State) → IsHere at stalls r → at.cycles < bound →
       instr_at v.image.text at.state.at ≡ Some i → step_outcome v.image v.map.stack_end at.state ≡ Goes to →
       (turns m store (Some bound) (next_cost v.image timing at.state) r).counts.stalls ≡ stalls + stalls_of v.image i

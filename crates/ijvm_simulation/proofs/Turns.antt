@@ -1,4 +1,4 @@
--- A pass is so many turns of a run.
+-- A pass is a number of turns of a run.
 use Rattle.std.proofs.Common.{◌≡◌, ℕ, zero, suc, ◌+◌, ◌-◌, ◌<◌, Bool, true, false, Option, Some, None, List, refl, arith, sym, ◌∙◌, ap, ap₂, zero-add, suc-add}
 use Rattle.std.specs.Prelude.{nat_le, ◌==◌, ◌&&◌, is_some}
 use Rattle.std.proofs.lemmas.Bool.Decides.{nat_tests}

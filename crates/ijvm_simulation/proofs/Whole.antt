@@ -23,7 +23,7 @@ module _ {S : Type 0} (m : Meaning S) (words : List ℕ) (IsAt : State → S →
   abbrev after : ℕ → MicroRun S → MicroRun S
   after n r = turns m words (Some bound) n r
 
-  -- the run behind an instruction's turns
+  -- the run after an instruction's turns
   onward : (k n c : ℕ) (r : MicroRun S) → c ≡ k + n → after c r ≡ after n (after k r)
   onward k n c r e = ap (λ (i : ℕ). after i r) e ∙ turns-add m words bound k n r
 

@@ -56,12 +56,12 @@ module _ {S : Type 0} (m : Meaning S) (words : List ℕ) (bound : ℕ) where
       let split : k ≡ n + (k - n) = omega arith in
       ap (λ (i : ℕ). turns m words (Some bound) i r) split ∙ turns-add m words bound n (k - n) r
 
-  -- a moment behind an end is that end
+  -- a moment after an end is that end
   pub behind_end : (n k : ℕ) (e : End) (r : MicroRun S) → (turns m words (Some bound) n r).end ≡ Some e → n ≤ k →
       turns m words (Some bound) k r ≡ turns m words (Some bound) n r
   behind_end n k e r h l = between n k r l ∙ ended_stays m words bound (k - n) (turns m words (Some bound) n r) e h
 
-  -- two ended moments of a run are one
+  -- two ended moments of a run are the same
   pub same_end : (n k : ℕ) (d e : End) (r : MicroRun S) → (turns m words (Some bound) n r).end ≡ Some d → (turns m words (Some bound) k r).end ≡ Some e →
       turns m words (Some bound) n r ≡ turns m words (Some bound) k r
   same_end n k d e r hd he = elim (cases_lt n k) [

@@ -1,4 +1,4 @@
--- That frames stand in memory behind the writes of a push, a store to a local and a call.
+-- Frames stand in memory after the writes of a push, a store to a local and a call.
 use Rattle.std.proofs.Common.{true, refl, subst, ◌≡◌, ◌≢◌, ℕ, zero, suc, ◌+◌, ◌<◌, ◌≤◌, ◌⊎◌, inl, inr, Option, Some, None, List, [], ◌∷◌, ◌++◌, length, replicate, arith, sym, ap, ◌∙◌, add-zero, get_or-set_same, get_or-set_other, length-set}
 use Rattle.std.specs.Prelude.{slice_index, slice_set, slice_get}
 use Rattle.std.proofs.lemmas.List.{length-replicate}
@@ -28,7 +28,7 @@ linked_below words lv many caller a v (Some r) le h = (
   read_other words a (lv + many + 1) v (inl (omega arith)) ∙ h.2,
 )
 
--- a write behind a frame
+-- a write after a frame
 frame_below : (words : List ℕ) (lv caller a v : ℕ) (f : Frame) → frame_end lv f ≤ a → FrameStands words lv caller f → FrameStands (slice_set words a v) lv caller f
 frame_below words lv caller a v f le h = record {
   locals = λ k u e. let lt : k < length f.locals = slice_get_within f.locals k (Some u) e in

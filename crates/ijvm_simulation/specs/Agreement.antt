@@ -16,7 +16,7 @@ pub record EndAlike {M N : Type 0} (held held' : Option (List ℕ)) (board : Boa
 abbrev pub MeetNoBound : {M N : Type 0} → BoardView M → BoardView N → Type 0
 MeetNoBound board board' = (board.end ≢ Some clocked.Bound) × (board'.end ≢ Some clocked.Bound)
 
--- runs of one image over one told input, on both machines, end alike, where neither meets its bound
+-- runs of one image over one known input, on both machines, end alike, where neither meets its bound
 abbrev pub RunsAgree : {M N S T : Type 0} → Interpretation M S → Interpretation N T → Type 0
 RunsAgree {M} {N} i j =
     (v : VerifiedView) (bound bound' : ℕ) (input : List ℕ) (before left held left' held' : Option (List ℕ)) (board : BoardView M) (board' : BoardView N) →

@@ -1,4 +1,4 @@
--- What a call that runs a verified image on a machine answers, over a source and a sink: the board that is left
+-- What a call that runs a verified image on a machine returns, over a source and a sink: the board that is left
 -- shows the run to its end, or to where a fault cut it.
 use Rattle.std.specs.Prelude.{◌≡◌, ℕ, List, Option, Some, None, Result, IfOk}
 use Rattle.mic_clock.specs.declared.end.End.TheVariants as ends

@@ -1,4 +1,4 @@
--- The bytes of an instruction, as a machine meets them: the opcode, and what the bytes behind it say of the operands, where a signed one is a word.
+-- The bytes of an instruction, as a machine meets them: the opcode, and what the bytes after it say of the operands, where a signed one is a word.
 use Rattle.std.specs.Prelude.{◌≡◌, ◌⊎◌, ℕ, ◌+◌, ◌*◌}
 use Rattle.mic_words.specs.Arithmetic.{signed_byte, signed_pair}
 use Rattle.ijvm_instr.specs.declared.instr.Instr.{Instr}

@@ -1,8 +1,8 @@
--- The instructions of IJVM in groups, whose words are clocked in like ways.
+-- The instructions of IJVM in groups, whose words are clocked in similar ways.
 use Rattle.ijvm_instr.specs.declared.instr.Instr.{Instr}
 use Rattle.ijvm_instr.specs.declared.instr.Instr.TheVariants.{Nop, Bipush, LdcW, Iload, Istore, Pop, Dup, Swap, Iadd, Isub, Iand, Iinc, Ifeq, Iflt, IfIcmpeq, Goto, Ireturn, Ior, Invokevirtual, WideIload, WideIstore, WideIinc, In, Out}
 
--- those that change the operands alone
+-- the instructions that change only the operands
 abbrev pub IsOfOperands : Instr → Type 0
 IsOfOperands Nop = Unit {0}
 IsOfOperands (Bipush b) = Unit {0}
@@ -15,7 +15,7 @@ IsOfOperands Iand = Unit {0}
 IsOfOperands Ior = Unit {0}
 IsOfOperands i = ⊥
 
--- those that name a local or a constant
+-- the instructions that name a local or a constant
 abbrev pub IsOfLocals : Instr → Type 0
 IsOfLocals (LdcW k) = Unit {0}
 IsOfLocals (Iload k) = Unit {0}

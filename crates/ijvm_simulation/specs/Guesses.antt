@@ -1,4 +1,4 @@
--- The next addresses of a symbolic run, guessed beforehand.
+-- The next addresses of a symbolic run, guessed in advance.
 use Rattle.std.specs.Prelude.{ℕ, List, [], ◌∷◌}
 use Rattle.micro_word.specs.declared.statement.PlacedNext.{PlacedNext}
 use Rattle.micro_word.specs.declared.statement.PlacedNext.TheVariants.{Goto, Dispatch, Branch}

@@ -15,11 +15,11 @@ use Rattle.ijvm_simulation.specs.Simulates.{Simulates, IsEnd}
 use Rattle.ijvm_simulation.specs.Verified.{program}
 use Rattle.ijvm_simulation.specs.Law.{Grows}
 
--- what a source or a sink tells, or nothing
+-- the bytes of a source or a sink, or none where they are not known
 abbrev pub told_of : Option (List ℕ) → List ℕ
 told_of told = unwrap_or told []
 
--- a source that told what it had left tells these bytes now
+-- where it was known what a source had left, these bytes are left now
 abbrev pub Leaves : Option (List ℕ) → Option (List ℕ) → List ℕ → Type 0
 Leaves left left' untaken = (bytes : List ℕ) → left ≡ Some bytes → left' ≡ Some untaken
 
@@ -28,7 +28,7 @@ module _ {M S : Type 0} (state : M → S) (m : Meaning S) (IsReady : ℕ → Lis
     (IsShipped : List ℕ → Type 0) (entry : ℕ) (timing : Timing) where
   module _ (v : VerifiedView) (bound : ℕ) where
     -- How a run begins with a control store and a source: the store is the one that ships, the image was loaded into
-    -- a memory of its map, and the bytes that are left are untaken, where the source tells them.
+    -- a memory of its map, and the bytes that are left are untaken, where they are known.
     pub record Begins (store : List ℕ) (left : Option (List ℕ)) (before : List ℕ) : Type 0 where
       pub shipped : IsShipped store
       pub words : List ℕ
@@ -43,7 +43,7 @@ module _ {M S : Type 0} (state : M → S) (m : Meaning S) (IsReady : ℕ → Lis
       pub finishes : EndsBy (program timing v) bound (first_point (program timing v) v.main_locals input) finish
 
     module _ (left held left' held' : Option (List ℕ)) (board : BoardView M) where
-      -- the moment so many turns behind the reset
+      -- the moment this many turns after the reset
       abbrev pub moment : Begins board.store.words left (told_of held) → ℕ → MicroRun S
       moment b n = turns m board.store.words (Some bound) n
           (reset_run m entry v.main_locals (record { words = b.words; untaken = b.input; given = told_of held }))

@@ -3,7 +3,7 @@ use Rattle.std.specs.Prelude.{ℕ, List}
 use Rattle.mic_clock.specs.Meaning.{Meaning}
 use Rattle.ijvm_meaning.specs.Cost.{Timing}
 
--- its meaning, when its next instruction is ready, the words of its store, where a run begins, and what is spent
+-- a machine's meaning, when its next instruction is ready, the words of its store, where a run begins, and what is spent
 pub record Interpretation (M S : Type 0) : Type 1 where
   pub state : M → S
   pub meaning : Meaning S
@@ -12,7 +12,7 @@ pub record Interpretation (M S : Type 0) : Type 1 where
   pub entry : ℕ
   pub timing : Timing
 
--- that of these parts
+-- the interpretation of these parts
 abbrev pub interpretation : {M S : Type 0} → (M → S) → Meaning S → (ℕ → List ℕ → ℕ → S → Type 0) → (List ℕ → Type 0) → ℕ → Timing → Interpretation M S
 interpretation state m IsReady IsShipped entry timing =
     record { state = state; meaning = m; IsReady = IsReady; IsShipped = IsShipped; entry = entry; timing = timing }

@@ -18,7 +18,7 @@ pub record HasWord {S : Type 0} (m : Meaning S) (x : S) : Type 0 where
   pub no_err : ((m.registers x).mpc == 0x0FE) ≡ false
 
 module _ {S : Type 0} (m : Meaning S) (words : List ℕ) (IsAt : State → S → World → Type 0) (before : List ℕ) where
-  -- so many cycles lead from a boundary to the next, which stands for this state
+  -- this many cycles lead from a boundary to the next, which stands for this state
   pub record Moves (q : Moment S) (spent : ℕ) (to : State) : Type 0 where
     pub n : ℕ
     pub spent_is : spent ≡ n + 1
@@ -33,7 +33,7 @@ module _ {S : Type 0} (m : Meaning S) (words : List ℕ) (IsAt : State → S →
     pub spent_is : spent ≡ 0
     pub mpc_is : (m.registers q.state).mpc ≡ mpc
 
-  -- so many cycles lead from a boundary to where the clock ends the run
+  -- this many cycles lead from a boundary to where the clock ends the run
   pub record StopsBehind (q : Moment S) (spent mpc : ℕ) : Type 0 where
     pub n : ℕ
     pub spent_is : spent ≡ n + 1
@@ -48,7 +48,7 @@ module _ {S : Type 0} (m : Meaning S) (words : List ℕ) (IsAt : State → S →
   abbrev pub Stops : Moment S → ℕ → ℕ → Type 0
   Stops q spent mpc = StopsHere q spent mpc ⊎ StopsBehind q spent mpc
 
-  -- some cycles behind a boundary a write meets the stack's end, with this state's bytes of the console
+  -- some cycles after a boundary a write meets the stack's end, with this state's bytes of the console
   pub record Overruns (q : Moment S) (left : State) : Type 0 where
     pub n : ℕ
     pub short : n < 1023
@@ -109,7 +109,7 @@ pub record Grows (old new : List ℕ) : Type 0 where
   pub more : List ℕ
   pub are : new ≡ old ++ more
 
--- what holds of the world behind a microstep that is done
+-- what holds of the world after a microstep that is done
 abbrev pub OnDone : {S : Type 0} → (World → Type 0) → Outcome S → Type 0
 OnDone P (Done s v) = P v
 OnDone P (Refused why) = Unit {0}

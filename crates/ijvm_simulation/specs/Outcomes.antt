@@ -1,4 +1,4 @@
--- What each instruction finds in a state, and the state that it leads to: the step of the definition, told from its end.
+-- What each instruction finds in a state, and the state that it leads to: the step of the definition, read from its end.
 use Rattle.std.specs.Prelude.{◌≡◌, ℕ, suc, ◌+◌, ◌<◌, ◌≤◌, ◌%◌, ◌==◌, true, List, [], ◌∷◌, ◌++◌, length, slice_get, Option, Some, bit_and, bit_or}
 use Rattle.mic_words.specs.Arithmetic.{plus, minus, is_negative}
 use Rattle.console_port.specs.World.{next_byte}
@@ -10,14 +10,14 @@ use Rattle.ijvm_image.specs.Image.{ImageView, method_at}
 use Rattle.ijvm_meaning.specs.Frames.{Frame, State, frames_of, base}
 use Rattle.ijvm_meaning.specs.Step.{StepOutcome, Goes, Halts, Errs, Limits, Stuck, is_own, moved, with_local, way, in_method, taken}
 
--- there is a top operand, of which this holds, and of those below it
+-- the operands have a top, and this holds of it and of those below it
 pub record WithTop (operands : List ℕ) (Leads : ℕ → List ℕ → Type 0) : Type 0 where
   pub top : ℕ
   pub rest : List ℕ
   pub are : operands ≡ top ∷ rest
   pub leads : Leads top rest
 
--- there are a top operand and a second one, of which this holds, and of those below them
+-- the operands have a top and a second one, and this holds of both and of those below them
 pub record WithTwo (operands : List ℕ) (Leads : ℕ → ℕ → List ℕ → Type 0) : Type 0 where
   pub top : ℕ
   pub second : ℕ
@@ -25,19 +25,19 @@ pub record WithTwo (operands : List ℕ) (Leads : ℕ → ℕ → List ℕ → T
   pub are : operands ≡ top ∷ second ∷ rest
   pub leads : Leads top second rest
 
--- this local is there and set, to a word of which this holds
+-- this local exists and is set, to a word of which this holds
 pub record WithLocal (locals : List (Option ℕ)) (k : ℕ) (Leads : ℕ → Type 0) : Type 0 where
   pub value : ℕ
   pub set : slice_get locals k ≡ Some (Some value)
   pub leads : Leads value
 
--- this constant is there, of which this holds
+-- this constant exists, and this holds of it
 pub record WithConstant (pool : List ℕ) (k : ℕ) (Leads : ℕ → Type 0) : Type 0 where
   pub value : ℕ
   pub found : slice_get pool k ≡ Some value
   pub leads : Leads value
 
--- the method of this constant is there, and so many operands as it has parameters beside the object reference, of which this holds
+-- the method of this constant exists, and as many operands as it has parameters besides the object reference; this holds of them
 pub record WithMethod (image : ImageView) (s : State) (k : ℕ) (Leads : Method → ℕ → Type 0) : Type 0 where
   pub method : Method
   pub others : ℕ
@@ -116,7 +116,7 @@ module _ (image : ImageView) (stack_end : ℕ) (s : State) where
   Overran left In = Overflows stack_end (push (taken s) (next_byte s.untaken) (s.at + 1)) (taken s) left
   Overran left i = ⊥
 
-  -- what an outcome of an instruction says, where it is not stuck
+  -- what an outcome of an instruction means, where it is not stuck
   abbrev pub IsOutcome : Instr → StepOutcome → Type 0
   IsOutcome i (Goes to) = Went to i
   IsOutcome i (Limits left) = Overran left i

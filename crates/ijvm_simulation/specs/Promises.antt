@@ -16,7 +16,7 @@ use Rattle.ijvm_simulation.specs.Verified.{Loads}
 
 -- A machine: its meaning, when its next instruction is ready, its store that ships, where that begins, and what is spent.
 module _ {S : Type 0} (m : Meaning S) (IsReady : ℕ → List ℕ → ℕ → S → Type 0) (IsShipped : List ℕ → Type 0) (entry : ℕ) (timing : Timing) where
-  -- each instruction takes what it is said to
+  -- each instruction takes what `Law` has of it
   abbrev pub KeepsLaw : Type 0
   KeepsLaw = (store : List ℕ) (o : Origin) (v : VerifiedView) → IsShipped store → Loads v o → Law m store (IsAt m IsReady entry o) o.given timing v o
 

@@ -24,12 +24,12 @@ abbrev pub below : (Point → Option Point) → TimedImage → Point → Bool �
 below more p at true = None
 below more p at false = going_on more p at (step_outcome p.image p.stack_end at.state)
 
--- the boundary so many instructions behind this one in the definition's run, if it comes so far
+-- the boundary this many instructions after this one in the definition's run, if it comes so far
 abbrev pub point_behind : TimedImage → ℕ → ℕ → Point → Option Point
 point_behind p bound zero at = Some at
 point_behind p bound (suc i) at = below (point_behind p bound i) p at (nat_le bound at.cycles)
 
--- this boundary is some number of instructions behind that one
+-- this boundary is some number of instructions after that one
 abbrev pub IsCounted : TimedImage → ℕ → Point → Point → Type 0
 IsCounted p bound from at = (i : ℕ) × (point_behind p bound i from ≡ Some at)
 

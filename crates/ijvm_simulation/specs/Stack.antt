@@ -1,4 +1,4 @@
--- What a machine at a boundary knows of its memory and its stack, and that it stands for the state behind an
+-- What a machine at a boundary knows of its memory and its stack, and that it stands for the state after an
 -- instruction once its registers and its memory have become what the instruction makes of them.
 use Rattle.std.specs.Prelude.{◌≡◌, ℕ, suc, ◌+◌, ◌-◌, ◌*◌, ◌%◌, ◌<◌, ◌≤◌, true, List, [], ◌∷◌, ◌++◌, length, take, drop, replicate, slice_index, slice_set, slice_get, Some, None, ℤ}
 use Rattle.mic_words.specs.Arithmetic.{plus, next, before, signed_pair}
@@ -47,7 +47,7 @@ pub record IsConsoleAccess (top : ℕ) (w : World) : Type 0 where
 abbrev pub frame_with : State → List ℕ → Frame
 frame_with s xs = record s.running { operands = xs }
 
--- the place behind the operands, where these are xs
+-- the place after the operands, where these are xs
 abbrev pub place_behind : State → List ℕ → ℕ
 place_behind s xs = base (frame_with s xs ∷ s.callers)
 
@@ -114,40 +114,40 @@ module _ (o : Origin) (s : State) (sp lv cpp tos : ℕ) (w : World) where
     pub two : (y x : ℕ) (rest : List ℕ) → s.running.operands ≡ y ∷ x ∷ rest → Two y x rest
     -- a local of the running frame
     pub local : (x k : ℕ) → k < length s.running.locals → x ≡ base s.callers + k → IsWordAccess (length o.words) w x (base s.callers + k)
-    -- behind a push of v over the operands xs
+    -- after a push of v over the operands xs
     pub pushes : (xs : List ℕ) (v to sp' lv' cpp' tos' : ℕ) (w' : World) (left : List ℕ) →
         FramesStand w.words (frame_with s xs ∷ s.callers) → place_behind s xs < length o.words →
         lv' ≡ lv → cpp' ≡ cpp → sp' ≡ place_behind s xs → tos' ≡ v →
         w'.words ≡ slice_set w.words (place_behind s xs) v → w'.untaken ≡ left → w'.given ≡ w.given →
         RegistersStand o (record (moved s (v ∷ xs) to) { untaken = left }) sp' lv' cpp' tos' w'
-    -- behind the operands have become xs, with no write to memory
+    -- after the operands have become xs, with no write to memory
     pub drops : (xs : List ℕ) (to sp' lv' cpp' tos' : ℕ) (w' : World) (more : List ℕ) →
         FramesStand w.words (frame_with s xs ∷ s.callers) → place_behind s xs ≤ length o.words →
         lv' ≡ lv → cpp' ≡ cpp → sp' + 1 ≡ place_behind s xs → IsTop tos' xs →
         w'.words ≡ w.words → w'.untaken ≡ s.untaken → w'.given ≡ o.given ++ more →
         RegistersStand o (record (moved s xs to) { given = more }) sp' lv' cpp' tos' w'
-    -- behind a swap of two operands
+    -- after a swap of two operands
     pub swaps : (y x : ℕ) (rest : List ℕ) (to sp' lv' cpp' tos' : ℕ) (w' : World) → Two y x rest →
         lv' ≡ lv → cpp' ≡ cpp → sp' ≡ sp → tos' ≡ x →
         w'.words ≡ slice_set (slice_set w.words (place_behind s rest) y) (place_behind s rest + 1) x → w'.untaken ≡ s.untaken → w'.given ≡ w.given →
         RegistersStand o (moved s (x ∷ y ∷ rest) to) sp' lv' cpp' tos' w'
-    -- behind a store of the last operand to a local
+    -- after a store of the last operand to a local
     pub stores : (k y : ℕ) (rest : List ℕ) (to sp' lv' cpp' tos' : ℕ) (w' : World) → Top y rest → k < length s.running.locals → is_own s.running.back k ≡ true →
         lv' ≡ lv → cpp' ≡ cpp → sp' ≡ before sp → tos' ≡ read_value (length o.words) w'.words w.untaken (before sp) →
         w'.words ≡ slice_set w.words (base s.callers + k) y → w'.untaken ≡ s.untaken → w'.given ≡ w.given →
         RegistersStand o (with_local s k y rest to) sp' lv' cpp' tos' w'
-    -- behind a change of a local
+    -- after a change of a local
     pub changes : (k y to sp' lv' cpp' tos' : ℕ) (w' : World) → k < length s.running.locals → is_own s.running.back k ≡ true →
         lv' ≡ lv → cpp' ≡ cpp → sp' ≡ sp → tos' ≡ tos →
         w'.words ≡ slice_set w.words (base s.callers + k) y → w'.untaken ≡ s.untaken → w'.given ≡ w.given →
         RegistersStand o (with_local s k y s.running.operands to) sp' lv' cpp' tos' w'
-    -- behind a call with the arguments ps
+    -- after a call with the arguments ps
     pub enters : (ps : List ℕ) (x : ℕ) (rest : List ℕ) (more back to sp' lv' cpp' tos' : ℕ) (w' : World) → s.running.operands ≡ ps ++ x ∷ rest →
         place_behind s rest + length ps + 1 + more + 1 < length o.words →
         lv' ≡ place_behind s rest → cpp' ≡ cpp → sp' ≡ place_behind s rest + (length ps + 1 + more) + 1 →
         w'.words ≡ linked_words w.words (place_behind s rest) (length ps + 1 + more) back (base s.callers) → w'.untaken ≡ s.untaken → w'.given ≡ w.given →
         RegistersStand o (record s { running = called ps more back; callers = frame_with s rest ∷ s.callers; at = to }) sp' lv' cpp' tos' w'
-    -- behind a return of y to the caller f
+    -- after a return of y to the caller f
     pub returns : (y : ℕ) (rest : List ℕ) (f : Frame) (fs : List Frame) (to sp' lv' cpp' tos' : ℕ) (w' : World) →
         s.running.operands ≡ y ∷ rest → s.callers ≡ f ∷ fs →
         lv' ≡ base fs → cpp' ≡ cpp → sp' ≡ base (f ∷ fs) → tos' ≡ y →
@@ -157,7 +157,7 @@ module _ (o : Origin) (s : State) (sp lv cpp tos : ℕ) (w : World) where
 pub record StackLaw : Type 0 where
   pub access : (top : ℕ) (w : World) (x a : ℕ) → x ≡ a → a < top → IsWordAccess top w x a
   pub port : (top : ℕ) (w : World) → IsMapEnd top → length w.words ≡ top → IsConsoleAccess top w
-  -- a write behind the memory
+  -- a write past the end of the memory
   pub limit : (top x : ℕ) → top ≤ x → x < 0x80000000 → write_refusal top x ≡ Some (StackLimit x)
   -- the frames stand above the text and the pool
   pub above : (fs : List Frame) → 0x8000 ≤ base fs
@@ -165,7 +165,7 @@ pub record StackLaw : Type 0 where
   pub method : (v : VerifiedView) (o : Origin) → Loads v o → (k : ℕ) (m : Method) →
       method_at v.image.text (slice_get v.image.pool k) ≡ Some m → IsMethod v o k m
   pub arguments : (n : ℕ) (xs : List ℕ) → n < length xs → Arguments n xs
-  -- the locals of a method behind its object reference
+  -- the locals of a method after its object reference
   pub locals : (ps : List ℕ) (more : ℕ) → length (onto ps (replicate more None)) ≡ length ps + more
   -- a verified image: where its memory ends, where an instruction and the target of a jump stand, and what its run's first state is
   pub map : (v : VerifiedView) (o : Origin) → Loads v o → IsMapEnd (length o.words)

@@ -21,12 +21,12 @@ use Rattle.ijvm_simulation.specs.Law.{Moves, Overruns, reset_moment}
 use Rattle.mic_image_board.specs.Reset.{reset_run}
 
 module _ {S : Type 0} (m : Meaning S) (words : List ℕ) (IsAt : State → S → World → Type 0) (before : List ℕ) where
-  -- so many cycles, of which so many stall, lead from a boundary to the next, which stands for this state
+  -- this many cycles, of which this many stall, lead from a boundary to the next, which stands for this state
   pub record MovesWithStalls (q : Moment S) (spent stalls : ℕ) (to : State) : Type 0 where
     pub moves : Moves m words IsAt before q spent to
     pub stalled : moves.there.stalls ≡ q.stalls + stalls
 
-  -- some cycles behind a boundary a write meets the stack's end, and no more than so many of them stalled
+  -- some cycles after a boundary a write meets the stack's end, and no more than this many of them stalled
   pub record OverrunsWithStalls (q : Moment S) (stalls : ℕ) (left : State) : Type 0 where
     pub overruns : Overruns m words IsAt before q left
     pub stalled : overruns.there.stalls ≤ q.stalls + stalls
@@ -38,7 +38,7 @@ module _ {S : Type 0} (m : Meaning S) (words : List ℕ) (IsAt : State → S →
     pub limits : (s left : State) (q : Moment S) (i : Instr) → Has i → Fine v s → IsNext v o s i → IsAt s q.state q.world →
         Overran v.image v.map.stack_end s left i → OverrunsWithStalls q (stalls_of v.image i) left
 
--- from its reset a machine with a microprogram at this entry comes to the first boundary, with so many stalls
+-- from its reset a machine with a microprogram at this entry comes to the first boundary, with this many stalls
 abbrev pub BootsWithStalls : {S : Type 0} → Meaning S → List ℕ → (Origin → State → S → World → Type 0) → ℕ → Timing →
     ℕ → VerifiedView → Origin → List ℕ → Type 0
 BootsWithStalls m words IsAt entry timing stalls v o input =
@@ -51,7 +51,7 @@ pub data HasStalled (booting : ℕ) (stalls_of : ImageView → Instr → ℕ) (p
       instr_at p.image.text at.state.at ≡ Some i → step_outcome p.image p.stack_end at.state ≡ Goes to → next ≡ point_after p at to →
       HasStalled booting stalls_of p bound first next (stalls + stalls_of p.image i)
 
--- the stack limit has ended the run, with no more stalls than so many
+-- the stack limit has ended the run, with at most this many stalls
 pub record StoppedWithin {S : Type 0} (stalls : ℕ) (r : MicroRun S) : Type 0 where
   pub end : r.end ≡ Some clocked.StackLimit
   pub stalled : r.counts.stalls ≤ stalls
@@ -76,7 +76,7 @@ module _ {S : Type 0} (m : Meaning S) (entry : ℕ) (timing : Timing) (booting :
       (turns m store (Some bound) n (reset_run m entry v.main_locals
       (record { words = o.words; untaken = input; given = o.given })))
 
--- so over the store that ships and every verified image
+-- this holds over the store that ships and every verified image
 
 abbrev pub RunsStall : {M S : Type 0} → Interpretation M S → ℕ → (ImageView → Instr → ℕ) → Type 0
 RunsStall i booting stalls_of =
@@ -90,7 +90,7 @@ LimitsStall i booting stalls_of =
 
 -- A machine: its meaning, when its next instruction is ready, its store that ships, where that begins, and what is spent.
 module _ {S : Type 0} (m : Meaning S) (IsReady : ℕ → List ℕ → ℕ → S → Type 0) (IsShipped : List ℕ → Type 0) (entry : ℕ) (timing : Timing) where
-  -- Stalls add up, where its boot and each instruction stall as often as is said.
+  -- Stalls add up, where the boot and each instruction stall as often as this says.
   abbrev pub StallsAddUp : Type 0
   StallsAddUp =
       (booting : ℕ) (stalls_of : ImageView → Instr → ℕ) (store : List ℕ) (o : Origin) (v : VerifiedView)
@@ -99,7 +99,7 @@ module _ {S : Type 0} (m : Meaning S) (IsReady : ℕ → List ℕ → ℕ → S 
       TakesWithStalls m store (IsAt m IsReady entry o) o.given timing stalls_of v o (λ i. Unit {0}) →
       CountsStalls m entry timing booting stalls_of store o v input bound
 
-  -- So they do where the stack's end cuts an instruction short.
+  -- They add up also where the stack's end cuts an instruction short.
   abbrev pub CutShort : Type 0
   CutShort =
       (booting : ℕ) (stalls_of : ImageView → Instr → ℕ) (store : List ℕ) (o : Origin) (v : VerifiedView)

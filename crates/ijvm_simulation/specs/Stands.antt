@@ -16,7 +16,7 @@ abbrev pub OperandsAt : List ℕ → ℕ → List ℕ → Type 0
 OperandsAt words at [] = Unit {0}
 OperandsAt words at (x ∷ xs) = (slice_index words (at + length xs) ≡ x) × OperandsAt words at xs
 
--- a method's link word holds the address of its return address, behind which stands the LV of its caller
+-- a method's link word holds the address of its return address, and the LV of its caller stands after that
 abbrev pub IsLinked : List ℕ → ℕ → ℕ → ℕ → Option ℕ → Type 0
 IsLinked words lv locals caller None = Unit {0}
 IsLinked words lv locals caller (Some back) =

@@ -1,4 +1,4 @@
--- How a run ends from its reset over a verified image, with the store that ships, whoever clocks it.
+-- How a run ends from its reset over a verified image, with the store that ships, no matter what clocks it.
 use Rattle.std.specs.Prelude.{◌≡◌, ℕ, List, Option, Some, false}
 use Rattle.console_port.specs.Console.{Untaken}
 use Rattle.mic_clock.specs.declared.end.End.{End}
@@ -12,7 +12,7 @@ use Rattle.ijvm_simulation.specs.Simulates.{board_end}
 use Rattle.mic_image_board.specs.Reset.{IsAtReset}
 use Rattle.ijvm_simulation.specs.Verified.{program}
 
--- the definition's run ends so, over the bytes that a source has left where it tells them
+-- the definition's run ends so, over the bytes that a source has left where they are known
 pub record EndsSo (timing : Timing) (v : VerifiedView) (bound : ℕ) (left : Option (List ℕ)) (end : End) : Type 0 where
   pub input : List ℕ
   pub told : Untaken left false input
@@ -21,7 +21,7 @@ pub record EndsSo (timing : Timing) (v : VerifiedView) (bound : ℕ) (left : Opt
   pub is : end ≡ board_end finish.end
 
 module _ {M S : Type 0} (state : M → S) (m : Meaning S) (IsShipped : List ℕ → Type 0) (entry : ℕ) (timing : Timing) where
-  -- From its reset over a verified image, with the store that ships, a board is led by turns to another that has ended: it has ended as the definition's run.
+  -- Where turns lead a board from its reset over a verified image, with the store that ships, to an end, it has ended as the definition's run.
   abbrev pub EndsAsDefined : Type 0
   EndsAsDefined =
       (v : VerifiedView) (bound : ℕ) (left held left' held' : Option (List ℕ)) (first last : BoardView M) →

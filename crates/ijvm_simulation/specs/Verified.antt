@@ -16,7 +16,7 @@ use Rattle.ijvm_simulation.specs.Bytes.{Reads}
 abbrev pub program : Timing → VerifiedView → TimedImage
 program timing v = record { image = v.image; stack_end = v.map.stack_end; timing = timing }
 
--- it stands in the memory that a run begins over, and main's locals are 0
+-- a verified image stands in the memory that a run begins over, and main's locals are 0
 pub record Loads (v : VerifiedView) (o : Origin) : Type 0 where
   pub accepted : IsAccepted v
   pub image : IsImage v.image
@@ -25,7 +25,7 @@ pub record Loads (v : VerifiedView) (o : Origin) : Type 0 where
   pub zeros : (k : ℕ) → k < v.main_locals → slice_index o.words (0x8000 + k) ≡ 0
   pub long : length o.words ≡ v.map.stack_end
 
--- a state that a run of it may come to
+-- a state that a run of a verified image may come to
 pub record Fine (v : VerifiedView) (s : State) : Type 0 where
   pub reached : ComesTo v.image v.map.stack_end (start_of v.main_locals []) s
   pub words : AreWords s

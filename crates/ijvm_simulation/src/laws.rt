@@ -1,4 +1,4 @@
-//! What holds of every interpreter, and of every run of one, whoever clocks it.
+//! What holds of every interpreter, and of every run of one, no matter what clocks it.
 
 ghost use Rattle.std.specs.Prelude.{ℕ};
 ghost use Rattle.ijvm_meaning.specs.Run.{TimedImage, Point, Passes};
@@ -30,7 +30,7 @@ pub fn shipped_runs_end_as_defined<I: Interpreter>()
 }
 
 /// At each boundary of a run from its reset the clock has counted the stalls of the boot and those of the
-/// instructions passed, and no other, where the boot and each instruction stall as often as is said of them.
+/// instructions passed, and no other, where the boot and each instruction stall as often as `stalls_of` has it.
 pub fn stalls_add_up<I: Interpreter>()
     ensures boundaries { StallsAddUp I.Machine.meaning I.Machine.IsReady I.IsShipped I.entry I.timing }
     ensures limit { CutShort I.Machine.meaning I.Machine.IsReady I.IsShipped I.entry I.timing }
@@ -40,7 +40,7 @@ pub fn stalls_add_up<I: Interpreter>()
     I::law();
 }
 
-/// What a machine at a boundary knows of its memory and its stack, and that it stands for the state behind an
+/// What a machine at a boundary knows of its memory and its stack, and that it stands for the state after an
 /// instruction once its registers and its memory have become what the instruction makes of them.
 pub fn stack_law()
     ensures { StackLaw }

@@ -40,7 +40,7 @@ main_long seed n =
 pub text_long : (seed n : ℕ) → length (main_text seed n ++ method_text) ≡ length (main_text seed n) + 10
 text_long seed n = length-append (main_text seed n) method_text
 
--- A block of each kind takes seven bytes but for so many that the kinds after it make good.
+-- how many bytes the blocks from one of kind 0 up to one of this kind fall short of seven bytes each
 abbrev fewer : ℕ → ℕ
 fewer zero = 0
 fewer (suc zero) = 0

@@ -61,7 +61,7 @@ noted_append : (note : ℕ → Note) (d : ℕ) (a b : List Instr) → noted note
 noted_append note d [] b = refl
 noted_append note d (i ∷ a) b = ap (λ x. Code i (note d) ∷ x) (noted_append note (next_depth i d) a b)
 
--- in bytes
+-- the size of these instructions, in bytes
 abbrev code_size : List Instr → ℕ
 code_size [] = 0
 code_size (i ∷ is) = size_of (row_of i) + code_size is
@@ -167,7 +167,7 @@ module _ (image : ImageView) (whole : List Item) (unit : Option ℕ) (set : ℕ 
   AreInstrs [] = Unit {0}
   AreInstrs (i ∷ is) = IsInstr i × AreInstrs is
 
-  -- it does where its bytes are
+  -- the code stands there where its bytes are
   stands_at : (written : (before after : List ℕ) (i : Instr) → IsInstr i → instr_at (before ++ (spelling i ++ after)) (length before) ≡ Some i)
       (is : List Instr) (d : ℕ) (pre post : List Item) (front back : List ℕ) → AreInstrs is → whole ≡ pre ++ (noted note d is ++ post)
       → image.text ≡ front ++ (flat_map spelling is ++ back) → length front ≡ items_size pre → Stands (length front) d is

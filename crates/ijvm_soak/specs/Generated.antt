@@ -19,7 +19,7 @@ block kind number =
 abbrev pub block_at : ℕ → ℕ → List Instr
 block_at seed place = block ((seed + place) % 5) (pos ((seed + 3 * place) % 100))
 
--- so many blocks
+-- this many blocks
 abbrev pub blocks : ℕ → ℕ → List Instr
 blocks seed zero = []
 blocks seed (suc place) = blocks seed place ++ block_at seed place

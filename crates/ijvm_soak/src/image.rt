@@ -26,7 +26,7 @@ fn generate(alloc: Global, seed: u32, size: u16) -> Result<Image, AllocError>
     Ok(Image::new(text, pool))
 }
 
-/// The accepted image of a seed and a size. It is never refused: the one error is want of memory.
+/// The accepted image of a seed and a size. It is never refused: the only error is that memory runs out.
 pub fn soak_image(alloc: Global, seed: u32, size: u16) -> Result<VerifiedImage, AllocError>
     requires { size ≤ 9000 }
     ensures image { IfOk result (λ program. program.image ≡ generated seed size) }

@@ -162,7 +162,7 @@ far_sign s rest = elim s as (λ s. EndsLexeme (sign_text s) rest → extent (sig
   | signs.EndVar ↦ far_word (codes "end-var") rest refl
 ]
 
--- behind a quote stand two bytes, or fewer at the end of the line
+-- after a quote stand two bytes, or fewer at the end of the line
 far_quote : (text rest : List ℕ) → length text ≤ 2 → (length (39 ∷ text) ≡ 3) ⊎ (rest ≡ []) → extent (39 ∷ (text ++ rest)) ≡ length (39 ∷ text)
 far_quote [] rest h (inl e) = absurd (omega (arith, e))
 far_quote [] rest h (inr e) = rw e refl
@@ -202,7 +202,7 @@ read (tokens.Number v) text rest is e = let n = read_number text is.0 in let v =
 
 -- ---- what is read is spelled
 
--- the first byte, and so many behind it
+-- the first byte, and this many after it
 front : (b n : ℕ) (rest : List ℕ) → take (n + 1) (b ∷ rest) ≡ b ∷ take n rest
 front b n rest = let k : n + 1 ≡ suc n = omega arith in rw k refl
 

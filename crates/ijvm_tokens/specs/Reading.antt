@@ -10,13 +10,13 @@ use Rattle.ijvm_tokens.specs.declared.token.Token.TheVariants as tokens
 use Rattle.ijvm_tokens.specs.Signs.{find_sign}
 use Rattle.ijvm_tokens.specs.Tokens.{begins_number, is_word_byte, number_value}
 
--- a single quote and up to two bytes behind it
+-- a single quote and up to two bytes after it
 abbrev pub quote_len : List ℕ → ℕ
 quote_len [] = 1
 quote_len (b ∷ []) = 2
 quote_len (b ∷ c ∷ rest) = 3
 
--- a run of letters, digits and `_`, one behind a `-`, a dotted word, a quote with two bytes, or one byte
+-- a run of letters, digits and `_`, such a run after a `-`, a dotted word, a quote with two bytes, or one byte
 abbrev pub extent : List ℕ → ℕ
 extent [] = 0
 extent (b ∷ rest) = if is_name_byte b || b == 45 then name_len rest + 1

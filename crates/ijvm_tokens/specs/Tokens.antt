@@ -12,7 +12,7 @@ use Rattle.ijvm_tokens.specs.declared.token.Token.{Token}
 use Rattle.ijvm_tokens.specs.declared.token.Token.TheVariants as tokens
 use Rattle.ijvm_tokens.specs.Signs.{sign_text}
 
--- a letter, a digit, `_` or `-`: what stands behind the dot of a dotted word
+-- a letter, a digit, `_` or `-`: what stands after the dot of a dotted word
 abbrev pub is_word_byte : ℕ → Bool
 is_word_byte b = is_name_byte b || b == 45
 
@@ -40,7 +40,7 @@ IsLexeme (tokens.Sign s) text = text ≡ sign_text s
 IsLexeme (tokens.Name n) text = (text ≡ n) × (is_name n ≡ true)
 IsLexeme (tokens.Number v) text = IsNumberText text × (number_value text ≡ v)
 
--- a token with this first byte may have this length and stand before those bytes: runs are the longest, and two bytes stand behind a quote
+-- a token with this first byte may have this length and stand before those bytes: runs are the longest, and two bytes stand after a quote
 -- where the line has them
 pub record MayEnd (first len : ℕ) (rest : List ℕ) : Type 0 where
   pub run : (is_name_byte first || first == 45) ≡ true → begins_with is_name_byte rest ≡ false
@@ -54,6 +54,6 @@ EndsLexeme (b ∷ text) rest = MayEnd b (length (b ∷ text)) rest
 abbrev pub ijvm : Lexicon Token
 ijvm = record { IsLexeme = IsLexeme; EndsLexeme = EndsLexeme }
 
--- the line is the tokens in order, with blanks before, between and behind them
+-- the line is the tokens in order, with blanks before, between and after them
 abbrev pub SpellsTokens : List ℕ → List Token → Type 0
 SpellsTokens = source.Spells ijvm

@@ -68,7 +68,7 @@ counted_all image seen count closed s = record {
     inside : (a : Arrival) → Reached image a → a.at < length image.text
     inside a h = omega (arith, slice_get_within seen a.at (Some (kept_of a.unit a.depth)) (closed.all a h), closed.long)
 
--- there is one such count
+-- a count of main's locals is at most any other, so there is only one
 one_count : (image : ImageView) (c d : ℕ) → IsMainCount image c → IsMainCount image d → c ≤ d
 one_count image c d h g = elim h.least [ inl zero_is ↦ omega arith | inr w ↦ let below : w.0 < d = g.above w.0 w.1 in omega (arith, w.2) ]
 

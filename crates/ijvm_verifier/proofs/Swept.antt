@@ -43,7 +43,7 @@ swept_skip image n end s free = record {
     below : (p : Piece) (b : ℕ) → rank p < n + 1 → Covers image p b → rank p < n
     below p b l c = elim (cases_lt (rank p) n) [ inl lt ↦ lt | inr ge ↦ absurd (free p b (omega arith) c) ]
 
--- the piece of this rank, from an address on, behind all earlier ones
+-- the piece of this rank, from an address on, after all earlier ones
 pub swept_add : (image : ImageView) (n end at stop : ℕ) (new : Piece) → IsSwept image n end → end ≤ at → 2 * at ≤ n → rank new ≡ n → at < stop →
     ((p : Piece) (b : ℕ) → rank p ≡ n → Covers image p b → (p ≡ new) × (at ≤ b) × (b < stop)) → ((b : ℕ) → at ≤ b → b < stop → Covers image new b) → IsSwept image (n + 1) stop
 swept_add image n end at stop new s behind low is above only covers = record {
@@ -64,7 +64,7 @@ swept_add image n end at stop new s behind low is above only covers = record {
   last = λ b le lt. (new, omega arith, covers b (omega arith) lt);
 }
 
--- the byte where a piece begins is another's too
+-- the byte where a piece begins belongs to another piece too
 pub swept_clash : (image : ImageView) (z n end at : ℕ) (new : Piece) → IsSwept image n end → at < end → n ≤ 2 * at + 1 → rank new ≡ n → Covers image new at → IsTrueOf image z (Overlap at)
 swept_clash image z n end at new s inside low is covers =
     let w = s.last at low inside in
@@ -113,7 +113,7 @@ entry_kept image seen at here closed is unit = (kept_at here (at + 4), closed.re
 pub kept_entry : (image : ImageView) (seen : List (Option Kept)) (at : ℕ) → IsClosed image seen → IsReachedMethod image at → slice_get seen (at + 4) ≡ Some (Some (kept_of (Some at) 0))
 kept_entry image seen at closed m = closed.starts at m
 
--- a byte behind the pieces so far, where none begins
+-- a byte after the pieces so far, where none begins
 pub swept_free : (image : ImageView) (at end : ℕ) → IsSwept image (2 * at) end → end ≤ at → ((p : Piece) (b : ℕ) → rank p ≡ 2 * at → Covers image p b → ⊥) → ((p : Piece) (b : ℕ) → rank p ≡ 2 * at + 1 → Covers image p b → ⊥) →
     (p : Piece) → Covers image p at → ⊥
 swept_free image at end s past no_code no_header p c = elim (cases_lt (rank p) (2 * at)) [
@@ -156,7 +156,7 @@ none_overlap image seen end closed s z b (p, q, ne, cp, cq) = ne (s.apart p q b 
     met (Code u j) lt = omega arith
     met (Header e) lt = omega arith
 
--- and nothing stands behind the text
+-- nothing stands past the text
 pub none_behind : (image : ImageView) (seen : List (Option Kept)) (at : ℕ) → IsClosed image seen → length image.text ≤ at → (p : Piece) → Covers image p at → ⊥
 none_behind image seen at closed past p c = omega (arith, (covers_inside image seen p at closed c).1)
 

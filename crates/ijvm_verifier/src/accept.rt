@@ -47,7 +47,7 @@ fn survey_of(alloc: Global, image: &Image) -> Result<Survey, VerifyError>
     })
 }
 
-/// The image, if it is accepted. A refused image is given up; where several facts of it are true, any one of them is told.
+/// The image, if it is accepted. A refused image is dropped. Where several facts of it are true, any one is returned.
 pub fn verify(alloc: Global, image: Image, map: MemoryMap) -> Result<VerifiedImage, VerifyError>
     requires { IsMap map.stack_end }
     ensures image { IfOk result (λ v. v.image ≡ image) }

@@ -1,4 +1,4 @@
--- The counts of a cache are those that the blocks tell which were asked for. For `counts_are_those_of_the_accesses`.
+-- The counts of a cache are those of the blocks that were asked for. For `counts_are_those_of_the_accesses`.
 use Rattle.std.proofs.Common.{◌≡◌, ◌∙◌, sym, ap, subst, refl, ℕ, ◌+◌, ◌%◌, ◌<◌, Bool, true, false, if◌then◌else◌, List, [], ◌∷◌, length, arith, inl, inr, Option, Some, None, get_or, eq-eqb, ne_eqb}
 use Rattle.std.proofs.lemmas.Grind.{common_steps}
 use Rattle.std.proofs.lemmas.Bool.{cases_eq}
@@ -8,7 +8,7 @@ use Rattle.mem_cache.specs.Accesses.{Access, asks_for, with_block, blocks_of, is
 use Rattle.mem_cache.specs.Tally.{Tally, has_block, after_hit, after_miss, after_asking, empty_tally}
 use Rattle.mem_cache.specs.View.{CacheView, AllLead, answered}
 
--- what is a block is that block
+-- an entry that `is_block` accepts holds this block
 is_block_then : (o : Option ℕ) (block : ℕ) → is_block block o ≡ true → o ≡ Some block
 is_block_then None block e = cc
 is_block_then (Some x) block e =
@@ -36,7 +36,7 @@ module _ (lines : ℕ) (some : 0 < lines) where
         | inr e ↦ rw (ne_eqb (block % lines) i e) (other e ∙ a.each i l)
       ]
 
-  -- what the counts become, and that the lines are again those after the blocks
+  -- the counts after the blocks; the lines are again those after the blocks
   record Tells (earlier blocks : List ℕ) (o : Option ℕ) (t t' : Tally) : Type 0 where
     pub next : List ℕ
     pub after : IsAfter next t'.held

@@ -50,7 +50,7 @@ module _ (words : List ℕ) (lines : List (Option CacheLine)) (are : AreLines wo
         ];
       }
 
-  -- a changed word is of no other block
+  -- a changed word is in no other block
   other_words : (at value : ℕ) (l : CacheLine) → (l.block ≡ at / 4 → ⊥) → HasWords words (Some l) → HasWords (set words at value) (Some l)
   other_words at value l n h = (
     omega (arith, h.0, length-set words at value),
@@ -58,7 +58,7 @@ module _ (words : List ℕ) (lines : List (Option CacheLine)) (are : AreLines wo
     λ k s. h.2 k s ∙ sym (get_or-set_other words at (4 * l.block + k) value 0 (λ e. n (omega (arith, e, s)))),
   )
 
-  -- a block that a line holds is held
+  -- `has_block` finds a block that a line holds
   has_held : (block j : ℕ) (l : CacheLine) → slice_get lines j ≡ Some (Some l) → l.block ≡ block → has_block (map block_in lines) block ≡ true
   has_held block j l e b =
       let n : length (map block_in lines) ≡ length lines = length-map lines block_in in
@@ -123,7 +123,7 @@ module _ (words : List ℕ) (lines : List (Option CacheLine)) (are : AreLines wo
         ];
       }
 
--- a block of which a word is there is there whole
+-- if one word of a block is in memory, the whole block is
 pub whole_block : (words : List ℕ) (at : ℕ) → length words % 4 ≡ 0 → at < length words → 4 * (at / 4) + 3 < length words
 whole_block words at w h = omega arith
 
@@ -135,7 +135,7 @@ blocks_after lines line =
     map-set block_in lines (line.block % length lines) (Some line)
     ∙ ap (λ (k : ℕ). set (map block_in lines) (line.block % k) (Some line.block)) (sym (length-map lines block_in))
 
--- a load that no line answers
+-- a load that misses
 pub missed : (lines lines' : List (Option CacheLine)) (size at : ℕ) (ws : List ℕ) (counts : CacheCounts) → at < size →
     has_block (map block_in lines) (at / 4) ≡ false →
     lines' ≡ set lines (at / 4 % length lines) (Some (record { block = at / 4; words = ws })) →

@@ -1,4 +1,4 @@
--- Which accesses of a list a direct-mapped cache answers: a read or fetch of memory is a hit where the last earlier one of its line was of its block
+-- Which accesses are hits in a direct-mapped cache: a read or fetch of memory is one where the last earlier one on its line was of the same block
 -- (Tanenbaum, section 4.5.1, "Direct-Mapped Caches").
 use Rattle.std.specs.Prelude.{ℕ, ◌+◌, ◌/◌, ◌%◌, ◌==◌, nat_lt, if◌then◌else◌, Bool, false, List, [], ◌∷◌, Option, Some, None}
 
@@ -55,7 +55,7 @@ module _ (lines : ℕ) where
   misses_after earlier [] = 0
   misses_after earlier (block ∷ blocks) = (if is_hit earlier block then 0 else 1) + misses_after (block ∷ earlier) blocks
 
--- the hits and the misses of accesses, by a cache of so many lines that begins empty, before so many words of memory
+-- the hits and the misses of accesses, by a cache of this many lines that begins empty, in front of this many words of memory
 abbrev pub hits_of : ℕ → ℕ → List Access → ℕ
 hits_of lines size accesses = hits_after lines [] (blocks_of size accesses)
 

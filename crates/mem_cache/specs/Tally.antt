@@ -1,4 +1,4 @@
--- What a cache keeps in mind: the block that each line holds, and its counts; and what an access makes of that.
+-- What a cache remembers: the block that each line holds, and its counts; and how an access changes that.
 use Rattle.std.specs.Prelude.{ℕ, ◌+◌, ◌%◌, if◌then◌else◌, Bool, List, length, replicate, get_or, slice_set, Option, Some, None}
 use Rattle.mem_cache.specs.declared.counts.CacheCounts.{CacheCounts}
 use Rattle.mem_cache.specs.Accesses.{Access, asks_for, is_block}
@@ -25,7 +25,7 @@ abbrev pub after_asking : Option ℕ → Tally → Tally
 after_asking None t = t
 after_asking (Some block) t = if has_block t.held block then after_hit t else after_miss block t
 
--- after an access that was answered, of a memory of so many words
+-- after an access that was answered, of a memory of this many words
 abbrev pub counted : ℕ → Access → Tally → Tally
 counted size access t = after_asking (asks_for size access) t
 

@@ -18,7 +18,7 @@ abbrev pub Leads : Option Access → CacheView → CacheView → Type 0
 Leads None old new = (length new.bus.words ≡ length old.bus.words) × (new.tally ≡ old.tally)
 Leads (Some access) old new = (length new.bus.words ≡ length old.bus.words) × Counts access old new
 
--- calls do so in turn
+-- each call leads from the view that the one before it left
 abbrev pub AllLead : List (Option Access) → CacheView → CacheView → Type 0
 AllLead [] old new = new ≡ old
 AllLead (call ∷ calls) old new = (between : CacheView) × Leads call old between × AllLead calls between new

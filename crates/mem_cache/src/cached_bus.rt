@@ -21,8 +21,8 @@ use std::marker::Model;
 pub const MOST_LINES: u16 = 4096;
 
 /// A bus, and blocks of its memory in lines. A read or fetch of a memory word loads a block that its line does not hold.
-/// A write goes through to memory and changes a block that is held, and it loads none. Accesses of the console and
-/// refused accesses pass by the lines.
+/// A write goes through to memory, changes a block that is held, and loads none. Accesses of the console and
+/// refused accesses bypass the lines.
 #[derive(Drop)]
 pub struct CachedBus {
     bus: Bus,
@@ -43,7 +43,7 @@ impl Model for CachedBus {
 }
 
 impl CachedBus {
-    /// A cache of so many lines before a bus. No line holds a block.
+    /// An empty cache of `lines` lines in front of a bus.
     pub fn new(alloc: Global, lines: u16, bus: Bus) -> Result<CachedBus, AllocError>
         requires lines { (0 < lines) × (lines ≤ 4096) }
         requires whole { length bus.words % 4 ≡ 0 }
@@ -61,14 +61,14 @@ impl CachedBus {
         })
     }
 
-    /// Whether a memory word is there.
+    /// Whether there is a memory word at this address.
     pub fn has(&self, at: u32) -> bool
         ensures { result ≡ nat_lt at (length self.now.bus.words) }
     {
         self.bus.has(at)
     }
 
-    /// The memory word there, out of the line of its block.
+    /// The memory word there, from the line of its block.
     pub fn load(&mut self, at: u32) -> u32
         requires memory { at < length self.old.bus.words }
         requires counts { (self.old.tally.counts.hits < 2 ^ 63) × (self.old.tally.counts.misses < 2 ^ 63) }
@@ -88,7 +88,7 @@ impl CachedBus {
         words[place]
     }
 
-    /// Reads as the bus does, a memory word out of its line.
+    /// Reads as the bus does, but a memory word from its line.
     #[tactic(auto, unfolding(console_port::specs::World::read_refusal, console_port::specs::World::read_value, console_port::specs::World::untaken_after))]
     pub fn read_word<S: Source, K: Sink>(
         &mut self,
@@ -117,7 +117,7 @@ impl CachedBus {
         Ok(self.load(at))
     }
 
-    /// Fetches as the bus does, a byte of its word's line.
+    /// Fetches as the bus does, but from the line of the byte's word.
     #[tactic(auto, unfolding(console_port::specs::World::fetch_refusal, console_port::specs::World::byte_in))]
     pub fn fetch_byte(&mut self, byte: u32) -> Result<u8, BusFault>
         requires { (self.old.tally.counts.hits < 2 ^ 63) × (self.old.tally.counts.misses < 2 ^ 63) }

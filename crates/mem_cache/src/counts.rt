@@ -1,6 +1,6 @@
 //! The counts of a cache.
 
-/// How many reads and fetches of memory words were answered from a line, and how many loaded their block first.
+/// How many reads and fetches of memory words were served from a line, and how many loaded their block first.
 #[derive(Clone, Copy, Debug, PartialEq, Eq)]
 pub struct CacheCounts {
     pub hits: u64,

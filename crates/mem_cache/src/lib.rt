@@ -1,5 +1,5 @@
-//! A direct-mapped cache between a machine and its bus. Each call answers as the bus does, and the cache counts which
-//! reads and fetches its lines answer.
+//! A direct-mapped cache between a machine and its bus. Each call returns what the bus would return, and the cache
+//! counts which reads and fetches its lines serve.
 #![tactic(auto)]
 
 pub mod cached_bus;

@@ -52,7 +52,7 @@ pub(crate) fn hold(lines: &mut Vec<Option<CacheLine>>, line: CacheLine)
     lines[index] = Some(line);
 }
 
-/// A word of memory changes: so it does in the line that holds its block, where one does.
+/// Changes a word of memory also in the line that holds its block, where one does.
 pub(crate) fn change(lines: &mut Vec<Option<CacheLine>>, at: u32, value: u32)
     requires { 0 < length lines.old.items }
     ensures blocks { map block_in lines.new.items ≡ map block_in lines.old.items }

@@ -64,7 +64,7 @@ bytes_of_echo : code_bytes 0 0 echo ≡
 unfolding code_bytes
 bytes_of_echo = refl
 
--- the same in a method
+-- the echo has the same bytes in a method
 bytes_of_echo_behind : code_bytes 0 20 echo ≡ code_bytes 0 0 echo
 unfolding code_bytes
 bytes_of_echo_behind = refl

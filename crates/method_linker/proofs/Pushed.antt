@@ -15,7 +15,7 @@ use Rattle.method_linker.specs.Linked.{distance, line_bytes, code_bytes, code_di
 use Rattle.method_linker.specs.Steps.{IsStopped, IsPushedUpTo, line_jump}
 use Rattle.method_linker.proofs.Texts.{bytes_of_lines, distances_of_lines}
 
--- ---- the first line that jumps too far, in one list behind another
+-- ---- the first line that jumps too far, in one list after another
 
 pub far_behind : (xs ys : List (ℕ × ℤ)) → first_far xs ≡ None → first_far (xs ++ ys) ≡ first_far ys
 far_behind xs ys none = find-append (λ line. is_far line.1) xs ys ∙ ap (λ o. option_or o (first_far ys)) none

@@ -1,5 +1,5 @@
 -- The image of a program: its text is the headers and the instructions one after the other, its pool the constants and then the
--- methods' entries. And when there is none.
+-- methods' entries. And when a program has no image.
 use Rattle.std.specs.Prelude.{◌≡◌, ℕ, ◌+◌, ◌<◌, ◌≤◌, ℤ, pos, negsuc, ◌-ℤ◌, int_lt, Bool, ◌||◌, List, ◌++◌, length, map, find, Option, Some, None}
 use Rattle.std.specs.List.{flat_map, enumerate_from, range_with_len}
 use Rattle.ijvm_instr.specs.Instructions.{spelling, two_bytes}
@@ -55,7 +55,7 @@ text program =
 abbrev pub method_distances : ProgramView → ℕ × UnitView → List (ℕ × ℤ)
 method_distances program (index, method) = code_distances (code_begin program index) method.lines
 
--- of all lines, in the order of the text
+-- the distances of all lines, in the order of the text
 unfoldable pub distances : ProgramView → List (ℕ × ℤ)
 distances program = code_distances 0 program.main.lines ++ flat_map (method_distances program) (enumerate_from 0 program.methods)
 

@@ -22,7 +22,7 @@ HasIndex first (Constant index) = index < 65536
 HasIndex first (Call index) = first + index < 65536
 HasIndex first (To jump target) = Unit {0}
 
--- the line that an operation jumps to is one of so many
+-- the line that an operation jumps to is one of this many
 abbrev pub HasTarget : ℕ → Operation → Type 0
 HasTarget lines (Plain instr) = Unit {0}
 HasTarget lines (Constant index) = Unit {0}

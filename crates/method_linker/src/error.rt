@@ -8,10 +8,10 @@ use thiserror::Error;
 /// Why a program has no image.
 #[derive(Clone, Copy, Debug, PartialEq, Eq, Error)]
 pub enum LinkError {
-    /// So many constants and methods, above 16,384.
+    /// This many constants and methods, above 16,384.
     #[error("{0} constants")]
     PoolTooLong(u32),
-    /// So many bytes of text, above 65,536.
+    /// This many bytes of text, above 65,536.
     #[error("{0} bytes of text")]
     TextTooLong(u32),
     /// The line of the first jump whose distance is no number of 16 bits, and the distance.

@@ -26,7 +26,7 @@ hands_on-lt true true x y k p q r = omega arith
 hands_on-lt true false x y k p q r = omega arith
 hands_on-lt false f1 x y k p q r = omega arith
 
--- a slice hands on what it hands on by itself, or a carry that comes where it hands on one that comes
+-- a slice hands on the carry that it makes by itself, or an incoming carry where it passes one on
 chosen : (f0 f1 : Bool) (x y k : ℕ) → x < 2 → y < 2 → k < 2 → hands_on f0 f1 x y k ≡ max (hands_on f0 f1 x y 0) (min (hands_on f0 f1 x y 1) k)
 chosen true true x y k p q r = omega arith
 chosen true false x y k p q r = omega arith

@@ -37,7 +37,7 @@ before_twice reach i carry far = ⊎_elim
 twice_as_far : (h h' m m' p p' b made passed : ℕ) → h ≡ max m (min p h') → h' ≡ max m' (min p' b) → made ≡ max m (min p m') → passed ≡ min p p' → h ≡ max made (min passed b)
 twice_as_far h h' m m' p p' b made passed e f g k = omega arith
 
--- the same, twice as far
+-- what reaches this many slices, combined with itself, reaches twice as many
 module _ (reach made passed made' passed' : ℕ) (carry : ℕ → ℕ)
     (is_made : (i : ℕ) → i < 32 → bit_at made' i ≡ max (bit_at made i) (min (bit_at passed i) (before reach (bit_at made) i)))
     (is_passed : (i : ℕ) → i < 32 → bit_at passed' i ≡ min (bit_at passed i) (before reach (bit_at passed) i))
@@ -67,7 +67,7 @@ module _ (reach made passed made' passed' : ℕ) (carry : ℕ → ℕ)
         (cases_lt i reach);
   }
 
--- what is made is all, where it goes no further
+-- where no carry goes further, the carries that are made are all
 pub settled : (reach made passed : ℕ) (carry : ℕ → ℕ) → 0 < reach → AreHandedOn reach made passed carry →
     ((i : ℕ) → i < 32 → min (bit_at passed i) (before reach (bit_at made) i) ≡ 0) → (n i : ℕ) → i < n → i < 32 → bit_at made i ≡ carry i
 settled reach made passed carry some handed stops zero i below h = absurd (omega arith)

@@ -34,7 +34,7 @@ no_carry true false x y k k' e = refl
 no_carry false true x y k k' e = refl
 no_carry false false x y k k' e = refl
 
--- but for the adder, a carry that comes changes nothing
+-- except in the adder, an incoming carry changes nothing
 pub any_carry : (w : Wires) (a b k k' i : ℕ) → (w.f0 && w.f1) ≡ false → slice_bit w a b k i ≡ slice_bit w a b k' i
 any_carry w a b k k' i e = no_carry w.f0 w.f1 (left_at w a i) (right_at w b i) k k' e
 
@@ -68,7 +68,7 @@ adder_bit w a b carries i e f =
     ∙ (ap (λ (n : ℕ). (left_at w a i + n + bit_at carries i) % 2) (right_bit w b i)
     ∙ sym (gate_is w a b (bit_at carries i) i true true e f)))))
 
--- at least two of three
+-- the carry of three bits is 1 where at least two of them are
 most : (x y c : ℕ) → x < 2 → y < 2 → c < 2 → max (min x y) (min (max x y) c) ≡ (x + y + c) / 2
 most x y c p q r = omega arith
 

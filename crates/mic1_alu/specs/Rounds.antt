@@ -3,7 +3,7 @@ use Rattle.std.specs.Prelude.{◌≡◌, ℕ, ◌-◌, ◌<◌, nat_le, min, max
 use Rattle.std.specs.Int.{bit_at}
 use Rattle.mic1_alu.specs.declared.slices.Handed.{Handed}
 
--- what so many slices before slice i hand on, and 0 to the first ones
+-- what the slice this many places before slice i hands on, and 0 for the first ones
 abbrev pub before : ℕ → (ℕ → ℕ) → ℕ → ℕ
 before reach carry i = if nat_le reach i then carry (i - reach) else 0
 
@@ -12,6 +12,6 @@ before reach carry i = if nat_le reach i then carry (i - reach) else 0
 pub record AreHandedOn (reach made passed : ℕ) (carry : ℕ → ℕ) : Type 0 where
   pub each : (i : ℕ) → i < 32 → carry i ≡ max (bit_at made i) (min (bit_at passed i) (before reach carry i))
 
--- so of what a stretch of slices hands on
+-- this holds of what a stretch of slices hands on
 abbrev pub HandsOn : ℕ → Handed → (ℕ → ℕ) → Type 0
 HandsOn reach handed carry = AreHandedOn reach handed.made handed.passed carry

@@ -18,11 +18,11 @@ gate f0 f1 x y carry =
     then (if f1 then (x + y + carry) % 2 else 1 - y)
     else (if f1 then max x y else min x y)
 
--- the adder alone hands a carry on
+-- only the adder hands a carry on
 abbrev pub hands_on : Bool → Bool → ℕ → ℕ → ℕ → ℕ
 hands_on f0 f1 x y carry = if f0 then (if f1 then (x + y + carry) / 2 else 0) else 0
 
--- the same of slice i of two words
+-- the definitions above for slice i of two words
 abbrev pub left_at : Wires → ℕ → ℕ → ℕ
 left_at wires a i = left (bit_at wires.ena i) (bit_at wires.inva i) (bit_at a i)
 

@@ -45,7 +45,7 @@ pub fn alu(controls: Controls, a: u32, b: u32) -> AluOut
     }
 }
 
-/// The value of the same six bits, where ENA and INVA reach each bit of a word and B is 0 when ENB is off.
+/// What `alu` gives for these six bits, where ENA and INVA reach each bit of a word and B is 0 when ENB is off.
 pub fn alu_by_lines(bits: u8, ena: u32, inva: u32, a: u32, b: u32) -> u32
     requires ena { ena ≡ enabled (bits / 8 % 2 == 1) 0xFFFFFFFF }
     requires inva { inva ≡ enabled (bits / 2 % 2 == 1) 0xFFFFFFFF }

@@ -1,4 +1,4 @@
-//! The ALU of both datapaths, from six control lines and two words, and the shifter behind it.
+//! The ALU of both datapaths, from six control lines and two words, and the shifter after it.
 #![tactic(auto)]
 
 mod controls;

@@ -1,4 +1,4 @@
-//! The shifter behind the ALU.
+//! The shifter after the ALU.
 ghost use Rattle.std.specs.Prelude.{◌≡◌};
 ghost use Rattle.micro_word.specs.Operation.{shifted};
 

@@ -45,14 +45,14 @@ fn slices(wires: Wires, a: u32, b: u32, carries: u32) -> Given
     }
 }
 
-/// What a stretch of slices up to each one hands on: a carry that is made within it, and one that comes to it where it passes all of it.
+/// What the stretch of slices up to each one hands on: a carry made within it, and one that passes through all of it.
 #[derive(Clone, Copy)]
 struct Handed {
     made: u32,
     passed: u32,
 }
 
-/// The same of stretches twice as long.
+/// What stretches twice as long hand on.
 fn twice(handed: Handed, reach: u32) -> Handed
     requires { reach < 32 }
     ensures { (carry : ℕ → ℕ) → HandsOn reach handed carry → HandsOn (reach * 2) result carry }
@@ -113,7 +113,7 @@ fn is_adder(wires: Wires) -> bool
 pub fn gated(wires: Wires, inc: bool, a: u32, b: u32) -> u32
     ensures { result ≡ combined wires.f0 wires.f1 inc (bit_xor (bit_and a wires.ena) wires.inva) (bit_and b wires.enb) }
 {
-    // The adder alone takes carries.
+    // Only the adder takes carries.
     if is_adder(wires) {
         let sum = slices(wires, a, b, carries(wires, inc, a, b));
         return sum.bits;

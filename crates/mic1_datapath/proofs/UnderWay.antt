@@ -1,4 +1,4 @@
--- What a word samples is under way behind it.
+-- What a word samples is under way after it.
 use Rattle.std.proofs.Common.{◌≡◌, ℕ, Bool, true, false, Option, Some, None, is_some, unwrap_or, refl}
 use Rattle.mic1_datapath.specs.Latches.{under_way}
 

@@ -1,4 +1,4 @@
--- What a cycle of Mic-1 has before its edge: a word with its control lines, and what leaves the ALU and the shifter; and an edge that reaches memory alone.
+-- What a cycle of Mic-1 has before its edge: a word with its control lines, and what leaves the ALU and the shifter; and an edge that reaches only memory.
 use Rattle.std.specs.Prelude.{◌≡◌, ⊤, ℕ, false, IsTrue, List, Option, Ok}
 use Rattle.console_port.specs.View.{BusView}
 use Rattle.mic_clock.specs.Edge.{IsEdge}
@@ -26,7 +26,7 @@ pub record HasComputed (word : ℕ) (m : Micro) (value c : ℕ) : Type 0 where
   pub value_is : value ≡ result_of (statement_of machines.Mic1 word).part m
   pub c_is : c ≡ shifted (statement_of machines.Mic1 word).part.shift value
 
--- the state behind a word that has this value out of the ALU, with what its accesses sampled under way
+-- the state after a word that has this value out of the ALU, with what its accesses sampled under way
 abbrev pub moved_on : ℕ → ℕ → Micro → Option ℕ → Option ℕ → Micro
 moved_on word value m read byte = next_micro (statement_of machines.Mic1 word).next value (settled (statement_of machines.Mic1 word).part m) read byte
 

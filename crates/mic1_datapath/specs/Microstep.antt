@@ -1,5 +1,5 @@
 -- The microstep of Mic-1 (chapter 4; the order of events at the clock edge is this profile's). A statement assigns
--- whole words; `clock` is total, and `refusal` looks at addresses alone.
+-- whole words; `clock` is total, and `refusal` looks only at addresses.
 use Rattle.std.specs.Prelude.{ℕ, true, Option, None}
 use Rattle.mic_words.specs.Arithmetic.{signed_byte}
 use Rattle.micro_word.specs.Operation.{alu, shifted}
@@ -27,7 +27,7 @@ fetched mbr sources.Mbr = signed_byte mbr
 fetched mbr sources.Mbru = mbr
 fetched mbr _ = 0
 
--- what is on the B bus, where 0 is when nothing drives it
+-- what is on the B bus: 0 when nothing drives it
 abbrev pub source : Option BusSource → Micro → ℕ
 source b m = on_bus (registers_in m) (fetched m.mbr) b
 
@@ -61,7 +61,7 @@ assigned dests v m =
 abbrev pub settled : Part → Micro → Micro
 settled part m = assigned part.dests (shifted part.shift (result_of part m)) m
 
--- what the memory's two ports are given of the registers
+-- the registers that the memory's two ports are given
 abbrev pub ports_of : Micro → Ports
 ports_of m = ports_given (registers_in m)
 

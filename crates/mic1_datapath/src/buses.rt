@@ -26,7 +26,7 @@ const SHIFT: u64 = 0x40_0000;
 fn shift_for(word: u64, value: u32) -> u32
     ensures { result ≡ shifted (shift_of (fields_of Mic1 word).shift) value }
 {
-    // Most words do not shift, and the word tells it faster than its field.
+    // Most words do not shift. The word itself shows it faster than its field does.
     let still = word / SHIFT % 4 == 0;
     if still {
         return value;

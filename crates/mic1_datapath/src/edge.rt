@@ -1,4 +1,4 @@
-//! The clock edge of a cycle, behind what the cycle computed.
+//! The clock edge of a cycle, after what the cycle computed.
 
 ghost use Rattle.std.specs.Prelude.{◌≡◌, Err, true, false};
 ghost use Rattle.console_port.specs.Console.{HasFaultCause};
@@ -108,7 +108,7 @@ fn edge_of_one(
     true
 }
 
-/// The edge of a word whose accesses reach memory alone. For any other, nothing is done.
+/// The edge of a word whose accesses reach only memory. For any other, nothing is done.
 #[inline(always)]
 fn edge_inside(
     latches: &mut Latches,
@@ -172,7 +172,7 @@ fn any_edge<S: Source, K: Sink>(
     Ok(())
 }
 
-/// The same. The place for its answer is made here, and not in each cycle.
+/// `any_edge` in a function of its own: the space for its result is made here, and not in each cycle.
 #[inline(always)]
 fn edge_outside<S: Source, K: Sink>(
     latches: &mut Latches,
@@ -199,7 +199,7 @@ fn edge_outside<S: Source, K: Sink>(
     Ok(())
 }
 
-/// The clock edge. An Err leaves what the latches mean.
+/// The clock edge. After an Err the latches mean what they meant before.
 #[inline(always)]
 pub fn edge<S: Source, K: Sink>(
     latches: &mut Latches,

@@ -37,7 +37,7 @@ const MBRU: usize = 10;
 #[derive(Clone, Copy, Debug, PartialEq, Eq)]
 pub struct Latches {
     pub places: Places,
-    /// The microinstruction that was clocked last: it tells whether `word` and `byte` arrive at the next edge.
+    /// The microinstruction that was clocked last. It decides whether `word` and `byte` arrive at the next edge.
     pub before: u64,
     pub word: u32,
     pub byte: u8,
@@ -90,7 +90,7 @@ fn load_mbr(byte: Option<u8>, places: &mut Places)
     }
 }
 
-/// Whether a word neither reads nor fetches, so that nothing arrives behind it.
+/// Whether a word neither reads nor fetches, so that nothing arrives after it.
 fn brings_nothing(word: u64) -> bool
     ensures { result ≡ true → (reads word ≡ false) × (fetches word ≡ false) }
 {
@@ -126,7 +126,7 @@ fn goes_on(word: u64, addr: u16, value: u32, byte: u8) -> u16
     ensures next { GoesTo addr (fields_of Mic1 word).jam value byte result }
     ensures small { result < 512 }
 {
-    // Most words go on to Addr, and the word tells it faster than its field.
+    // Most words go on to Addr. The word itself shows it faster than its field does.
     let plain = word / JAM % 8 == 0;
     if plain {
         return next_address(addr, 0, value, byte);
@@ -209,7 +209,7 @@ impl Latches {
         port(c, PC, value, &self.places)
     }
 
-    /// Moves the registers and MPC on behind a clocked word, with what its accesses sampled under way.
+    /// Moves the registers and MPC on after a clocked word, with what its accesses sampled under way.
     #[inline(always)]
     pub fn advance(&mut self, word: u64, lines: &Lines, value: u32, c: u32, sampled: Sampled)
         requires latches { AreLatches self.old }

@@ -180,7 +180,7 @@ impl Clocked for Mic1 {
     }
 
     fn at_boundary(&self) -> bool {
-        // Few cycles come to the entry, so the other test is made there alone.
+        // Few cycles come to the entry, so the other test is made only there.
         self.latches.mpc == self.latches.entry && self.latches.clocked
     }
 

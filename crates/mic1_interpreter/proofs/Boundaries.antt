@@ -100,7 +100,7 @@ counts o map s m w h inside =
       byte6 = byte_kept w.words o.words kept e6 (omega arith);
     }
 
--- a boundary, by what the machine has beside what it holds
+-- a boundary, by what the machine has besides what it holds
 pub at_boundary : (o : Origin) (s : State) (m : Micro) (w : World) → RegistersStand o s m.sp m.lv m.cpp m.tos w →
     m.pc ≡ s.at → m.mbr ≡ byte_in o.words s.at → m.mpc ≡ 2 → m.entry ≡ 2 → m.clocked ≡ true → m.word ≡ None → m.byte ≡ None → Stands o s m w
 at_boundary o s m w holds pc mbr mpc entry clocked word byte =

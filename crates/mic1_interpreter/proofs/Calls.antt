@@ -28,7 +28,7 @@ use Rattle.mic1_interpreter.proofs.Store.{HasStatements}
 use Rattle.mic1_interpreter.proofs.Boundaries.{ReachesBoundary, comes, Counts, counts, at_boundary, at_text, moves, overruns}
 use Rattle.mic1_interpreter.proofs.Words.{byte_kept, fetch_ok, pair_is}
 
--- what a method's frame says of the words below its operands
+-- what a method's frame has in the words below its operands
 link_of : (words : List ℕ) (lv many caller r : ℕ) (back : Option ℕ) → back ≡ Some r → IsLinked words lv many caller back → IsLinked words lv many caller (Some r)
 link_of words lv many caller r back e h = subst (λ (b : Option ℕ). IsLinked words lv many caller b) e h
 
@@ -42,7 +42,7 @@ module _ (stack_end : ℕ) (m : Micro) (w : World) where
   abbrev entry : ℕ
   entry = read_value stack_end w.words w.untaken from
 
-  -- its two counts
+  -- the method's two counts
   abbrev count : ℕ
   count = bit_or (wrap (256 * byte_in w.words entry)) (byte_in w.words (next entry))
 
@@ -56,7 +56,7 @@ module _ (stack_end : ℕ) (m : Micro) (w : World) where
   abbrev link : ℕ
   link = next (own + m.sp)
 
--- what a call with n arguments finds of a method at e with so many other locals, where the frame below keeps these operands
+-- what a call with n arguments finds of a method at e with this many other locals, where the frame below keeps these operands
 record Entering (o : Origin) (s : State) (m : Micro) (w : World) (k e n more : ℕ) (rest : List ℕ) : Type 0 where
   pub constant : IsWordAccess (length o.words) w (from (length o.words) m w) (0x4000 + k)
   pub entry_is : entry (length o.words) m w ≡ e

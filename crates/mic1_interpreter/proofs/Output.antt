@@ -1,4 +1,4 @@
--- The bytes that a microstep of Mic-1 gives come behind what had been given.
+-- The bytes that a microstep of Mic-1 gives come after those given before.
 use Rattle.std.proofs.Common.{ℕ, Some, List, [], sym}
 use Rattle.std.proofs.lemmas.List.{append-nil}
 use Rattle.micro_word.specs.declared.statement.Mem.{Mem}

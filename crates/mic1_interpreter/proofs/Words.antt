@@ -46,7 +46,7 @@ pub pair_is : (words : List ℕ) (p q : ℕ) {x y k : ℕ} → x ≡ byte_in wor
 pair_is words p q {x} {y} {k} ex ey e =
     ap₂ (λ (i : ℕ) (j : ℕ). bit_or (wrap (256 * i)) j) ex ey ∙ (two_bytes (byte_in words p) (byte_in words q) (byte_bound words p) (byte_bound words q) ∙ omega (arith, e))
 
--- and a signed one
+-- two bytes as a signed number
 signed_two : (a b : ℕ) → a < 256 → b < 256 → bit_or (wrap (256 * signed_byte a)) b ≡ signed_pair a b
 unfolding signed_byte signed_pair wrap
 signed_two a b la lb = elim (cases_lt a 128) [

@@ -6,7 +6,7 @@ ghost use Rattle.mic1_interpreter.specs.Interpretation.{mic1};
 
 use ijvm_simulation::stack_law;
 
-/// The instructions on the operands alone.
+/// The instructions that use only the operands.
 pub(crate) fn operands_law()
     ensures { GroupTakes mic1 IsOfOperands }
 {

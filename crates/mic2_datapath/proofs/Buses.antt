@@ -32,13 +32,13 @@ module _ (s : Placed) (m : Micro) where
   computes_if true = refl
   computes_if false = refl
 
--- what leaves the ALU and the shifter where nothing stalls
+-- what leaves the ALU and the shifter where the cycle does not stall
 pub flagged_on : (s : Placed) (d : Drive) → d.stalled ≡ false → (value c : ℕ) → value ≡ alu s.part.op d.a d.b → c ≡ shifted s.part.shift value → flagged value c ≡ computed_on s d
 flagged_on s d not value c value_is c_is =
     (λ i. flagged (value_is i) ((c_is ∙ ap (λ (x : ℕ). shifted s.part.shift x) value_is) i))
     ∙ sym (ap (λ (b : Bool). if b then stalled_value else value_of s (alu s.part.op d.a d.b)) not)
 
--- and where it does
+-- what leaves them where the cycle stalls: nothing
 pub nothing_on : (s : Placed) (d : Drive) → d.stalled ≡ true → stalled_value ≡ computed_on s d
 nothing_on s d is = sym (ap (λ (b : Bool). if b then stalled_value else value_of s (alu s.part.op d.a d.b)) is)
 

@@ -102,7 +102,7 @@ greater_is false false false false = refl
 abbrev more : ℕ → ℕ → ℕ
 more a b = if nat_lt a b then b else a
 
--- what the control lines of a word tell is the demand of its statement
+-- the bytes that a word takes by its control lines are the demand of its statement
 pub takes_are : (s : Placed) (a b jam : ℕ) → Valid Mic2 s → a ≡ place_on_bus s.part.a → b ≡ place_on_bus s.part.b → jam ≡ jam_bits s.next → bytes_taken a b jam ≡ demand s
 takes_are s a b jam valid a_is b_is jam_is =
     (λ i. bytes_taken (a_is i) (b_is i) (jam_is i))
@@ -115,7 +115,7 @@ dispatch_takes (nexts.Dispatch high) operands h = omega arith
 dispatch_takes (nexts.Branch tests.N low) operands h = absurd (cc)
 dispatch_takes (nexts.Branch tests.Z low) operands h = absurd (cc)
 
--- the last of the bytes is the one behind the operand's, where one is dispatched
+-- the last of the bytes is the one after the operand's, where one is dispatched
 pub dispatched_last : (n : PlacedNext) (value x takes operands : ℕ) (bytes : ℕ → ℕ) → jam_bits n ≡ 4 → takes ≡ operands + dispatch_bytes n → x ≡ bytes (takes - 1) →
     next_address n value x ≡ next_address n value (bytes operands)
 dispatched_last (nexts.Goto to) value x takes operands bytes h takes_is is = absurd (cc)

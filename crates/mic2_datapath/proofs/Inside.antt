@@ -1,4 +1,4 @@
--- A write or a read that reaches memory alone.
+-- A write or a read that reaches only memory.
 use Rattle.std.proofs.Common.{◌≡◌, ℕ, List, Option, Some, None, refl, sym, subst}
 use Rattle.console_port.specs.World.{World, Refusal}
 use Rattle.console_port.specs.View.{BusView, ConsoleView}

@@ -36,7 +36,7 @@ pub record Asked : Type 0 where
   pub mem : Mem
   pub at : Option ℕ
 
--- it is what the statement does, in a cycle that does not stall
+-- what a cycle asks is what the statement does, in a cycle that does not stall
 pub record IsAsked (s : Placed) (m : Micro) (p : Asked) : Type 0 where
   pub goes : is_stalled s m ≡ false
   pub given : p.ports ≡ ports_given (settled s m)
@@ -74,7 +74,7 @@ mar_there word m stalled value c dests computed goes dests_are =
     let v : c ≡ shifted s.part.shift (result_of s.part m) = computed.shifter goes ∙ ap (λ (x : ℕ). shifted s.part.shift x) (computed.alu goes) in
     λ i. (loaded (dests_are i) (v i) m.word (registers_in m)).mar
 
--- and the word
+-- the word that the word port is given
 pub mdr_there : (word : ℕ) (m : Micro) (stalled : Bool) (value c dests : ℕ) →
     let s = statement_of machines.Mic2 word in
     HasComputed s m stalled value c → stalled ≡ false → dests ≡ (fields_of machines.Mic2 word).c → (loaded dests c m.word (registers_in m)).mdr ≡ (settled s m).mdr
@@ -91,7 +91,7 @@ sampled_there s m c taken named named_is taken_is c_is =
     let there = λ (is : jumps s.part ≡ true). c_is ∙ sym (ap (λ (b : Bool). if b then shifted s.part.shift (result_of s.part m) else advanced (demand s) m.pc) is) in
     (λ i. unit_samples (named_is i) c (taken_is i) m.unit) ∙ same_sample (jumps s.part) c (settled s m).pc (demand s) m.unit there
 
--- and where it stands then
+-- where the fetch unit stands after the edge, by the bits of the word and what is on the C bus
 pub unit_there : (s : Placed) (m : Micro) (words : List ℕ) (c taken : ℕ) (named : Bool) → named ≡ jumps s.part → taken ≡ demand s → c ≡ shifted s.part.shift (result_of s.part m) →
     unit_after named words c taken m.unit ≡ unit_after (jumps s.part) words (settled s m).pc (demand s) m.unit
 unit_there s m words c taken named named_is taken_is c_is =
@@ -136,7 +136,7 @@ step_on n s m w = outcome (refusal n s m) (clock n s m w) (world_after n s m w)
 goes_on : (s : Placed) (m : Micro) (p : Asked) → IsAsked s m p → (n : ℕ) (w : World) → length w.words ≡ n → microstep s m w ≡ step_on n s m w
 goes_on s m p h n w size = (λ i. step_if (h.goes i) (size i) s m w)
 
--- behind the edge, with the result x, with this word under way and the unit over these words
+-- after the edge, with the result x, with this word under way and the unit over these words
 abbrev pub moved_on : Placed → Micro → ℕ → List ℕ → Option ℕ → Micro
 moved_on s m x words word =
     let r = settled s m in
@@ -175,7 +175,7 @@ module _ (s : Placed) (m : Micro) (p : Asked) (h : IsAsked s m p) (n : ℕ) (w :
       ∙ (ap (λ (r : Option Refusal). outcome r (clock n s m w) (world_after n s m w)) (same_refusal s m p h n ∙ clear)
       ∙ sym (λ i. Done (clock n s m w) (sampled n (h.memory i) (h.given i) (written n (h.memory i) (h.given i) w))))
 
--- an access that is answered by a fault is not refused
+-- an access that returns a fault is not refused
 not_refused : {T : Type 0} (r : Option Refusal) (result : Result T BusFault) (e : BusFault) → result ≡ Err e → IsFault e →
     ((f : BusFault) → refused_by r ≡ Some f → result ≡ Err f) → r ≡ None
 not_refused None result e is fault answers = refl
@@ -194,7 +194,7 @@ refused_no_fault None e is fault = absurd (cc)
 refused_no_fault (Some (StackLimit at)) e is fault = let same : e ≡ fault_of (StackLimit at) = cc in subst IsFault same fault
 refused_no_fault (Some (OutOfMap at)) e is fault = let same : e ≡ fault_of (OutOfMap at) = cc in subst IsFault same fault
 
--- so it has no cause in the source or the sink
+-- a refusal has no cause in the source or the sink
 pub no_cause : (why : Option Refusal) (source sink : ℕ) (r : Result ⊤ BusFault) → IfErr r (λ e. refused_by why ≡ Some e) → HasFaultCause source source sink sink r
 no_cause why source sink r fails =
     record {
@@ -209,7 +209,7 @@ no_cause why source sink r fails =
     never : (e : BusFault) → r ≡ Err e → IsFault e → ⊥
     never e is = refused_no_fault why e (subst (λ (x : Result ⊤ BusFault). IfErr x (λ f. refused_by why ≡ Some f)) is fails)
 
--- what is refused was not tested, as a read is not
+-- what is refused here is a read, because anything else was tested before
 pub it_reads : (reads : Bool) (r : Option Refusal) (e : BusFault) → (reads ≡ false → r ≡ None) → refused_by r ≡ Some e → reads ≡ true
 it_reads true r e clear fails = refl
 it_reads false r e clear fails = let none : None ≡ Some e = sym (ap refused_by (clear refl)) ∙ fails in absurd (cc)
@@ -244,7 +244,7 @@ both : (a b : Bool) → (a && b) ≡ true → a ≡ true
 both true b h = refl
 both false b h = absurd (cc)
 
--- what an access behind the memory's words does at the console
+-- what an access past the memory's words does at the console
 pub record AtConsole : Type 0 where
   pub takes : (n : ℕ) (p : Ports) (mem : Mem) (w : World) → n ≤ p.mar → is_read mem ≡ true → (sampled n mem p (written n mem p w)).untaken ≡ drop 1 w.untaken
   pub gives : (n : ℕ) (p : Ports) (w : World) → n ≤ p.mar → (written n mems.Write p w).given ≡ w.given ++ (p.mdr % 256) ∷ []
@@ -315,7 +315,7 @@ module _ (word : ℕ) (m : Micro) (left held : Option (List ℕ)) (bus : BusView
   over_same b same t left' held' bus' result edge =
       subst (λ (x : BusView). IsEdge mic2_meaning word m left held x {T = ⊤} t left' held' bus' result) same edge
 
-  -- what is done may tell more
+  -- an edge that is done may return a value
   pub tells : {T : Type 0} (told : T) (t : Micro) (left' held' : Option (List ℕ)) (bus' : BusView) → Edges t left' held' bus' (Ok tt) →
       IsEdge mic2_meaning word m left held bus {T = T} t left' held' bus' (Ok told)
   tells told t left' held' bus' edge =
@@ -328,7 +328,7 @@ module _ (word : ℕ) (m : Micro) (left held : Option (List ℕ)) (bus : BusView
         stands = tt;
       }
 
-  -- and what is not done tells the fault
+  -- an edge that is not done returns the fault
   pub fails_so : {T : Type 0} (e : BusFault) (t : Micro) (left' held' : Option (List ℕ)) (bus' : BusView) → Edges t left' held' bus' (Err e) →
       IsEdge mic2_meaning word m left held bus {T = T} t left' held' bus' (Err e)
   fails_so e t left' held' bus' edge =
@@ -341,7 +341,7 @@ module _ (word : ℕ) (m : Micro) (left held : Option (List ℕ)) (bus : BusView
         stands = edge.stands;
       }
 
-  -- what is refused leaves all
+  -- a refused edge leaves all
   refused_edge : (why : Option Refusal) → ((w : World) → Shows left held bus w → refusal_in (step_of_word word m w) ≡ refused_by why) →
       (bus' : BusView) → bus' ≡ bus → (t : Micro) → t ≡ m → (e : BusFault) → refused_by why ≡ Some e → Edges t left held bus' (Err e)
   refused_edge why step bus' same t stays e fails =
@@ -396,7 +396,7 @@ module _ (word : ℕ) (m : Micro) (left held : Option (List ℕ)) (bus : BusView
     stall_edge t (Ok done) moves clear stays fails = stall_goes clear t moves
     stall_edge t (Err e) moves clear stays fails = stall_fails t stays e fails
 
-  -- and of any other
+  -- an edge of any other cycle
   module _ (p : Asked) (h : IsAsked (statement_of machines.Mic2 word) m p) where
     abbrev why : Option Refusal
     why = refusal_on (length bus.words) p
@@ -487,7 +487,7 @@ waits_for word word' m m' same stays left held bus sink sink' lets =
     subst (λ (w : ℕ). LetsBytesWait mic2_meaning w m left held bus sink sink') same
     (subst (λ (n : Micro). LetsBytesWait mic2_meaning word' n left held bus sink sink') stays lets)
 
--- the fault of an edge is what its cycle tells
+-- the fault of an edge is the one that its cycle returns
 pub fails_for : {T : Type 0} (word word' : ℕ) (m m' : Micro) → word' ≡ word → m' ≡ m →
     (left held : Option (List ℕ)) (bus : BusView) (t : Micro) (left' held' : Option (List ℕ)) (bus' : BusView) (e : BusFault) (r : Result T BusFault) →
     IsErrAnd r (λ f. f ≡ e) → IsEdge mic2_meaning word' m' left held bus {T = ⊤} t left' held' bus' (Err e) →

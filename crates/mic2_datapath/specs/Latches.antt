@@ -37,14 +37,14 @@ pub record AreLatches (l : Latches) : Type 0 where
   pub mpc : l.mpc < 512
   pub nothing : slice_index l.places NOTHING ≡ 0
 
--- the front of the queue stands on its places, as far as so many bytes of it are named
+-- the front of the queue stands on its places, as far as this many bytes of it are named
 pub record HasFront (operands : ℕ) (l : Latches) : Type 0 where
   pub byte : 1 ≤ operands → slice_index l.places 9 ≡ signed_byte (slice_index l.unit.bytes 0)
   pub unsigned : 1 ≤ operands → slice_index l.places 10 ≡ slice_index l.unit.bytes 0
   pub pair : 2 ≤ operands → slice_index l.places 11 ≡ signed_pair (slice_index l.unit.bytes 0) (slice_index l.unit.bytes 1)
   pub unsigned_pair : 2 ≤ operands → slice_index l.places 12 ≡ 256 * slice_index l.unit.bytes 0 + slice_index l.unit.bytes 1
 
--- behind the call that lets ALU and shifter work: what leaves them
+-- after the call that lets ALU and shifter work: what leaves them
 pub record HasComputed (s : Placed) (m : Micro) (stalled : Bool) (value c : ℕ) : Type 0 where
   pub waits : stalled ≡ is_stalled s m
   pub alu : stalled ≡ false → value ≡ result_of s.part m

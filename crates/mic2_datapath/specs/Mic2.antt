@@ -80,7 +80,7 @@ flagged x c = record { alu = record { value = x; n = is_negative x; z = x == 0 }
 abbrev pub value_of : Placed → ℕ → Computed
 value_of s x = flagged x (shifted s.part.shift x)
 
--- the same for what is on the operand buses
+-- what leaves the ALU and the shifter for what is on the operand buses
 abbrev pub computed_on : Placed → Drive → Computed
 computed_on s d = if d.stalled then stalled_value else value_of s (alu s.part.op d.a d.b)
 
@@ -104,7 +104,7 @@ mic2_meaning =
       address = λ m. before m.pc;
     }
 
--- what a Mic-2 has before the instruction at an address: PC behind its opcode, which is MPC, the unit there with at least two bytes, and no word under way
+-- what a Mic-2 has before the instruction at an address: PC after its opcode, which is MPC, the unit there with at least two bytes, and no word under way
 pub record IsReady (main : ℕ) (words : List ℕ) (at : ℕ) (m : Micro) : Type 0 where
   pub pc : m.pc ≡ at + 1
   pub low : m.pc < 2 ^ 32

@@ -21,7 +21,7 @@ use Rattle.mic_datapath.specs.Next.{next_address}
 use Rattle.mic2_fetch_unit.specs.FetchUnit.{Prefetch, edge, jump, sampled_at, edge_refusal, jump_refusal, sample_refusal}
 use Rattle.mic2_datapath.specs.Micro.{Micro}
 
--- A statement demands one byte of the queue where it names MBR1 or MBR1U, two where it names MBR2 or MBR2U, and for a dispatch one more behind them.
+-- A statement demands one byte of the queue where it names MBR1 or MBR1U, two where it names MBR2 or MBR2U, and for a dispatch one more after them.
 
 abbrev pub operand_bytes : Part → ℕ
 operand_bytes part = if is_pair part.a || is_pair part.b then 2 else if is_byte part.a || is_byte part.b then 1 else 0
@@ -34,7 +34,7 @@ dispatch_bytes (nexts.Branch test low) = 0
 abbrev pub demand : Placed → ℕ
 demand s = operand_bytes s.part + dispatch_bytes s.next
 
--- Where fewer are there, the cycle stalls: the fetch unit has its edge, and all else stays.
+-- Where fewer are available, the cycle stalls: the fetch unit has its edge, and all else stays.
 
 abbrev pub is_stalled : Placed → Micro → Bool
 is_stalled s m = nat_lt (length m.unit.bytes) (demand s)
@@ -60,7 +60,7 @@ fetched bytes sources.Mbr2 = signed_pair (bytes 0) (bytes 1)
 fetched bytes sources.Mbr2u = 256 * bytes 0 + bytes 1
 fetched bytes _ = 0
 
--- what is on a bus, where 0 is when nothing drives it
+-- what is on a bus: 0 when nothing drives it
 abbrev pub source : Option BusSource → Micro → ℕ
 source side m = on_bus (registers_in m) (fetched (byte_at m.unit)) side
 
@@ -68,7 +68,7 @@ source side m = on_bus (registers_in m) (fetched (byte_at m.unit)) side
 abbrev pub result_of : Part → Micro → ℕ
 result_of part m = alu part.op (source part.a m) (source part.b m)
 
--- PC goes on behind the bytes that are taken. The destinations become the shifted result, and then an arriving word becomes MDR.
+-- PC goes on past the bytes that are taken. The destinations become the shifted result, and then an arriving word becomes MDR.
 
 abbrev pub advanced : ℕ → ℕ → ℕ
 advanced zero pc = pc
@@ -88,7 +88,7 @@ abbrev pub unit_after : Bool → List ℕ → ℕ → ℕ → Prefetch → Prefe
 unit_after true words pc taken u = jump words pc
 unit_after false words pc taken u = edge words taken u
 
--- MPC becomes the target, where a branch tests the result and a dispatch takes the byte behind the operand's.
+-- MPC becomes the target, where a branch tests the result and a dispatch takes the byte after the operand's.
 -- A dispatch from 0x000 on goes to an instruction's first word.
 
 abbrev pub is_to_instruction : PlacedNext → Bool
@@ -144,7 +144,7 @@ refusal stack_end s m =
     let r = settled s m in
     first_refusal (memory_refusal stack_end s.part.mem r.mar) (unit_refusal (jumps s.part) stack_end r.pc (demand s) m.unit)
 
--- the same by the word address that the unit samples, if it samples one
+-- why a step is refused, by the word address that the unit samples, if it samples one
 abbrev pub access_refusal : ℕ → Mem → ℕ → Option ℕ → Option Refusal
 access_refusal stack_end mem mar at = first_refusal (memory_refusal stack_end mem mar) (sample_refusal stack_end at)
 

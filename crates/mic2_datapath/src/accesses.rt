@@ -26,7 +26,7 @@ fn check(bus: &Bus, mem: Mem, mar: u32, at: Option<u32>) -> Result<(), BusFault>
     check_sample(at, bus)
 }
 
-/// Whether the word that is sampled is there, if one is.
+/// Whether the word that is sampled is in memory, if one is sampled.
 #[tactic(auto, unfolding(console_port::specs::World::word_refusal))]
 pub fn is_there(at: Option<u32>, bus: &Bus) -> bool
     ensures { result ≡ true → sample_refusal (length bus.now.words) at ≡ None }

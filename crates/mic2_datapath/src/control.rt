@@ -22,7 +22,7 @@ pub const JMPC: u8 = 4;
 /// The word of `goto 0x000`, which demands nothing.
 const IDLE: u64 = 0x80_00CC;
 
-/// A word with its control lines, which tell how many bytes of the queue it demands.
+/// A word with its control lines, which have the number of bytes of the queue that it demands.
 #[derive(Clone, Copy, Debug, PartialEq, Eq)]
 pub struct Control {
     pub word: u64,
@@ -40,7 +40,7 @@ const SHIFT: u64 = 0x200_0000;
 pub fn shift_for(word: u64, value: u32) -> u32
     ensures { result ≡ shifted (shift_of (fields_of Mic2 word).shift) value }
 {
-    // Most words do not shift, and the word tells it faster than its field.
+    // Most words do not shift. The word itself shows it faster than its field does.
     let still = word / SHIFT % 4 == 0;
     if still {
         return value;

@@ -19,7 +19,7 @@ use mic_datapath::console_law;
 use micro_word::is_named;
 
 impl Latches {
-    /// Drives the operand buses for a word, unless too few bytes are there for it.
+    /// Drives the operand buses for a word, unless too few bytes are available for it.
     #[inline(always)]
     pub fn drive(&mut self, control: &Control) -> Drive
         requires { AreLatches self.old }
@@ -79,7 +79,7 @@ impl Latches {
         Ok(())
     }
 
-    /// The same. The place of its answer is made here, and not in each cycle.
+    /// `any_edge` in a function of its own: the space for its result is made here, and not in each cycle.
     #[inline(always)]
     fn rare_edge<S: Source, K: Sink>(
         &mut self,

@@ -54,7 +54,7 @@ pub struct Latches {
     pub mpc: u16,
     /// Whether the cycle before went to an instruction's first word.
     pub begins: bool,
-    /// Behind all else, so that what is reached by index stands apart from it.
+    /// Last, so that what is reached by index stands apart from the rest.
     pub places: Places,
 }
 
@@ -82,7 +82,7 @@ fn show_byte(first: u8, places: &mut Places)
     places[MBR1U] = first as u32;
 }
 
-/// Puts the first two bytes on theirs.
+/// Puts the number of the first two bytes on its two places.
 fn show_pair(pair: u16, places: &mut Places)
     ensures pair { (high low : ℕ) → low < 256 → pair ≡ 256 * high + low → slice_index places.new 11 ≡ signed_pair high low }
     ensures unsigned { slice_index places.new 12 ≡ pair }
@@ -92,7 +92,7 @@ fn show_pair(pair: u16, places: &mut Places)
     places[MBR2U] = pair as u32;
 }
 
-/// PC behind the bytes that are taken.
+/// PC past the bytes that are taken.
 #[tactic(auto, unfolding(mic_words::specs::Arithmetic::wrap))]
 pub fn pc_after(pc: u32, taken: u8) -> u32
     ensures { result ≡ advanced taken pc }
@@ -100,7 +100,7 @@ pub fn pc_after(pc: u32, taken: u8) -> u32
     pc.wrapping_add(taken as u32)
 }
 
-/// PC goes on behind the bytes that are taken.
+/// PC goes on past the bytes that are taken.
 pub fn go_past(taken: u8, places: &mut Places)
     ensures registers { registers_at places.new ≡ record (registers_at places.old) { pc = advanced taken (registers_at places.old).pc } }
     ensures others { (k : ℕ) → 9 ≤ k → slice_index places.new k ≡ slice_index places.old k }
@@ -126,7 +126,7 @@ pub fn load(
     settle(destinations, lines, c, arriving, places);
 }
 
-/// The fetch unit at a clock edge: it jumps to PC, or so many bytes are taken. An Err leaves it.
+/// The fetch unit at a clock edge: it jumps to PC, or this many bytes are taken. An Err leaves it as it was.
 #[inline(always)]
 #[tactic(auto, unfolding(mic2_fetch_unit::specs::FetchUnit::edge_refusal))]
 pub fn go(jumps: bool, pc: u32, taken: u8, bus: &Bus, unit: &mut FetchUnit) -> Result<(), BusFault>
@@ -188,7 +188,7 @@ impl Latches {
         }
     }
 
-    /// Puts the front of the queue on its places, as far as a word takes it that takes so many bytes.
+    /// Shows the front of the queue on its places: one byte where at least one is taken, and two where more are.
     #[inline(always)]
     pub fn show_front(&mut self, takes: u8)
         requires latches { AreLatches self.old }
@@ -283,7 +283,7 @@ impl Latches {
         self.unit.is_full(taken) || is_there(self.unit.will_fetch(taken), bus)
     }
 
-    /// The read or the write of a word where it reaches memory alone, and what a read samples. Where it does not, nothing is done.
+    /// The read or the write of a word where it reaches only memory, and what a read samples; else nothing is done.
     #[inline(always)]
     pub fn access_inside(&self, word: u64, c: u32, taken: u8, bus: &mut Bus) -> Option<Option<u32>>
         requires { taken ≤ length self.now.unit.bytes }
@@ -318,7 +318,7 @@ impl Latches {
         Some(None)
     }
 
-    /// A cycle in which the machine waits for bytes. An Err leaves all.
+    /// A cycle in which the machine waits for bytes. An Err leaves everything as it was.
     pub fn stall(&mut self, bus: &Bus) -> Result<(), BusFault>
         requires { AreLatches self.old }
         ensures latches { AreLatches self.new }
@@ -358,7 +358,7 @@ impl Latches {
         straight_on(jam, addr, value)
     }
 
-    /// The edge of a cycle that does not stall, behind its accesses: this word is under way. An Err leaves all.
+    /// The edge of a cycle that does not stall, after its accesses, with this word under way. An Err leaves all as is.
     #[inline(always)]
     pub fn advance(
         &mut self,

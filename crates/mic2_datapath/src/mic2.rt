@@ -144,7 +144,7 @@ impl Clocked for Mic2 {
         let c = control.shift(value);
         self.latches
             .edge(&control, false, value, c, bus, source, sink)?;
-        // N and Z behind the edge, so that nothing keeps them over it.
+        // N and Z after the edge, so that nothing keeps them over it.
         Ok((drive, values_of(value, c)))
     }
 

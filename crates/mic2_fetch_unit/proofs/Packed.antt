@@ -45,7 +45,7 @@ byte_after (suc n) (suc k) bits h = byte_after n k (bits / 256) (omega arith)
 pub byte-bytes_in : (n k bits : ℕ) → n ≤ 6 → k < n → get_or (bytes_in n bits) k 0 ≡ bits / 2 ^ (8 * k) % 256
 byte-bytes_in n k bits few h = byte_after n k bits h ∙ ap (λ (x : ℕ). x % 256) (after_is k bits (omega arith))
 
--- what so many bytes have at most, and one more
+-- one more than the greatest number of this many bytes
 room : ℕ → ℕ
 room zero = 1
 room (suc n) = 256 * room n
@@ -93,7 +93,7 @@ pub word_without : (word skip : ℕ) → skip < 4 → drop skip (bytes_of_word w
 word_without word skip h =
     ap (drop skip) (sym (bytes_of_turned word)) ∙ drop-bytes_in skip (4 - skip) 4 (turned_word word) (omega arith) (omega arith)
 
--- bytes that enter behind others
+-- bytes that enter after others
 pub or_behind : (bits more n m : ℕ) → bits < 2 ^ (8 * n) → more < 2 ^ (8 * m) → 8 * m + 8 * n ≤ 64 → bit_or bits (more * 2 ^ (8 * n) % 2 ^ 64) ≡ bits + more * 2 ^ (8 * n)
 or_behind bits more n m h few fits =
     let flip : more * 2 ^ (8 * n) + bits ≡ bits + more * 2 ^ (8 * n) = omega arith in

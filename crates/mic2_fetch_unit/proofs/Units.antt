@@ -1,4 +1,4 @@
--- Where a unit stands behind an edge, and behind a jump.
+-- Where a unit stands after an edge, and after a jump.
 use Rattle.std.proofs.Common.{◌≡◌, ℕ, zero, suc, ◌+◌, ◌-◌, ◌*◌, ◌/◌, ◌%◌, ◌^◌, ◌<◌, ◌≤◌, Bool, true, false, List, ◌++◌, length, drop, slice_index, Option, Some, None, is_some, inl, inr, refl, sym, ap, subst, ◌∙◌, arith}
 use Rattle.std.specs.Prelude.{nat_le, if◌then◌else◌, IfSome}
 use Rattle.std.specs.Option.{option_map}
@@ -44,7 +44,7 @@ byte_there words imar k at h is =
     let r : at % 4 ≡ k = omega arith in
     λ i. byte_of (slice_index words (q i)) (r i)
 
--- what an edge samples, by the number of bytes that are there then
+-- what an edge samples, by the number of bytes that the queue has then
 
 sampled_none : (t : ℕ) (u : Prefetch) → u.pending ≡ None → sampled_at t u ≡ (if nat_le (length (drop t u.bytes)) 2 then Some u.imar else None)
 sampled_none t u is = ap (λ (o : Option ℕ). sampled_by (appended (drop t u.bytes) u.imar u.skip o)) is
@@ -100,7 +100,7 @@ edge_full words t u h more =
     edge_none words t u (full_pending u h (omega (arith, more)))
     ∙ ap (λ (o : Option ℕ). unit (drop t u.bytes) u.imar u.skip (option_map (λ (at : ℕ). slice_index words at) o)) (full_samples t u h more)
 
--- it leaves a unit
+-- an edge leaves a unit
 
 short : (bytes : List ℕ) (imar skip word : ℕ) → IsUnit (unit bytes imar skip (Some word)) → length bytes ≤ 2
 short bytes imar skip word h = let asks : true ≡ nat_le (length bytes) 2 = h.asks in grind (arith, nat_tests)

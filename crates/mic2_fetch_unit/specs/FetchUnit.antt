@@ -32,7 +32,7 @@ appended bytes imar skip (Some word) = record { bytes = bytes ++ drop skip (byte
 abbrev pub with_pending : Prefetch → Prefetch
 with_pending u = appended u.bytes u.imar u.skip u.pending
 
--- and where at most two bytes are there then, the word at IMAR is sampled.
+-- and where the queue has at most two bytes then, the word at IMAR is sampled.
 
 abbrev pub is_short : Prefetch → Bool
 is_short u = nat_le (length u.bytes) 2
@@ -48,7 +48,7 @@ sampled_at t u = sampled_by (with_pending (without t u))
 unfoldable pub edge : List ℕ → ℕ → Prefetch → Prefetch
 edge words t u = record (with_pending (without t u)) { pending = option_map (λ at. slice_index words at) (sampled_at t u) }
 
--- A jump to a byte address drops what is there, and samples the word there.
+-- A jump to a byte address drops what the queue has, and samples the word there.
 unfoldable pub jump : List ℕ → ℕ → Prefetch
 jump words pc = record { bytes = []; imar = pc / 4; skip = pc % 4; pending = Some (slice_index words (pc / 4)) }
 
@@ -75,5 +75,5 @@ pub record IsUnit (u : Prefetch) : Type 0 where
   pub skip : u.skip < 4
   -- only in front of an empty queue, a pending word is skipped in part
   pub skips : 0 < u.skip → (length u.bytes ≡ 0) × (is_some u.pending ≡ true)
-  -- a word is pending exactly where at most two bytes are there
+  -- a word is pending exactly where the queue has at most two bytes
   pub asks : is_some u.pending ≡ is_short u

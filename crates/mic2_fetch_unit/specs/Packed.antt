@@ -2,7 +2,7 @@
 use Rattle.console_port.specs.World.{byte_of}
 use Rattle.std.specs.Prelude.{ℕ, zero, suc, ◌+◌, ◌*◌, ◌/◌, ◌%◌, List, [], ◌∷◌}
 
--- so many bytes of a register, from the lowest on
+-- this many bytes of a register, from the lowest on
 unfoldable pub bytes_in : ℕ → ℕ → List ℕ
 bytes_in zero bits = []
 bytes_in (suc n) bits = bits % 256 ∷ bytes_in n (bits / 256)

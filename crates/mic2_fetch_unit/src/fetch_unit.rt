@@ -29,7 +29,7 @@ impl Model for FetchUnit {
     ghost invariant = { λ u. IsUnit (record { bytes = u.queue; imar = u.imar; skip = u.skip; pending = u.pending }) };
 }
 
-/// The address where a word is sampled, and else none.
+/// The address if a word is sampled; otherwise none.
 fn at_if(samples: bool, imar: u32) -> Option<u32>
     ensures { result ≡ (if samples then Some imar else None) }
 {
@@ -97,7 +97,7 @@ impl FetchUnit {
         self.imar
     }
 
-    /// Whether more than two bytes stay behind an edge that takes so many. It samples nothing then.
+    /// Whether more than two bytes stay after an edge that takes this many. It samples nothing then.
     #[inline(always)]
     pub fn is_full(&self, taken: u8) -> bool
         requires { taken ≤ length self.now.bytes }
@@ -109,7 +109,7 @@ impl FetchUnit {
         full
     }
 
-    /// The edge that takes so many bytes and leaves more than two.
+    /// The edge that takes this many bytes and leaves more than two.
     #[inline(always)]
     fn take(&mut self, taken: u8)
         requires { taken + 2 < length self.old.bytes }
@@ -119,7 +119,7 @@ impl FetchUnit {
         self.queue.leave(taken, stay);
     }
 
-    /// The word address that an edge samples which takes so many bytes; none where it samples none.
+    /// The word address that an edge which takes this many bytes samples, if it samples one.
     #[inline(always)]
     pub fn will_fetch(&self, taken: u8) -> Option<u32>
         requires { taken ≤ length self.now.bytes }
@@ -138,8 +138,8 @@ impl FetchUnit {
         }
     }
 
-    /// The edge where it is not refused: so many bytes leave the queue, a pending word enters it, and where few bytes
-    /// are there the word at this address is sampled.
+    /// The edge where it is not refused: this many bytes leave the queue, a pending word enters it, and where the queue
+    /// has few bytes then, the word at this address is sampled.
     #[inline(always)]
     fn go_on(&mut self, taken: u8, at: Option<u32>, bus: &Bus)
         requires within { taken ≤ length self.old.bytes }
@@ -197,7 +197,7 @@ impl FetchUnit {
         Ok(())
     }
 
-    /// The edge that takes so many bytes. An Err is `OutOfMap`.
+    /// The edge that takes this many bytes. An Err is `OutOfMap`.
     #[inline(always)]
     #[tactic(auto, unfolding(crate::specs::FetchUnit::edge_refusal))]
     pub fn edge(&mut self, taken: u8, bus: &Bus) -> Result<(), BusFault>

@@ -7,7 +7,7 @@ ghost use Rattle.mic2_fetch_unit.specs.Packed.{turned_word};
 use arrayvec::ArrayVec;
 use std::marker::Model;
 
-/// At most six bytes. The first is in the lowest eight bits of the register, and the bits behind the last are 0.
+/// At most six bytes. The first is in the lowest eight bits of the register, and the bits above the last are 0.
 #[derive(Drop)]
 pub struct Queue {
     bits: u64,
@@ -48,7 +48,7 @@ impl Queue {
         (self.bits >> (8 * place) & 0xFF) as u8
     }
 
-    /// So many bytes leave the front, and `count` stay.
+    /// This many bytes leave the front, and `count` stay.
     pub fn leave(&mut self, taken: u8, count: u8)
         requires { count + taken ≡ length self.old }
         ensures { self.new ≡ drop taken self.old }
@@ -58,7 +58,7 @@ impl Queue {
         self.count = count;
     }
 
-    /// A word enters without its first bytes, and `count` are there then.
+    /// A word enters without its first `skip` bytes. The queue then has `count` bytes.
     pub fn enter(&mut self, word: u32, skip: u8, count: u8)
         requires skip { skip < 4 }
         requires count { count + skip ≡ length self.old + 4 }

@@ -27,7 +27,7 @@ use Rattle.ijvm_simulation.specs.Stack.{IsMapEnd}
 use Rattle.ijvm_simulation.specs.Passes.{Moment, is_inside, pass}
 use Rattle.ijvm_simulation.specs.Law.{ShowsState, HasWord}
 
--- so many steps, none of which stalls
+-- this many steps, none of which stalls
 abbrev pub steps : ℕ → List Turn
 steps zero = []
 steps (suc n) = Goes ∷ steps n
@@ -51,7 +51,7 @@ module _ (queue : QueueLaw) (o : Origin) (s : State) (m : Micro) (w : World) (st
   pub starts_held : Bounds 2 m.pc many
   starts_held = subst (λ (p : ℕ). Bounds 2 p many) (sym h.ready.pc) (queue.bounds o.words (s.at + 1) m.unit h.ready.unit h.ready.two)
 
--- n + 1 microsteps, of which so many stall, come to the next boundary, which stands for this state
+-- n + 1 microsteps, of which this many stall, come to the next boundary, which stands for this state
 pub record ReachesBoundary (program : List ℕ) (o : Origin) (n waits : ℕ) (p : Moment Micro) (s : State) : Type 0 where
   pub to : Moment Micro
   pub passes : pass mic2_meaning program n p ≡ Some to
@@ -116,7 +116,7 @@ place_at words x a e l =
     let on : x + 1 ≡ a + 1 = omega arith in
     record { is = e; near = omega arith; byte = ap (byte_in words) e; second = ap (byte_in words) on }
 
--- so many bytes behind
+-- the place this many bytes further on
 pub place_on : (words : List ℕ) (x a d b : ℕ) → Place words x a → a + d ≡ b → b < 0x1FF00 → Place words (plus x d) b
 unfolding wrap
 place_on words x a d b p e l = place_at words (plus x d) b (omega (arith, p.is)) l
@@ -155,7 +155,7 @@ counts o s m w h inside =
       p1221 = place_on o.words (plus (plus (plus m.pc 1) 2) 2) (s.at + 6) 1 (s.at + 7) p122 (omega arith) (omega arith);
     }
 
--- a symbolic state at a boundary, by what the machine has beside what it holds
+-- a symbolic state at a boundary, by what the machine has besides what it holds
 pub at_boundary : (o : Origin) (s : State) (t : Short) (least : ℕ) → RegistersStand o s t.state.sp t.state.lv t.state.cpp t.state.tos t.world →
     t.state.pc ≡ s.at + 1 → s.at < 0x1FE00 → t.state.mpc ≡ byte_in o.words s.at → t.state.word ≡ None → t.state.begins ≡ true → t.queue ≡ AtLeast least → nat_le 2 least ≡ true → IsThere o s t
 at_boundary o s t least holds pc near mpc word begins queue two =
@@ -241,6 +241,6 @@ overruns program has o map s left q b bs gs code x waits h is no_halt no_err sho
 pub pair_at : (words : List ℕ) (x a b : ℕ) → Place words x a → a + 1 ≡ b → 256 * byte_in words x + byte_in words (x + 1) ≡ 256 * byte_in words a + byte_in words b
 pair_at words x a b p e = ap₂ (λ (i : ℕ) (j : ℕ). 256 * i + j) p.byte (p.second ∙ ap (byte_in words) e)
 
--- and the signed one
+-- the signed number that the two bytes at a place make
 pub signed_pair_at : (words : List ℕ) (x a b : ℕ) → Place words x a → a + 1 ≡ b → signed_pair (byte_in words x) (byte_in words (x + 1)) ≡ signed_pair (byte_in words a) (byte_in words b)
 signed_pair_at words x a b p e = ap₂ signed_pair p.byte (p.second ∙ ap (byte_in words) e)

@@ -37,7 +37,7 @@ pub data Turn : Type 0 where
   Goes : Turn
   Lacks : Lack → Turn
 
--- A symbolic state: what the machine has but for its unit, and what is known of the queue there.
+-- A symbolic state: what the machine has except its unit, and what is known of the queue there.
 pub record Short : Type 0 where
   pub state : Micro
   pub queue : Held
@@ -55,7 +55,7 @@ moment_of origin t have = record { state = standing origin t.state have; world =
 abbrev pub source_of : (ℕ → ℕ) → Option BusSource → Micro → ℕ
 source_of bytes side m = on_bus (registers_in m) (fetched bytes) side
 
--- the bytes that it names
+-- the number of bytes that it names
 abbrev wants : Option BusSource → ℕ
 wants side = if is_pair side then 2 else if is_byte side then 1 else 0
 
@@ -94,11 +94,11 @@ target_same (Goto to) x b c h = refl
 target_same (Dispatch high) x b c h = ap (λ (k : ℕ). if high then k + 256 else k) (h (omega arith))
 target_same (Branch test low) x b c h = refl
 
--- the registers behind the loads, where x is the result
+-- the registers after the loads, where x is the result
 abbrev pub settled_by : Placed → ℕ → Micro → NineRegisters
 settled_by s x m = loaded s.part.dests (shifted s.part.shift x) m.word (record (registers_in m) { pc = advanced (demand s) m.pc })
 
--- the step with the result x, to this address, with this unit behind it
+-- the step with the result x, to this address, with this unit after it
 abbrev pub clock_by : ℕ → Placed → ℕ → ℕ → Prefetch → Micro → World → Micro
 clock_by top s x to unit m w =
     let r = settled_by s x m in
@@ -111,7 +111,7 @@ abbrev refusal_by : ℕ → Placed → ℕ → Micro → Option Refusal
 refusal_by top s x m =
     let r = settled_by s x m in first_refusal (memory_refusal top s.part.mem r.mar) (unit_refusal (jumps s.part) top r.pc (demand s) m.unit)
 
--- what is known of the queue behind a step
+-- what is known of the queue after a step
 abbrev pub queue_after : Bool → ℕ → Held → Held
 queue_after true t q = Jumped
 queue_after false t q = held_after t q
@@ -120,7 +120,7 @@ abbrev have_behind : Bool → ℕ → ℕ → ℕ → ℕ
 have_behind true pc t have = 0
 have_behind false pc t have = have_after pc have t
 
--- a write is no write below the stack
+-- a write does not reach below the stack
 abbrev pub IsAbove : Mem → ℕ → Type 0
 IsAbove Write at = 0x8000 ≤ at
 IsAbove Read at = Unit {0}
@@ -142,7 +142,7 @@ module _ (origin : List ℕ) where
         stalls = t.stalls;
       }
 
-  -- the bytes are there, no access of a step is refused, it leaves the memory below the stack, and the guess is right
+  -- the bytes are available, no access of a step is refused, it leaves the memory below the stack, and the guess is right
   abbrev pub IsClear : Placed → List ℕ → Short → Type 0
   IsClear s gs t =
       let x = text_result origin s.part t.state in
@@ -173,7 +173,7 @@ module _ (origin : List ℕ) where
   guesses_of Goes s gs = left_of s.next gs
   guesses_of (Lacks b) s gs = gs
 
-  -- the moment behind the steps of a plan along the guesses
+  -- the moment after the steps of a plan along the guesses
   abbrev pub clocked : List Turn → List ℕ → Short → Short
   clocked [] gs t = t
   clocked (b ∷ bs) gs t = let s = shipped t.state.mpc in clocked bs (guesses_of b s gs) (step_of b s gs t)
@@ -191,7 +191,7 @@ module _ (origin : List ℕ) where
   advanced_is zero pc h = omega arith
   advanced_is (suc d) pc h = omega arith
 
-  -- PC behind a step that does not load it
+  -- PC after a step that does not load it
   pc_on : (s : Placed) (x : ℕ) (m : Micro) → jumps s.part ≡ false → m.pc + demand s < 4294967296 → (settled_by s x m).pc ≡ m.pc + demand s
   pc_on s x m e l = ap (λ (b : Bool). if b then shifted s.part.shift x else advanced (demand s) m.pc) e ∙ advanced_is (demand s) m.pc l
 
@@ -215,7 +215,7 @@ module _ (origin : List ℕ) where
     is_short : (s : Placed) (m : Micro) (have : ℕ) → have < demand s → is_stalled s (standing origin m have) ≡ true
     is_short s m have h = let e : length (unit_at origin m.pc have).bytes ≡ have = queue.many origin m.pc have in rw e (grind (arith, nat_tests))
 
-    -- the machine behind a step that does not stall
+    -- the machine after a step that does not stall
     abbrev there_of : Placed → List ℕ → Short → ℕ → Moment Micro
     there_of s gs t have = moment_of origin (guided s gs t) (have_behind (jumps s.part) t.state.pc (demand s) have)
 
@@ -311,7 +311,7 @@ module _ (origin : List ℕ) where
         ∙ ap (λ (r : Option Refusal). outcome (first_refusal r (unit_refusal (jumps s.part) top (settled_by s x m).pc (demand s) (unit_at origin m.pc have)))
         (clock top s (standing origin m have) w) (world_after top s (standing origin m have) w)) h)
 
--- a run arrives where the symbolic one does, with so many bytes in the queue
+-- a run arrives where the symbolic one does, with this many bytes in the queue
 pub record Arrives (origin : List ℕ) (run : Option (Moment Micro)) (t : Short) : Type 0 where
   pub have : ℕ
   pub is : run ≡ Some (moment_of origin t have)

@@ -1,4 +1,4 @@
--- The bytes that a microstep of Mic-2 gives come behind what had been given.
+-- The bytes that a microstep of Mic-2 gives come after those given before.
 use Rattle.std.proofs.Common.{ℕ, Bool, true, false, Some, None, Option, List, [], length, sym}
 use Rattle.std.proofs.lemmas.List.{append-nil}
 use Rattle.console_port.specs.World.{World, Refusal}

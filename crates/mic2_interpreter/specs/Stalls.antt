@@ -1,4 +1,4 @@
--- What an instruction takes of Mic-2 with its stalls: behind the boot only a call stalls.
+-- What an instruction takes of Mic-2 with its stalls: after the boot only a call stalls.
 use Rattle.std.specs.Prelude.{ℕ, ◌%◌, ◌==◌, if◌then◌else◌, List}
 use Rattle.mic_words.specs.declared.machine.Machine.TheVariants.{Mic2}
 use Rattle.ijvm_image.specs.Image.{ImageView}

@@ -10,7 +10,7 @@ use crate::interpreter::Mic2Interpreter;
 use ijvm_simulation::{groups_are_all, stack_law, stalls_add_up};
 use mic2_queue::queue_law;
 
-/// The instructions on the operands alone.
+/// The instructions that use only the operands.
 pub(crate) fn operands_law()
     ensures { GroupStalls IsOfOperands }
 {
@@ -55,7 +55,7 @@ pub(crate) fn ends_law()
     ensures { EndsAtHaltAndErr mic2 }
 {}
 
-/// How a run boots, and what every instruction takes. Behind the boot, whose one stall waits for the first word of
+/// How a run boots, and what every instruction takes. After the boot, whose one stall waits for the first word of
 /// the text, only a call stalls: once, or twice where its method's entry is the last byte of a word.
 pub fn stalls_law()
     ensures boots { BootStallsOnce }

@@ -135,7 +135,7 @@ edge_stands origin words p have t h few ms l =
     let top : p + t + have_after p have t ≤ p + have + 4 = after_bound p have t h in
     ap (resampled words) (filled_is origin p have t h (omega arith)) ∙ resampled_bare origin words (p + t) (have_after p have t) ms (omega arith)
 
--- it is not refused
+-- that edge is not refused
 pub edge_allowed : (stack_end : ℕ) (origin : List ℕ) (p have t : ℕ) → 0x8000 ≤ stack_end → t ≤ have → have ≤ 6 → p < 0x1FF00 → edge_refusal stack_end t (unit_at origin p have) ≡ None
 unfolding edge_refusal word_refusal
 edge_allowed stack_end origin p have t map h few l =

@@ -1,7 +1,7 @@
 -- What is known of the number of bytes in the queue: a bound that computes, or the number itself after a jump.
 use Rattle.std.specs.Prelude.{◌≡◌, ℕ, zero, suc, ◌+◌, ◌-◌, ◌%◌, ◌≤◌, ◌==◌, Bool, true, false, nat_lt, nat_le, if◌then◌else◌}
 
--- at least so many bytes, up to the end of a word; none, after a jump; or one, up to the end of a word
+-- at least this many bytes, up to the end of a word; none, after a jump; or one, up to the end of a word
 pub data Held : Type 0 where
   AtLeast : ℕ → Held
   Jumped : Held
@@ -17,7 +17,7 @@ IsHeld (AtLeast n) p have = Bounds n p have
 IsHeld Jumped p have = have ≡ 0
 IsHeld One p have = (have ≡ 1) × ((p + have) % 4 ≡ 0)
 
--- whether so many bytes are surely there
+-- whether this many bytes are surely available
 abbrev pub is_enough : ℕ → Held → Bool
 is_enough zero q = true
 is_enough (suc d) (AtLeast n) = nat_le (suc d) n
@@ -33,14 +33,14 @@ held_after t One = AtLeast (5 - t)
 -- A cycle that lacks bytes.
 
 -- It comes right after a jump, wherever that goes (WaitsFirst), or to one of the first three bytes of a word (Waits) or to the last (WaitsLate),
--- or where one byte is there (WaitsOn).
+-- or where one byte is available (WaitsOn).
 pub data Lack : Type 0 where
   WaitsFirst : Lack
   Waits : Lack
   WaitsLate : Lack
   WaitsOn : Lack
 
--- so many bytes are demanded, and fewer are there
+-- this many bytes are demanded, and fewer are available
 abbrev pub IsWait : Lack → Held → ℕ → ℕ → Type 0
 IsWait WaitsFirst Jumped p d = nat_lt 0 d ≡ true
 IsWait Waits Jumped p d = (nat_lt 0 d ≡ true) × ((p % 4 == 3) ≡ false)

@@ -3,12 +3,12 @@ use Rattle.std.specs.Prelude.{ℕ, zero, suc, ◌+◌, ◌-◌, ◌/◌, ◌%◌
 use Rattle.console_port.specs.World.{byte_in}
 use Rattle.mic2_fetch_unit.specs.FetchUnit.{Prefetch}
 
--- so many bytes from a byte address on
+-- this many bytes from a byte address on
 abbrev pub bytes_from : List ℕ → ℕ → ℕ → List ℕ
 bytes_from words p zero = []
 bytes_from words p (suc n) = byte_in words p ∷ bytes_from words (p + 1) n
 
--- the unit that has so many of the bytes from p on
+-- the unit that has this many of the bytes from p on
 unfoldable pub unit_at : List ℕ → ℕ → ℕ → Prefetch
 unit_at words p have =
     record {
@@ -22,7 +22,7 @@ unit_at words p have =
 unfoldable pub have_after : ℕ → ℕ → ℕ → ℕ
 have_after p have t = if nat_le have 2 then have - t + (4 - (p + have) % 4) else have - t
 
--- the byte so many places on from p
+-- the byte this many places on from p
 abbrev pub text_from : List ℕ → ℕ → ℕ → ℕ
 text_from words p zero = byte_in words p
 text_from words p (suc k) = byte_in words (p + suc k)

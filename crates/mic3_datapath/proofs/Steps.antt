@@ -33,7 +33,7 @@ pub record Asked : Type 0 where
   pub mem : Mem
   pub at : Option ℕ
 
--- it is what the cycle does in which this issues
+-- what a cycle asks is what the cycle does in which this issues
 pub record IsAsked (i : Option Issued) (p : Pipeline) (q : Asked) : Type 0 where
   pub given : q.ports ≡ ports_given (settled i p)
   pub memory : q.mem ≡ mem_in p.result
@@ -112,7 +112,7 @@ module _ (s : Placed) (i : Option Issued) (p : Pipeline) (q : Asked) (is : issue
       ∙ (ap (λ (r : Option Refusal). outcome r (clock n i p w) (world_after n i p w)) (same_refusal i p q h n ∙ clear)
       ∙ sym (λ j. Done (clock n i p w) (sampled n (h.memory j) (h.given j) (written n (h.memory j) (h.given j) w))))
 
--- an access that is answered by a fault is not refused
+-- an access that returns a fault is not refused
 not_refused : {T : Type 0} (r : Option Refusal) (result : Result T BusFault) (e : BusFault) → result ≡ Err e → IsFault e →
     ((f : BusFault) → refused_by r ≡ Some f → result ≡ Err f) → r ≡ None
 not_refused None result e is fault answers = refl
@@ -148,7 +148,7 @@ both : (a b : Bool) → (a && b) ≡ true → a ≡ true
 both true b h = refl
 both false b h = absurd (cc)
 
--- what an access behind the memory's words does at the console
+-- what an access past the memory's words does at the console
 pub record AtConsole : Type 0 where
   pub takes : (n : ℕ) (p : Ports) (mem : Mem) (w : World) → n ≤ p.mar → is_read mem ≡ true → (sampled n mem p (written n mem p w)).untaken ≡ drop 1 w.untaken
   pub gives : (n : ℕ) (p : Ports) (w : World) → n ≤ p.mar → (written n mems.Write p w).given ≡ w.given ++ (p.mdr % 256) ∷ []

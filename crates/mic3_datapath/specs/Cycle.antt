@@ -86,7 +86,7 @@ is_held_up s word o r =
     is_turning o r || awaits s.part o || awaits s.part r || (names_mdr s.part && is_word_coming word o r)
     || (nat_lt 0 (demand s) && (is_jump_coming o || is_jump_coming r))
 
--- or it demands more bytes than the queue has
+-- the statement waits: it is held up, or it demands more bytes than the queue has
 abbrev pub waits : Placed → Pipeline → Bool
 waits s p = is_held_up s p.micro.word (issued_in p.operand) (computed_in p.result) || nat_lt (length p.micro.unit.bytes) (demand s)
 
@@ -111,7 +111,7 @@ issued s p = if waits s p then None else Some (issued_by s p)
 
 -- The edge. `to_issue` is what issues in this cycle, if anything does.
 
--- so many bytes leave the queue
+-- this many bytes leave the queue
 abbrev pub bytes_leaving : Option Issued → ℕ
 bytes_leaving None = 0
 bytes_leaving (Some i) = demand i.statement

@@ -15,7 +15,7 @@ use Rattle.mic3_datapath.specs.Cycle.{cycle, issued, result_of}
 unfoldable pub step_of_word : ℕ → Pipeline → World → Outcome Pipeline
 step_of_word word p w = cycle (statement_of machines.Mic2 word) p w
 
--- that of Mic-2, with empty slots
+-- the state at a reset: that of Mic-2, with empty slots
 abbrev pub initial : Start → Pipeline
 initial start = record { micro = initial_of start; operand = None; result = None }
 

@@ -11,7 +11,7 @@ use crate::slots::{OperandSlot, ResultSlot};
 use mic2_datapath::Control;
 use micro_word::{Mem, is_named};
 
-/// MDR alone among the destinations.
+/// MDR as the only destination.
 const MDR: u16 = 0b10;
 
 /// The place of PC.
@@ -70,7 +70,7 @@ fn is_on_a(control: &Control, destinations: u16) -> bool
     is_named(destinations, control.lines.a)
 }
 
-/// Whether it has one on side B.
+/// Whether a word has one of these destinations on side B.
 #[inline(always)]
 fn is_on_b(control: &Control, destinations: u16) -> bool
     requires { destinations < 512 }
@@ -79,7 +79,7 @@ fn is_on_b(control: &Control, destinations: u16) -> bool
     is_named(destinations, control.lines.b)
 }
 
-/// Whether it has one on a side.
+/// Whether a word has one of these destinations on either side.
 #[inline(always)]
 fn names_one_of(control: &Control, destinations: u16) -> bool
     requires { destinations < 512 }

@@ -144,7 +144,7 @@ impl Clocked for Mic3 {
         Ok(())
     }
 
-    // As the trait has it, but inlined, as the trait's own is not.
+    // The trait's body again: this one is inlined, which the trait's own is not.
     #[inline(always)]
     fn clock<S: Source, K: Sink>(
         &mut self,

@@ -90,7 +90,7 @@ fn dispatched(control: &Control, unit: &FetchUnit) -> u8
     }
 }
 
-/// The registers after the edge: PC goes on by so many bytes, and the word in the result slot retires.
+/// The registers after the edge: PC goes on by this many bytes, and the word in the result slot retires.
 #[inline(always)]
 fn retire(slot: Option<ResultSlot>, taken: u8, arriving: Option<u32>, places: &mut Places)
     ensures registers { registers_at places.new ≡
@@ -293,7 +293,7 @@ impl Pipeline {
         })
     }
 
-    /// What the memory's ports are given, where so many bytes are taken.
+    /// What the memory's ports are given, where this many bytes are taken.
     #[inline(always)]
     pub fn ports(&self, taken: u8) -> Ports
         ensures { result ≡ ports_given (retired (in_result self.now.result) self.now.latches.word
@@ -311,7 +311,7 @@ impl Pipeline {
         }
     }
 
-    /// The edge after its access, which sampled this word if it read. An Err leaves all.
+    /// The edge after its access, which sampled this word if it read. An Err leaves everything as it was.
     #[inline(always)]
     pub fn advance(
         &mut self,

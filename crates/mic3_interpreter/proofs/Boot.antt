@@ -1,4 +1,4 @@
--- From the reset of a Mic-2 to its first boundary.
+-- From the reset of a Mic-3 to its first boundary.
 use Rattle.std.proofs.Common.{◌≡◌, ℕ, List, [], ◌∷◌, length, refl, arith, ◌∙◌, ap}
 use Rattle.mic_words.specs.Arithmetic.{plus}
 use Rattle.console_port.specs.World.{byte_in}

@@ -137,7 +137,7 @@ place_at words x a e l =
     let on : x + 1 ≡ a + 1 = omega arith in
     record { is = e; near = omega arith; byte = ap (byte_in words) e; second = ap (byte_in words) on }
 
--- so many bytes behind
+-- the place this many bytes further on
 pub place_on : (words : List ℕ) (x a d b : ℕ) → Place words x a → a + d ≡ b → b < 0x1FF00 → Place words (plus x d) b
 unfolding wrap
 place_on words x a d b p e l = place_at words (plus x d) b (omega (arith, p.is)) l
@@ -178,7 +178,7 @@ counts o s p w h inside =
       p1221 = place_on o.words (plus (plus (plus m.pc 1) 2) 2) (s.at + 6) 1 (s.at + 7) p122 (omega arith) (omega arith);
     }
 
--- a symbolic state at a boundary, by what the machine has beside what it holds
+-- a symbolic state at a boundary, by what the machine has besides what it holds
 pub at_boundary : (o : Origin) (s : State) (t : Short) (least : ℕ) →
     RegistersStand o s t.state.micro.sp t.state.micro.lv t.state.micro.cpp t.state.micro.tos t.world →
     t.state.micro.pc ≡ s.at + 1 → s.at < 0x1FE00 → t.state.micro.mpc ≡ byte_in o.words s.at → t.state.micro.word ≡ None → t.state.micro.begins ≡ true →
@@ -278,7 +278,7 @@ pub pair_at : (words : List ℕ) (x a b : ℕ) → Place words x a → a + 1 ≡
     256 * byte_in words x + byte_in words (x + 1) ≡ 256 * byte_in words a + byte_in words b
 pair_at words x a b p e = ap₂ (λ (i : ℕ) (j : ℕ). 256 * i + j) p.byte (p.second ∙ ap (byte_in words) e)
 
--- and the signed one
+-- the signed number that the two bytes at a place make
 pub signed_pair_at : (words : List ℕ) (x a b : ℕ) → Place words x a → a + 1 ≡ b →
     signed_pair (byte_in words x) (byte_in words (x + 1)) ≡ signed_pair (byte_in words a) (byte_in words b)
 signed_pair_at words x a b p e = ap₂ signed_pair p.byte (p.second ∙ ap (byte_in words) e)

@@ -29,7 +29,7 @@ use Rattle.mic2_queue.specs.Held.{Waits, WaitsLate, WaitsOn}
 use Rattle.mic3_interpreter.proofs.Guided.{Turn, Issues, HeldUp, Lacks}
 use Rattle.mic3_interpreter.proofs.Boundaries.{ReachesBoundary, comes, Counts, counts, Place, place_at, place_on, pair_at, at_boundary, moves, overruns}
 
--- what a method's frame says of the words below its operands
+-- what a method's frame has in the words below its operands
 link_of : (words : List ℕ) (lv many caller r : ℕ) (back : Option ℕ) → back ≡ Some r → IsLinked words lv many caller back →
     IsLinked words lv many caller (Some r)
 link_of words lv many caller r back e h = subst (λ (b : Option ℕ). IsLinked words lv many caller b) e h
@@ -44,7 +44,7 @@ module _ (o : Origin) (m : Micro) (w : World) where
   abbrev pub entry : ℕ
   entry = read_value (length o.words) w.words w.untaken from
 
-  -- its two counts
+  -- the method's two counts
   abbrev pub count : ℕ
   count = 256 * byte_in o.words entry + byte_in o.words (entry + 1)
 
@@ -58,7 +58,7 @@ module _ (o : Origin) (m : Micro) (w : World) where
   abbrev pub link : ℕ
   link = next (m.sp + own)
 
--- what a call with n arguments finds of a method at e with so many other locals, where the frame below keeps these operands
+-- what a call with n arguments finds of a method at e with this many other locals, where the frame below keeps these operands
 record Entering (o : Origin) (s : State) (m : Micro) (w : World) (k e n more : ℕ) (rest : List ℕ) : Type 0 where
   pub constant : IsWordAccess (length o.words) w (from o m w) (0x4000 + k)
   pub e0 : Place o.words (entry o m w) e

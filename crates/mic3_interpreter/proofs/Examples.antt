@@ -59,7 +59,7 @@ cycles (suc n) p w = after (cycles n) (cycle_with top (issued (shipped p.micro.m
 abbrev run : ℕ → List ℕ → Option Told
 run n words = told (cycles n (initial (record { entry = 2; sp = 0x7FFF; first = 0x1048FDFF })) (record { words = words; untaken = []; given = [] }))
 
--- the same with the pool from word 8 and main's frame from word 16 on, so that the memory is short
+-- such a run with the pool from word 8 and main's frame from word 16 on, so that the memory is short
 abbrev run_low : ℕ → ℕ → List ℕ → List ℕ → Option Told
 run_low n first words input =
     told

@@ -29,7 +29,7 @@ use Rattle.mic2_queue.specs.Units.{unit_at, have_after, text_from}
 use Rattle.mic2_queue.specs.Law.{QueueLaw}
 use Rattle.mic2_queue.specs.Held.{Held, Jumped, IsHeld, is_enough, held_after, Lack, IsWait, held_waited}
 
--- A symbolic state: what the machine has but for its unit, and what is known of the queue there.
+-- A symbolic state: what the machine has except its unit, and what is known of the queue there.
 pub record Short : Type 0 where
   pub state : Pipeline
   pub queue : Held
@@ -53,7 +53,7 @@ moment_of origin t have = record { state = standing origin t.state have; world =
 abbrev pub source_of : (ℕ → ℕ) → Option BusSource → Micro → ℕ
 source_of bytes side m = on_bus (registers_in m) (fetched bytes) side
 
--- the bytes that it names
+-- the number of bytes that it names
 abbrev wants : Option BusSource → ℕ
 wants side = if is_pair side then 2 else if is_byte side then 1 else 0
 
@@ -74,7 +74,7 @@ source_same f g (Some sources.Mbr1u) m h = h 0 (omega arith)
 source_same f g (Some sources.Mbr2) m h = ap₂ signed_pair (h 0 (omega arith)) (h 1 (omega arith))
 source_same f g (Some sources.Mbr2u) m h = ap₂ (λ (i : ℕ) (j : ℕ). 256 * i + j) (h 0 (omega arith)) (h 1 (omega arith))
 
--- Guesses: the byte of a dispatch, taken when it issues, and the address behind a branch, taken when it computes.
+-- Guesses: the byte of a dispatch, taken when it issues, and the address that a branch goes to, taken when it computes.
 
 abbrev pub guessed : PlacedNext → List ℕ → ℕ
 guessed (Goto to) gs = 0
@@ -123,7 +123,7 @@ issue_of origin Issues s gs p = Some (issue_by origin s gs p)
 issue_of origin HeldUp s gs p = None
 issue_of origin (Lacks b) s gs p = None
 
--- what is known of the queue behind an edge
+-- what is known of the queue after an edge
 abbrev pub queue_by : Turn → ℕ → Held → Held
 queue_by Issues t q = held_after t q
 queue_by HeldUp t q = held_after 0 q
@@ -137,11 +137,11 @@ abbrev pub have_behind : Bool → ℕ → ℕ → ℕ → ℕ
 have_behind true pc t have = 0
 have_behind false pc t have = have_after pc have t
 
--- the registers behind an edge, where this retires
+-- the registers after an edge, where this retires
 abbrev pub settled_by : Option Computed → Option Issued → Pipeline → NineRegisters
 settled_by c i p = retired c p.micro.word (record (registers_in p.micro) { pc = advanced (bytes_leaving i) p.micro.pc })
 
--- a write is no write below the stack
+-- a write does not reach below the stack
 abbrev pub IsAbove : Mem → ℕ → Type 0
 IsAbove Write at = 0x8000 ≤ at
 IsAbove Read at = Unit {0}
@@ -202,7 +202,7 @@ module _ (origin : List ℕ) where
       × (r.pc < 0x1FF00)
       × (nat_lt p.micro.mpc 512 ≡ true)
 
-  -- the moment behind the steps of a plan along the guesses
+  -- the moment after the steps of a plan along the guesses
   abbrev pub clocked : List Turn → List ℕ → Short → Short
   clocked [] gs t = t
   clocked (k ∷ ks) gs t = let s = shipped t.state.micro.mpc in clocked ks (left_of k s t.state.operand gs) (stepped k s gs t)
@@ -220,7 +220,7 @@ module _ (origin : List ℕ) where
   advanced_is zero pc h = omega arith
   advanced_is (suc d) pc h = omega arith
 
-  -- PC behind an edge that does not load it
+  -- PC after an edge that does not load it
   pc_on : (c : Option Computed) (i : Option Issued) (p : Pipeline) → is_jump_coming (computed_in c) ≡ false → p.micro.pc + bytes_leaving i < 4294967296 →
       (settled_by c i p).pc ≡ p.micro.pc + bytes_leaving i
   pc_on None i p e l = advanced_is (bytes_leaving i) p.micro.pc l
@@ -391,7 +391,7 @@ module _ (origin : List ℕ) where
         (first_refusal x (unit_refusal (is_jump_coming (computed_in p.result)) top (settled i p).pc (bytes_leaving i) (unit_at origin p.micro.pc have)))
         (clock top i (standing origin p have) w) (world_after top i (standing origin p have) w)) h
 
--- a run arrives where the symbolic one does, with so many bytes in the queue
+-- a run arrives where the symbolic one does, with this many bytes in the queue
 pub record Arrives (origin : List ℕ) (run : Option (Moment Pipeline)) (t : Short) : Type 0 where
   pub have : ℕ
   pub is : run ≡ Some (moment_of origin t have)

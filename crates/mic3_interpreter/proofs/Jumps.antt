@@ -32,7 +32,7 @@ use Rattle.mic3_interpreter.proofs.Boundaries.{ReachesBoundary, comes, Counts, c
 abbrev pub goes_to : List ℕ → Micro → ℕ
 goes_to words m = plus (before m.pc) (signed_pair (byte_in words m.pc) (byte_in words (m.pc + 1)))
 
--- the place there, and the one behind it
+-- the place there, and the one after it
 pub record Jump (o : Origin) (s : State) (m : Micro) : Type 0 where
   pub there : Place o.words (goes_to o.words m) (jump o.words s.at)
   pub behind : Place o.words (plus (goes_to o.words m) 1) (jump o.words s.at + 1)

@@ -1,4 +1,4 @@
--- The bytes that a cycle of Mic-3 gives come behind what had been given.
+-- The bytes that a cycle of Mic-3 gives come after those given before.
 use Rattle.std.proofs.Common.{ℕ, Some, None, Option, List, [], length, sym}
 use Rattle.std.proofs.lemmas.List.{append-nil}
 use Rattle.console_port.specs.World.{World, Refusal}

@@ -7,7 +7,7 @@ ghost use Rattle.mic3_interpreter.specs.Interpretation.{mic3};
 use ijvm_simulation::stack_law;
 use mic2_queue::queue_law;
 
-/// The instructions on the operands alone.
+/// The instructions that use only the operands.
 pub(crate) fn operands_law()
     ensures { GroupTakes mic3 IsOfOperands }
 {

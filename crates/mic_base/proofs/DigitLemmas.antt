@@ -12,7 +12,7 @@ use Rattle.mic_base.specs.Digits.{value_of, hex_text}
 push_arith : (x power value base digit : ℕ) → x * (power * base) + (value * base + digit) ≡ (x * power + value) * base + digit
 push_arith x power value base digit = grind arith
 
--- one more digit behind the others
+-- one more digit after the others
 pub value_of-push : (base : ℕ) (digits : List ℕ) (digit : ℕ) → value_of base (digits ++ digit ∷ []) ≡ value_of base digits * base + digit_value digit
 value_of-push base [] digit = rw pow-zero (one_digit base (digit_value digit))
   where
@@ -22,7 +22,7 @@ value_of-push base (x ∷ xs) digit =
     rw (value_of-push base xs digit, length-append xs (digit ∷ []), add-one, pow-suc base (length xs))
     (push_arith (digit_value x) (base ^ length xs) (value_of base xs) base (digit_value digit))
 
--- a cap may be put on after each digit
+-- capping after each digit gives what capping at the end gives
 pub min-capped : (value base digit most : ℕ) → 1 ≤ base → min (min value most * base + digit) most ≡ min (value * base + digit) most
 min-capped value base digit most positive = elim (cases_lt value most) [
   | inl under ↦ (let same : min value most ≡ value = omega arith in rw same refl)
@@ -33,7 +33,7 @@ min-capped value base digit most positive = elim (cases_lt value most) [
       rw same (omega arith))
 ]
 
--- where no element is found that fails, each passes
+-- if the search finds no element that fails the test, each passes it
 all_pass : (p : ℕ → Bool) (xs : List ℕ) → length xs ≤ position_or_len (λ b. not (p b)) xs → list_all p xs ≡ true
 all_pass p [] h = refl
 all_pass p (x ∷ xs) h = go (p x) refl (all_pass p xs)
@@ -57,7 +57,7 @@ unfolding hex_text
 length-hex_text zero value = refl
 length-hex_text (suc n) value = rw (length-append, length-hex_text n (value / 16)) (omega arith)
 
--- one more digit in front
+-- the digits of a sixteenth, and then the last digit
 pub hex_text-push : (n value : ℕ) → 1 ≤ n → hex_text n value ≡ hex_text (n - 1) (value / 16) ++ digit_char (value % 16) ∷ []
 unfolding hex_text
 hex_text-push zero value some = absurd (omega arith)
@@ -71,7 +71,7 @@ hex_text-zero value = refl
 pub decimal_short : (n : ℕ) → n < 2 ^ 64 → length (decimal n) ≤ 20
 decimal_short n small = length-decimal-le 20 n (omega arith) (omega arith) small
 
--- and with its sign at most 20 bytes
+-- a signed number of 64 bits has, with its sign, at most 20 bytes
 pub signed_decimal_short : (z : ℤ) → FitsSigned w64 z → length (signed_decimal z) ≤ 20
 signed_decimal_short (pos n) fits = decimal_short n (omega (arith, ints, fits))
 signed_decimal_short (negsuc n) fits =

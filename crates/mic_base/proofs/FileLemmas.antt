@@ -1,4 +1,4 @@
--- The files in memory by their names: the list of them tells what the map does.
+-- The files in memory by their names: the list of them has what the map has.
 use Rattle.std.proofs.Common.{◌≡◌, ℕ, List, [], ◌∷◌, Some, refl, true, false, cond}
 use Rattle.std.specs.Prelude.{Vec, map, option_map, string_bytes, String}
 use Rattle.std.specs.BTreeMap.{get_by_text}

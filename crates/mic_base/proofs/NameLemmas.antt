@@ -30,6 +30,6 @@ name_parts text h =
     let r = and_parts (list_all is_name_byte text) (not (begins_digit text)) q.1 in
     record { some = p.0; short = q.0; bytes = r.0; first = r.1 }
 
--- a name is a text
+-- a name is valid UTF-8
 pub IsUtf8-name : (text : List ℕ) → is_name text ≡ true → IsUtf8 text
 IsUtf8-name text h = IsUtf8-from_ascii text (is_ascii text (name_parts text h).bytes)

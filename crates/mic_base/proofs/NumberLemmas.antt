@@ -14,14 +14,14 @@ one_digit d small =
     let below = lt-ltb d 16 small in
     rw (digit_value-digit_char d (omega arith), below) refl
 
--- the digits are digits
+-- each hexadecimal digit is a digit of base 16
 hex_digits : (n value : ℕ) → list_all (λ b. is_digit b 16) (hex_text n value) ≡ true
 unfolding hex_text
 hex_digits zero value = refl
 hex_digits (suc n) value =
     rw (list_all-append (λ b. is_digit b 16) (hex_text n (value / 16)) (digit_char (value % 16) ∷ []), hex_digits n (value / 16)) (one_digit (value % 16) (omega arith))
 
--- and their value is the value that they were made of
+-- the value of a number's hexadecimal digits is the number
 hex_value : (n value : ℕ) → value < 16 ^ n → value_of 16 (hex_text n value) ≡ value
 unfolding hex_text
 hex_value zero value small = omega (arith, pow-zero 16)
@@ -48,7 +48,7 @@ unquoted b [] = refl
 unquoted b (c ∷ []) = refl
 unquoted b (c ∷ d ∷ rest) = refl
 
--- the hexadecimal digits of a value, behind `0x`, are read as the value
+-- the hexadecimal digits of a value, after `0x`, are read as the value
 pub number_of-hex_text : (n value : ℕ) → 1 ≤ n → value < 16 ^ n → value < 2 ^ 32 → number_of (48 ∷ 120 ∷ hex_text n value) ≡ Ok (pos value)
 unfolding number_of
 number_of-hex_text n value some fits small =

@@ -2,7 +2,7 @@
 use Rattle.std.specs.Prelude.{ℕ, zero, suc, ◌+◌, ◌*◌, ◌/◌, ◌%◌, ◌^◌, List, [], ◌∷◌, ◌++◌, length}
 use Rattle.std.specs.Char.{digit_value, digit_char}
 
--- each digit times the base to the number of digits behind it
+-- each digit times the base to the number of digits after it
 abbrev pub value_of : ℕ → List ℕ → ℕ
 value_of base [] = 0
 value_of base (digit ∷ rest) = digit_value digit * base ^ length rest + value_of base rest

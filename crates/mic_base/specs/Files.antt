@@ -1,4 +1,4 @@
--- What files contain, where they tell it, and what a read and a write of one of them say.
+-- What files contain, where it is known, and what a read and a write of one of them do.
 use Rattle.std.specs.Prelude.{◌≡◌, ◌≢◌, ℕ, ◌<◌, ◌≤◌, List, length, Option, Some, None, IfSome, IsSomeAnd, MatchOption, Result, Err, IfOk, OnOk, IsErrOf, Vec}
 use Rattle.std.specs.FinMap.{find}
 use Rattle.std.specs.Ordering.{nat_cmp}
@@ -20,7 +20,7 @@ file_in contents name = find (slice_cmp nat_cmp) name contents
 abbrev pub most_bytes : ℕ
 most_bytes = 1_048_576
 
--- the file of this name has these bytes, where they tell it
+-- the file of this name has these bytes, where the contents are known
 abbrev pub Tells : Option Contents → List ℕ → List ℕ → Type 0
 Tells told name bytes = IfSome told (λ contents. file_in contents name ≡ Some bytes)
 
@@ -38,13 +38,13 @@ pub record Reads (told : Option Contents) (name : List ℕ) (result : Result (Ve
   pub short : IfOk result (λ bytes. length bytes.items ≤ most_bytes)
   pub long : IsErrOf result TooLong → IfSome told (λ contents. IsSomeAnd (file_in contents name) (λ bytes. most_bytes < length bytes))
 
--- the file's bytes were written, unless that failed, and no other file was
+-- the file's bytes were written, unless that failed, and no other file was changed
 pub record Writes (old new : Option Contents) (name bytes : List ℕ) (result : Result Unit FileError) : Type 0 where
   pub written : OnOk result (Tells new name bytes)
   pub others : MatchOption old (new ≡ None) (λ before. IsSomeAnd new (KeepsOthers before name))
   pub never_long : result ≢ Err TooLong
 
--- Failed comes only where the count rose, and every other answer leaves the count
+-- there is a Failed only where the count rose, and every other result leaves the count
 pub record HasFileCause {T : Type 0} (before now : ℕ) (result : Result T FileError) : Type 0 where
   pub later : before ≤ now
   pub failed : IsErrOf result Failed → Rose before now

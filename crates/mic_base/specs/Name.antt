@@ -14,6 +14,6 @@ begins_digit (b ∷ rest) = is_ascii_digit b
 abbrev pub is_name : List ℕ → Bool
 is_name text = nat_le 1 (length text) && (nat_le (length text) 64 && (list_all is_name_byte text && not (begins_digit text)))
 
--- a text with zeros up to 64 bytes behind it
+-- a text with zeros after it, up to 64 bytes
 abbrev pub padded : List ℕ → List ℕ
 padded text = text ++ replicate (64 - length text) 0

@@ -1,4 +1,4 @@
--- How a text is read as a number: decimal digits, or `0x` with hexadecimal digits, either behind a `-`, of a
+-- How a text is read as a number: decimal digits, or `0x` with hexadecimal digits, each with a `-` in front or none, of a
 -- magnitude of at most 4,294,967,295; or one printable byte in single quotes.
 use Rattle.std.specs.Prelude.{ℕ, ℤ, pos, neg_ℤ, ◌+◌, ◌-◌, ◌==◌, ◌&&◌, Bool, false, not, List, [], ◌∷◌, length, drop, nat_le, nat_lt, if◌then◌else◌, Option, Some, None, Result, Ok, Err, ◌≡◌, ◌++◌, codes}
 use Rattle.std.specs.Char.{is_digit}
@@ -20,11 +20,11 @@ abbrev pub begins_hex : List ℕ → Bool
 begins_hex (b ∷ c ∷ rest) = b == 48 && c == 120
 begins_hex _ = false
 
--- what stands behind a leading `-`
+-- the text after a leading `-`, or all of it where there is none
 abbrev pub unsigned_of : List ℕ → List ℕ
 unsigned_of text = if begins_minus text then drop 1 text else text
 
--- what stands behind a leading `0x`
+-- the text after a leading `0x`, or all of it where there is none
 abbrev pub digits_of : List ℕ → List ℕ
 digits_of unsigned = if begins_hex unsigned then drop 2 unsigned else unsigned
 
@@ -60,6 +60,6 @@ quoted_or None text = unquoted text
 unfoldable pub number_of : List ℕ → Result ℤ NumberError
 number_of text = quoted_or (quoted text) text
 
--- behind `0x`, the value in so many hexadecimal digits is read as that value
+-- after `0x`, the value in this many hexadecimal digits is read as that value
 abbrev pub IsReadBack : ℕ → ℕ → Type 0
 IsReadBack digits value = number_of (codes "0x" ++ hex_text digits value) ≡ Ok (pos value)

@@ -24,7 +24,7 @@ pub enum FileError {
 
 /// Files by their names.
 pub trait Files {
-    /// What each file contains, where they tell it.
+    /// What each file contains, where that is known.
     ghost contents: { Self → Option Contents };
 
     /// How often they have failed.

@@ -1,4 +1,4 @@
-//! A line that is printed, put together without memory.
+//! A line of output, built without heap memory.
 
 ghost use Rattle.std.specs.Prelude.{List, ℕ, ◌≡◌, ◌+◌, ◌^◌, ◌<◌, ◌≤◌, ◌++◌, ◌∷◌, [], length};
 ghost use Rattle.std.specs.Char.{digit_char};
@@ -43,7 +43,7 @@ impl Line {
         self.held.push_str(part);
     }
 
-    /// Appends a value as just so many hexadecimal digits.
+    /// Appends a value as exactly this many hexadecimal digits.
     pub fn hex(&mut self, value: u64, digits: u8)
         requires some { 1 ≤ digits }
         requires few { digits ≤ 16 }
@@ -66,7 +66,7 @@ impl Line {
         self.held.push(hex_digit(digit));
     }
 
-    /// Appends a value in decimal digits, behind a `-` where it is below zero.
+    /// Appends a value in decimal digits, after a `-` where it is below zero.
     #[tactic(auto, using(crate::proofs::DigitLemmas::decimal_lengths))]
     pub fn dec(&mut self, value: i64)
         requires { length self.old + length (signed_decimal value) ≤ 512 }

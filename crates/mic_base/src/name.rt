@@ -16,7 +16,7 @@ const MOST: usize = 64;
 /// A name of a source: 1 to 64 letters, digits and `_`, the first no digit.
 #[derive(Clone, Copy)]
 pub struct Name {
-    /// The text, with zeros behind it.
+    /// The text, with zeros after it.
     bytes: [u8; MOST],
     len: u8,
 }

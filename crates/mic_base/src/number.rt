@@ -28,8 +28,8 @@ const MOST: u64 = 0xFFFF_FFFF;
 pub struct Number;
 
 impl Number {
-    /// Reads decimal digits or `0x` with hexadecimal digits, either behind a `-`, or a printable byte in single
-    /// quotes.
+    /// Reads decimal digits, or `0x` with hexadecimal digits, each with a `-` in front or none; or a printable byte in
+    /// single quotes.
     #[tactic(auto, unfolding(crate::specs::Number::number_of))]
     pub fn read(text: &[u8]) -> Result<i64, NumberError>
         ensures { result ≡ number_of text.now }
@@ -44,7 +44,7 @@ impl Number {
     }
 }
 
-/// A law: behind `0x`, what `Line::hex` appends is read as its value.
+/// A law: after `0x`, what `Line::hex` appends is read as its value.
 pub fn hex_is_read_back()
     ensures { (digits value : ℕ) → 1 ≤ digits → value < 16 ^ digits → value < 2 ^ 32 → IsReadBack digits value }
 {}
@@ -126,7 +126,7 @@ fn bad_digit(base: u32, digits: &[u8]) -> Option<usize>
         .position(|byte| !char::from(*byte).is_digit(base))
 }
 
-/// The value of digits, or one more than the greatest magnitude where it is greater.
+/// The value of digits, but at most one more than the greatest magnitude.
 fn magnitude(base: u32, digits: &[u8]) -> u64
     requires low { 2 ≤ base }
     requires high { base ≤ 16 }

@@ -13,7 +13,7 @@ pub struct SourceFailed;
 
 /// Where bytes come from.
 pub trait Source {
-    /// The bytes that are left, where it tells them.
+    /// The bytes that are left, where they are known.
     ghost left: { Self → Option (List ℕ) };
 
     /// How often it has failed.

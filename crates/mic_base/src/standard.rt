@@ -1,4 +1,4 @@
-//! The trusted edge: readers, writers and real files. They tell nothing of what they have.
+//! The trusted edge: readers, writers and real files. What they hold is not known.
 mod answers;
 pub mod files;
 pub mod sink;

@@ -13,7 +13,7 @@ use Rattle.mic_clock.proofs.Front.{front_lost, last_lost}
 use Rattle.mic_clock.proofs.Turns.{turns-suc, turns-plus, buses-plus, turn_by_ended, bounded-world}
 
 module _ {M State : Type 0} (state : M → State) (left0 held0 : Option (List ℕ)) (board0 : BoardView M) where
-  -- what is known of each run that a board leads to may be replaced by what follows
+  -- what is known of each run that a board leads to may be replaced by what follows from it
   pub IsLedTo-map : (left : Option (List ℕ)) (board : BoardView M) (P Q : MicroRun State → List ℕ → Type 0) →
       ((r : MicroRun State) (rest : List ℕ) → P r rest → Q r rest) → IsLedTo state left0 held0 board0 left board P → IsLedTo state left0 held0 board0 left board Q
   IsLedTo-map left board P Q f led rest fits = let far = led rest fits in (far.0, far.1, λ r s e. f r rest (far.2 r s e))

@@ -1,4 +1,4 @@
--- The counts and the turns of `Run` are those that the rule says.
+-- The counts and the turns of `Run` are those of the rule.
 use Rattle.std.proofs.Common.{◌≡◌, ◌≢◌, ℕ, ◌+◌, ◌≤◌, Bool, true, false, ◌&&◌, ◌==◌, if◌then◌else◌, List, Option, Some, None, IsSome, is_some, add-zero, refl, sym, ◌∙◌, ap, subst, arith}
 use Rattle.std.specs.Prelude.{nat_le}
 use Rattle.std.proofs.lemmas.Bool.Decides.{nat_tests}
@@ -16,7 +16,7 @@ module _ (mpc : ℕ) (c : Counts) where
   abbrev ends_by_tests : Bool → Bool → Bool → Option End
   ends_by_tests halt err adrift = if halt then Some ends.Halt else if err then Some ends.Err else if adrift then Some ends.Adrift else None
 
-  -- the tests' answer keeps the rule
+  -- the result of the tests keeps the rule
   tests_rule : (halt err adrift : Bool) → (mpc == 0x0FF) ≡ halt → (mpc == 0x0FE) ≡ err → nat_le 1024 (since c) ≡ adrift → EndsBefore mpc c (ends_by_tests halt err adrift)
   tests_rule true err adrift h e a =
       let at : mpc ≡ 0x0FF = grind (h, arith, nat_tests) in
@@ -35,7 +35,7 @@ module _ (mpc : ℕ) (c : Counts) where
       let short : since c + 1 ≤ 1024 = grind (a, arith, nat_tests) in
       record { halt = λ p. absurd (off p); err = λ p. absurd (other p); adrift = λ p q r. absurd (omega (arith, short, r)); none = λ p q r. refl }
 
-  -- no other answer does
+  -- no other result keeps it
   rule_tests : (end : Option End) → EndsBefore mpc c end → (halt err adrift : Bool) → (mpc == 0x0FF) ≡ halt → (mpc == 0x0FE) ≡ err → nat_le 1024 (since c) ≡ adrift →
       end ≡ ends_by_tests halt err adrift
   rule_tests end r true err adrift h e a = r.halt (grind (h, arith, nat_tests))
@@ -43,7 +43,7 @@ module _ (mpc : ℕ) (c : Counts) where
   rule_tests end r false false true h e a = r.adrift (λ p. grind (h, p, arith, nat_tests)) (λ p. grind (e, p, arith, nat_tests)) (grind (a, arith, nat_tests))
   rule_tests end r false false false h e a = r.none (λ p. grind (h, p, arith, nat_tests)) (λ p. grind (e, p, arith, nat_tests)) (grind (a, arith, nat_tests))
 
--- an end's counts are these alone
+-- an end has these counts and no others
 pub ended_as_ruled : (old : Counts) (e : End) (new : Counts) → CountsEnd old e new → new ≡ counts_ended old e
 ended_as_ruled old e new h = λ i. record { cycles = h.cycles i; instructions = (h.instructions ∙ by_end (completes e)) i; stalls = h.stalls i; boundary = h.boundary i }
   where
@@ -69,7 +69,7 @@ module _ {State : Type 0} (m : Meaning State) where
   abbrev boundary_at : State → ℕ → Option Boundary
   boundary_at s cycles = Some (record { cycles = cycles; at = m.address s; sp = (m.registers s).sp; lv = (m.registers s).lv })
 
-  -- a cycle's counts are these alone
+  -- a cycle has these counts and no others
   pub counted_as_ruled : (old : Counts) (stalled : Bool) (s : State) (new : Counts) → CountsCycle m old stalled s new → new ≡ counts_after m old stalled s
   counted_as_ruled old stalled s new h = by_boundary (m.is_boundary s) refl
     where

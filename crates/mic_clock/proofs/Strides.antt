@@ -1,4 +1,4 @@
--- An instruction's turns under a bound: it is tested at their start alone, since no boundary is between them.
+-- An instruction's turns under a bound: it is tested only at their start, because no boundary is between them.
 use Rattle.std.proofs.Common.{◌≡◌, inl, inr, zero, suc, ℕ, ◌<◌, ◌≤◌, List, Bool, if◌then◌else◌, Option, Some, None, refl, sym, ◌∙◌, ap, subst, arith}
 use Rattle.std.specs.Prelude.{nat_le}
 use Rattle.mic_clock.specs.declared.end.End.{End}
@@ -44,7 +44,7 @@ module _ {State : Type 0} (m : Meaning State) (words : List ℕ) (bound : ℕ) (
   buses-free (suc k) le old =
       λ i. buses_of m words (turns-free k (omega arith) i).state (buses-free k (omega arith) old i) (turns-free (suc k) le i).end
 
-  -- so many turns lead there under the bound as without it
+  -- k turns lead there under the bound as they do without it
   pub Leads-free : {M : Type 0} (state : M → State) (board : BoardView M) (old : Buses) (rest : List ℕ) (k : ℕ) → k ≤ n → (H G : MicroRun State → Type 0) →
       (H (turns m words None k r) → G (turns m words None k r)) → Leads state m words None board old rest k r H → Leads state m words (Some bound) board old rest k r G
   Leads-free state board old rest k le H G f at =

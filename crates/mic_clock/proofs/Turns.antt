@@ -12,7 +12,7 @@ use Rattle.mic_clock.specs.Run.{MicroRun, Buses, word_at, end_by, end_before, co
 use Rattle.mic_clock.specs.View.{BoardView}
 use Rattle.mic_clock.specs.Board.{ShowsRun, IsLedTo, NoFault}
 
--- a refusal and no fault ended the board
+-- a refusal ended the board, and no fault did
 pub no_fault : (e : BusFault) → NoFault None (Some (end_by e)) → IsFault e → ⊥
 no_fault faults.ReadFault q f = q
 no_fault faults.WriteFault q f = q
@@ -134,7 +134,7 @@ module _ {State : Type 0} (m : Meaning State) (words : List ℕ) (bound : Option
       ap (λ (x : ℕ). turns m words bound x r) (suc-add k n)
       ∙ (turns-still (k + n) (subst (λ (x : MicroRun State). IsSome x.end) (sym before) h) ∙ before)
 
-  -- two ended runs of one start are one
+  -- two ended runs from one start are the same
   pub turns-one_end : (n k : ℕ) → IsSome (turns m words bound n r).end → IsSome (turns m words bound k r).end →
       turns m words bound n r ≡ turns m words bound k r
   turns-one_end n k h i = sym (turns-add k n h) ∙ (ap (λ (x : ℕ). turns m words bound x r) (add_comm k n) ∙ turns-add n k i)

@@ -23,7 +23,7 @@ NoFault None (Some ends.ReadFault) = ⊥
 NoFault None (Some ends.WriteFault) = ⊥
 NoFault old new = Unit {0}
 
--- what a cycle answers, by the counts before it, and the counts and the end after it
+-- what a cycle returns, by the counts before it, and the counts and the end after it
 abbrev pub tick_of : Counts → Counts → Option End → Tick
 tick_of old new (Some e) = ticks.Ended e
 tick_of old new None = if old.stalls == new.stalls then ticks.Clocked else ticks.Stalled
@@ -61,7 +61,7 @@ module _ {M State : Type 0} (state : M → State) where
     abbrev pub IsReset : ℕ → ℕ → BusView → BoardView M → Type 0
     IsReset first sp bus board = (left held : Option (List ℕ)) (w : World) → Shows left held bus w → ShowsRun left held board (start_run m first sp w)
 
-    -- A fault stopped a cycle: all is as it was, but for what a bus leaves after an Err. The microstep is not refused, and uses the console.
+    -- A fault stopped a cycle: all is as it was, except for what a bus leaves after an Err. The microstep is not refused, and uses the console.
     pub record IsCut (left held : Option (List ℕ)) (board : BoardView M) (left' held' : Option (List ℕ)) (board' : BoardView M) (e : BusFault) : Type 0 where
       pub its_state : state board'.machine ≡ state board.machine
       pub counts : board'.counts ≡ board.counts
@@ -129,13 +129,13 @@ module _ {M State : Type 0} (state : M → State) where
           board.end ≡ None → board'.end ≡ Some ends.WriteFault → (r : MicroRun State) → ShowsRun left held board r →
           ((bounded m (Some bound) r).end ≡ Some ends.Bound) × IsCutByWrite board.store.words (Some bound) left' held' board' (bounded m (Some bound) r)
 
-      -- a failing source cuts the run behind some turns
+      -- a failing source cuts the run after some turns
       abbrev pub RunIsCutByRead : Option ℕ → Type 0
       RunIsCutByRead bound =
           board.end ≡ None → board'.end ≡ Some ends.ReadFault → IsLedTo left held board left' board'
           (λ r rest. (n : ℕ) × Leads board.store.words bound board' board.buses rest n r (IsCutByRead board.store.words bound left' held' board'))
 
-      -- a failing sink cuts the run behind some turns
+      -- a failing sink cuts the run after some turns
       abbrev pub RunIsCutByWrite : Option ℕ → Type 0
       RunIsCutByWrite bound =
           board.end ≡ None → board'.end ≡ Some ends.WriteFault → IsLedTo left held board left' board'
@@ -147,7 +147,7 @@ module _ {M State : Type 0} (state : M → State) where
           board.end ≡ None → NoFault None board'.end → IsLedTo left held board left' board'
           (λ r rest. (n : ℕ) × IsLeg m board.store.words n r × Leads board.store.words None board' board.buses rest n r (ShowsRun left' held' board'))
 
-      -- a failing source cuts the turn behind them
+      -- a failing source cuts the turn after them
       abbrev pub LegIsCutByRead : Type 0
       LegIsCutByRead =
           board.end ≡ None → board'.end ≡ Some ends.ReadFault → IsLedTo left held board left' board'
@@ -155,7 +155,7 @@ module _ {M State : Type 0} (state : M → State) where
           × Leads board.store.words None board' board.buses rest n r
           (IsCutByRead board.store.words None left' held' board'))
 
-      -- a failing sink cuts the turn behind them
+      -- a failing sink cuts the turn after them
       abbrev pub LegIsCutByWrite : Type 0
       LegIsCutByWrite =
           board.end ≡ None → board'.end ≡ Some ends.WriteFault → IsLedTo left held board left' board'
@@ -163,9 +163,9 @@ module _ {M State : Type 0} (state : M → State) where
           × Leads board.store.words None board' board.buses rest n r
           (IsCutByWrite board.store.words None left' held' board'))
 
-    -- What a turn between two boards counts, also over a source that does not tell what it has left.
+    -- What a turn between two boards counts, also where it is not known what the source has left.
     module _ (board board' : BoardView M) where
-      -- an end that comes before a cycle comes
+      -- an end that comes before a cycle ends the board
       abbrev pub EndsInTime : Type 0
       EndsInTime =
           (e : End) → board.end ≡ None → end_before m (state board.machine) board.counts ≡ Some e →
@@ -203,14 +203,14 @@ HasRoom board board' = board'.end ≡ None → board.counts.cycles < last_cycles
 abbrev pub IsLimit : Counts → ℕ → Type 0
 IsLimit c limit = limit ≡ last_cycles c.boundary + 1024
 
--- instructions and stalls are no more than cycles, no boundary is ahead of them, and none is more than 1,024 cycles back
+-- instructions and stalls are at most the cycles, except that an end may complete one more; the last boundary is at most 1,024 cycles back
 pub record AreCounts (c : Counts) (end : Option End) : Type 0 where
   pub instructions : c.instructions ≤ c.cycles + number_of (is_some end)
   pub stalls : c.stalls ≤ c.cycles
   pub boundary : last_cycles c.boundary ≤ c.cycles
   pub since : c.cycles ≤ last_cycles c.boundary + 1024
 
--- as it was, but for what the console keeps and the end
+-- as it was, except for what the console keeps and the end
 pub record IsOnlyFlushed {M : Type 0} (board board' : BoardView M) : Type 0 where
   pub same : board' ≡ record board { bus = board'.bus; end = board'.end }
   pub memory : board'.bus.words ≡ board.bus.words
@@ -228,14 +228,14 @@ pub record GoesOn {S K M : Type 0} (left : S → Option (List ℕ)) (source_faul
   pub cause : HasEndCause (source_faults source) (source_faults source') (sink_faults sink) (sink_faults sink') board.end board'.end
 
 module _ {M State : Type 0} (state : M → State) (m : Meaning State) (board board' : BoardView M) where
-  -- What a turn counts and shows, also over a source that does not tell what it has left.
+  -- What a turn counts and shows, also where it is not known what the source has left.
   pub record IsCountedTurn : Type 0 where
     pub clocked : IsCounted state m board board'
     pub room : HasRoom board board'
     pub still : EndsUncounted board board'
     pub buses : ShowsBuses state m board board'
 
-  -- Turns that do not end come to a boundary behind at least one cycle, and none clocks on for more than 1,024 cycles without one.
+  -- Turns that do not end come to a boundary after at least one cycle, and none clocks on for more than 1,024 cycles without one.
   pub record ComesInTime : Type 0 where
     pub within : board'.counts.cycles ≤ last_cycles board.counts.boundary + 1024
     pub near : board'.counts.cycles ≤ last_cycles board'.counts.boundary + 1024

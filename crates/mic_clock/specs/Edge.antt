@@ -13,18 +13,18 @@ module _ {State : Type 0} (m : Meaning State) (word : ℕ) (s : State) (left hel
   abbrev pub IsStep : State → Option (List ℕ) → Option (List ℕ) → BusView → Type 0
   IsStep s' left' held' bus' = IsLed left held bus left' held' bus' (λ w v. m.step word s w ≡ Done s' v)
 
-  -- where the step is refused, that refusal is the answer
+  -- where the step is refused, that refusal is the result
   abbrev pub AnswersRefusal : {T : Type 0} → Result T BusFault → Type 0
   AnswersRefusal result = (w : World) (e : BusFault) → Shows left held bus w → refusal_in (m.step word s w) ≡ Some e → result ≡ Err e
 
-  -- why an edge answers e: the step is refused so; or it is done, and the source or the sink failed where it uses the console
+  -- why an edge returns e: the step is refused with it; or it is done, and the source or the sink failed where it uses the console
   pub record IsErrOfStep (e : BusFault) : Type 0 where
     pub refused : (IsFault e → ⊥) → (w : World) → Shows left held bus w → refusal_in (m.step word s w) ≡ Some e
     pub reads : e ≡ ReadFault → (w : World) → Shows left held bus w → ReadsConsole m word s w
     pub uses : e ≡ WriteFault → (w : World) → Shows left held bus w → UsesConsole m word s w
 
-  -- What an edge says: done, it led where the step does, and changed no memory word but the one at MAR as it is after it;
-  -- an Err is the step's refusal or a failing source or sink, and leaves the state.
+  -- What an edge does. Done, it led where the step does, and changed no memory word but the one at MAR as it is after it.
+  -- An Err is the step's refusal or a failing source or sink, and leaves the state.
   pub record IsEdge {T : Type 0} (s' : State) (left' held' : Option (List ℕ)) (bus' : BusView) (result : Result T BusFault) : Type 0 where
     pub ok : OnOk result (IsStep s' left' held' bus')
     pub others : OnOk result (ChangesOnly (m.registers s').mar bus.words bus'.words)

@@ -26,7 +26,7 @@ module _ {State : Type 0} where
   unless_refused None outcome = outcome
   unless_refused (Some why) outcome = Refused why
 
-  -- what a refused step answers
+  -- the fault that a refused step returns
   abbrev pub refusal_in : Outcome State → Option BusFault
   refusal_in (Done s w) = None
   refusal_in (Refused r) = Some (fault_of r)
@@ -36,7 +36,7 @@ module _ {State : Type 0} where
   untaken_by (Done s w) = Some w.untaken
   untaken_by (Refused r) = None
 
-  -- all output behind a step that is done
+  -- all output after a step that is done
   abbrev pub given_by : Outcome State → Option (List ℕ)
   given_by (Done s w) = Some w.given
   given_by (Refused r) = None

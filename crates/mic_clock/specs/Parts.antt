@@ -33,7 +33,7 @@ pub record AreParts {M State : Type 0} (phase : M → Phase) (m : Meaning State)
   pub counts : AreCounts (counts_of running tally) running.end
   pub limit : IsLimit (counts_of running tally) tally.limit
 
--- What a turn counts and writes, also over a source that does not tell what it has left.
+-- What a turn counts and writes, also where it is not known what the source has left.
 pub record ChangesByTurn {M State : Type 0} (state : M → State) (m : Meaning State) (board board' : BoardView M) : Type 0 where
   pub before : EndsInTime state m board board'
   pub counted : IsCountedTurn state m board board'

@@ -110,7 +110,7 @@ module _ {State : Type 0} (m : Meaning State) where
       (if nat_le bound r.counts.cycles then record { state = r.state; world = r.world; counts = r.counts; end = Some ends.Bound } else r)
       else r
 
-  -- the same where a bound is tested
+  -- the run after the test of a bound, where one is tested
   abbrev pub bounded : Option ℕ → MicroRun State → MicroRun State
   bounded None r = r
   bounded (Some bound) r = bounded_by r.end bound r
@@ -130,7 +130,7 @@ module _ {State : Type 0} (m : Meaning State) (words : List ℕ) where
   after_end_or_step (Some e) r = record { state = r.state; world = r.world; counts = counts_ended r.counts e; end = Some e }
   after_end_or_step None r = after_step r (m.step (word_at r.state) r.state r.world)
 
-  -- one turn, but for the test of the bound: an ended run stays
+  -- one turn without the test of the bound: an ended run stays
   abbrev pub turn_by : Option End → MicroRun State → MicroRun State
   turn_by (Some e) r = r
   turn_by None r = after_end_or_step (end_before m r.state r.counts) r
@@ -138,7 +138,7 @@ module _ {State : Type 0} (m : Meaning State) (words : List ℕ) where
   abbrev pub turn : MicroRun State → MicroRun State
   turn r = turn_by r.end r
 
-  -- so many turns, each with the test of the bound before it where one is tested
+  -- this many turns, each with the test of the bound before it where one is tested
   abbrev pub turns : Option ℕ → ℕ → MicroRun State → MicroRun State
   turns bound n r = iterate (λ x. turn (bounded m bound x)) n r
 
@@ -162,7 +162,7 @@ module _ {State : Type 0} (m : Meaning State) (words : List ℕ) where
   buses_of s old (Some e) = old
   buses_of s old None = record { drive = m.drives (word_at s) s; computed = m.computes (word_at s) s }
 
-  -- the bus values after so many turns
+  -- the bus values after this many turns
   abbrev pub buses : Option ℕ → ℕ → MicroRun State → Buses → Buses
   buses bound zero r old = old
   buses bound (suc n) r old = buses_of (turns bound n r).state (buses bound n r old) (turns bound (suc n) r).end

@@ -6,7 +6,7 @@ use Rattle.mic_clock.specs.declared.registers.Registers.{Registers}
 use Rattle.mic_clock.specs.declared.registers.Tail.{Tail}
 use Rattle.mic_clock.specs.declared.registers.Tail.TheVariants.{Mbr, Queue}
 
--- a name, and the digits behind it
+-- a name, and the digits after it
 pub record Row : Type 0 where
   pub name : List ℕ
   pub digits : List ℕ
@@ -15,7 +15,7 @@ pub record Row : Type 0 where
 abbrev pub word : List ℕ → ℕ → Row
 word name value = record { name = name; digits = hex_text 8 value }
 
--- two digits a byte, and a dash where there is none
+-- two digits for each byte, or a dash where there is none
 abbrev pub queue_text : List ℕ → List ℕ
 queue_text [] = codes "-"
 queue_text (byte ∷ bytes) = flat_map (hex_text 2) (byte ∷ bytes)
@@ -36,7 +36,7 @@ further_rows r =
 abbrev pub row_text : Row → List ℕ
 row_text row = row.name ++ codes " " ++ row.digits
 
--- rows, each with a space behind it
+-- rows, each with a space after it
 abbrev pub rows_text : List Row → List ℕ
 rows_text = flat_map (λ row. row_text row ++ codes " ")
 

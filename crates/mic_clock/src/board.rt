@@ -69,7 +69,7 @@ impl<M: Clocked> Board<M> {
         }
     }
 
-    /// One turn of the run, but for the test of the bound: an end that comes before a cycle, or a cycle.
+    /// One turn of the run without the test of the bound: an end that comes before a cycle, or a cycle.
     #[inline(always)]
     pub fn cycle<S: Source, K: Sink>(&mut self, source: &mut S, sink: &mut K) -> Tick
         requires { self.old.counts.cycles ≤ 2 ^ 62 + 4096 }
@@ -94,7 +94,7 @@ impl<M: Clocked> Board<M> {
         )
     }
 
-    /// Turns up to the next boundary, which answers none, or up to the end.
+    /// Turns up to the next boundary, where it returns none, or up to the end.
     pub fn instruction<S: Source, K: Sink>(&mut self, source: &mut S, sink: &mut K) -> Option<End>
         requires { self.old.counts.cycles ≤ 2 ^ 62 + 2048 }
         ensures run { IsLegRun M.state M.meaning (S.left source.old) (K.held sink.old) self.old (S.left source.new) (K.held sink.new) self.new }
@@ -120,7 +120,7 @@ impl<M: Clocked> Board<M> {
         self.running.end
     }
 
-    // The test of the bound, and whether the board goes on.
+    // Tests the bound, and returns whether the board goes on.
     #[inline(always)]
     fn goes_on(&mut self, bound: u64) -> bool
         ensures stays { result ≡ true → (self.new ≡ self.old) × (self.old.end ≡ None) }
@@ -160,7 +160,7 @@ impl<M: Clocked> Board<M> {
         flushed
     }
 
-    /// The test of the bound alone, with the flush where it ends the board.
+    /// Only the test of the bound, with the flush where it ends the board.
     #[inline(always)]
     pub fn stop_at<K: Sink>(&mut self, bound: u64, sink: &mut K) -> Option<End>
         ensures run { NoFault self.old.end self.new.end →
@@ -212,7 +212,8 @@ impl<M: Clocked> Board<M> {
         self.running.end
     }
 
-    // The test of the bound, and where it does not end the board, the turns of an instruction, which has no other boundary to test it at.
+    // The test of the bound, and, where it does not end the board, the turns of an instruction. The bound can be tested
+    // at no other boundary among them.
     fn stride<S: Source, K: Sink>(&mut self, bound: u64, source: &mut S, sink: &mut K)
         requires running { self.old.end ≡ None }
         requires cycles { self.old.counts.cycles ≤ 2 ^ 62 + 2048 }

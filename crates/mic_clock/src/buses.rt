@@ -10,7 +10,7 @@ pub struct Drive {
     pub stalled: bool,
 }
 
-/// What leaves the ALU, and behind the shifter what the C bus carries.
+/// What leaves the ALU, and what the C bus carries from the shifter.
 #[derive(Clone, Copy, Debug, PartialEq, Eq)]
 pub struct Computed {
     pub alu: AluOut,

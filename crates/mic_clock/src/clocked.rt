@@ -25,7 +25,8 @@ pub trait Clocked {
     /// What its calls mean.
     ghost meaning: { Meaning State };
 
-    /// Where a microprogram begins at this entry, that the instruction at a byte address of a memory comes next: a boundary is there, and nothing is under way.
+    /// That the instruction at a byte address of a memory comes next, where a microprogram begins at this entry: a
+    /// boundary is there, and nothing is under way.
     ghost IsReady: { ℕ → List ℕ → ℕ → State → Type 0 };
 
     ghost state: { Self → State };
@@ -67,7 +68,7 @@ pub trait Clocked {
         ensures word { word self.new ≡ word self.old }
         ensures value { result ≡ meaning.computes (word self.old) (state self.old) };
 
-    /// The clock edge. An Err leaves the machine's state.
+    /// The clock edge. An Err leaves the machine's state as it was.
     fn edge<S: Source, K: Sink>(
         &mut self,
         bus: &mut Bus,
@@ -124,7 +125,7 @@ pub trait Clocked {
     fn instruction_address(&self) -> u32
         ensures { result ≡ meaning.address (state self.now) };
 
-    /// The MPC of `registers`, for machines where all registers are many.
+    /// The MPC of `registers`, without the other registers.
     fn mpc(&self) -> u16
         ensures value { result ≡ (meaning.registers (state self.now)).mpc }
         ensures small { result < 512 }

@@ -16,7 +16,7 @@ const HALT: u16 = 0x0FF;
 
 const ERR: u16 = 0x0FE;
 
-/// So many cycles without a boundary end a run.
+/// The number of cycles without a boundary that ends a run.
 pub const DRIFT: u64 = 1024;
 
 /// The end by a refusal or a fault.
@@ -40,7 +40,7 @@ pub fn end_before<M: Clocked>(machine: &M, running: &Running, tally: &Tally) -> 
     ensures room { IfNone result (running.now.cycles < last_cycles tally.now.boundary + 1024) }
 {
     let mpc = machine.mpc();
-    // They stand side by side, so that most cycles make one test for both.
+    // The two addresses are neighbours, so that most cycles make one test for both.
     if ERR <= mpc && mpc <= HALT {
         if mpc == HALT {
             return Some(End::Halt);

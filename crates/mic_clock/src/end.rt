@@ -6,7 +6,7 @@ pub enum End {
     Err,
     /// At a boundary the cycles were at least the bound.
     Bound,
-    /// A write behind the stack.
+    /// A write beyond the stack.
     StackLimit,
     /// The source failed.
     ReadFault,

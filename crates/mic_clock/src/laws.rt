@@ -1,4 +1,4 @@
-//! What holds of the clocked runs of every machine, for those who prove something above a board.
+//! What holds of the clocked runs of every machine, for proofs in the crates above it.
 
 ghost use Rattle.std.specs.Prelude.{◌≡◌, ◌↔◌, ◌+◌, ℕ, List, Option, IsSome};
 ghost use Rattle.mic_clock.specs.Run.{MicroRun, turn, turns};
@@ -8,7 +8,7 @@ ghost use Rattle.mic_clock.specs.Board.{IsReached};
 
 use crate::clocked::Clocked;
 
-/// What a turn leads to is what the rule says.
+/// A turn leads just where the rule has it.
 pub fn turn_law<M: Clocked>(_machine: &M)
     ensures { (words : List ℕ) (r q : MicroRun M.State) → IsTurn M.meaning words r q ↔ (q ≡ turn M.meaning words r) }
 {}

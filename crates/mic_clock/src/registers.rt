@@ -29,7 +29,7 @@ pub struct Registers {
 }
 
 impl Tail {
-    /// The same once more.
+    /// A copy.
     pub fn again(&self) -> Tail
         ensures { result ≡ self.now }
     {
@@ -44,7 +44,7 @@ impl Tail {
 }
 
 impl Registers {
-    /// The same once more, which takes no memory.
+    /// A copy, which needs no memory.
     pub fn again(&self) -> Registers
         ensures { result ≡ self.now }
     {

@@ -1,4 +1,4 @@
-//! What a board keeps beside its machine, its store and its bus.
+//! What a board keeps besides its machine, its store and its bus.
 
 ghost use Rattle.std.specs.Prelude.{◌≡◌};
 ghost use Rattle.mic_clock.specs.Parts.{counts_of};
@@ -8,7 +8,7 @@ use crate::counting::DRIFT;
 use crate::counts::{Boundary, Counts};
 use crate::end::End;
 
-/// What each cycle changes and tests. The turns of an instruction go over a copy of their own, so that it stays in registers.
+/// What each cycle changes and tests. An instruction's turns work on a copy of it, so that it stays in registers.
 #[derive(Clone, Copy)]
 pub struct Running {
     /// Clocked cycles, stalls included.

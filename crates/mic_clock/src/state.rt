@@ -31,7 +31,7 @@ fn words(line: &mut Line, rows: &[(&str, u32)])
     }
 }
 
-/// Appends two digits a byte, and a dash where there is none.
+/// Appends two digits for each byte, or a dash where there is none.
 fn queue(line: &mut Line, bytes: &[u8])
     requires few { length bytes.now ≤ 6 }
     requires room { length line.old + 12 ≤ 512 }
@@ -76,7 +76,7 @@ fn first(line: &mut Line, r: &Registers)
     words(line, &[("MAR", r.mar), ("MDR", r.mdr), ("PC", r.pc)]);
 }
 
-/// Appends the registers behind them.
+/// Appends the registers after the fetched bytes.
 fn further(line: &mut Line, r: &Registers)
     requires { length line.old + 78 ≤ 512 }
     ensures text { line.new ≡ line.old ++ rows_text (further_rows r.now) }

@@ -14,7 +14,7 @@ use console_port::Bus;
 use mic_base::{Sink, Source};
 use micro_word::Store;
 
-/// One turn, but for the test of the bound: an end that comes before a cycle, or a cycle.
+/// One turn without the test of the bound: an end that comes before a cycle, or a cycle.
 #[inline(always)]
 #[tactic(auto, using(crate::proofs::Rules::ends_as_ruled, crate::proofs::Rules::ended_as_ruled, crate::proofs::Rules::counted_as_ruled))]
 pub fn turn_once<M: Clocked, S: Source, K: Sink>(
@@ -57,7 +57,7 @@ pub fn turn_once<M: Clocked, S: Source, K: Sink>(
             tally.computed.alu.n = computed.alu.n;
             tally.computed.alu.z = computed.alu.z;
             tally.computed.c = computed.c;
-            // Behind the stores, so that a run tests once whether it is at a boundary.
+            // After the stores, so that a run tests once whether it is at a boundary.
             count(running, tally, drive.stalled, machine);
             if drive.stalled {
                 Tick::Stalled

@@ -1,4 +1,4 @@
--- What an access behind the memory's words does at the console.
+-- What an access past the memory's words does at the console.
 use Rattle.std.proofs.Common.{◌≡◌, ℕ, ◌%◌, ◌≤◌, true, false, [], ◌∷◌, ◌++◌, drop, arith}
 use Rattle.std.specs.Prelude.{nat_lt}
 use Rattle.std.proofs.lemmas.Bool.Decides.{nat_tests}

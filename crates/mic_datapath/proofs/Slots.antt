@@ -1,4 +1,4 @@
--- Two slots and what stands behind them hold the destinations of a word.
+-- Two slots, and the places from a third destination on, hold the destinations of a word.
 use Rattle.std.proofs.Common.{◌≡◌, ◌≢◌, ◌⊎◌, ℕ, ◌<◌, ◌≤◌, Bool, true, false, if◌then◌else◌, List, length, slice_index, slice_set, inl, inr, refl, subst, sym, ap, ◌∙◌, arith, get_or-set_same, get_or-set_other}
 use Rattle.std.proofs.lemmas.List.{length-set}
 use Rattle.std.proofs.lemmas.Bool.{cases_eq, cases_lt}
@@ -14,7 +14,7 @@ not_slot c place k slot h not_named same =
     let is : names c k ≡ true = subst (λ (p : ℕ). names c p ≡ true) (sym same) (slot other).1 in
     let no : true ≡ false = sym is ∙ not_named in absurd (cc)
 
--- and none from 9 on but the last
+-- a place from 9 on is no slot, except the last
 behind_slot : (c place k : ℕ) → IsSlot c place → 9 ≤ k → k < 15 → k ≢ place
 behind_slot c place k slot low high same =
     let other : place ≢ 15 = omega (arith, same, high) in
@@ -75,6 +75,6 @@ module _ (c first second further v : ℕ) (old : List ℕ) (slots : AreSlots c f
               | inr higher ↦ later k higher h ∙ ap (λ (b : Bool). if b then v else slice_index (both_slots old first second v) k) is ∙ other
             ]
 
-  -- the places behind the registers stay, but the last
+  -- the places after the registers stay, except the last
   pub behind_stay : (k : ℕ) → 9 ≤ k → k < 15 → slice_index (both_slots old first second v) k ≡ slice_index old k
   behind_stay k low high = at_other k (behind_slot c first k slots.first_slot low high) (behind_slot c second k slots.second_slot low high)

@@ -35,7 +35,7 @@ is_access mems.Write = true
 is_access mems.None = false
 
 -- What accesses come to between a source and a sink, where `Does x w v` says that they lead the world w to v with x sampled.
--- Where they are refused, that is the answer. A fault comes past the memory's words alone, where the console is accessed.
+-- A refusal is the result. A fault comes only past the memory's words, where the console is accessed.
 pub record HasAccessed {T : Type 0} (why : Option Refusal) (mem : Mem) (mar : ℕ) (Does : T → World → World → Type 0)
     (left held : Option (List ℕ)) (bus : BusView) (left' held' : Option (List ℕ)) (bus' : BusView) (result : Result T BusFault) : Type 0 where
   pub allowed : OnOk result (why ≡ None)

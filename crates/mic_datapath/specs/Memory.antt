@@ -9,7 +9,7 @@ use Rattle.mic_datapath.specs.declared.ports.Ports.{Ports}
 abbrev pub ports_with : ℕ → ℕ → ℕ → Ports
 ports_with mar mdr pc = record { mar = mar; mdr = mdr; pc = pc }
 
--- A write stores MDR at MAR, both as they are behind the edge's loads.
+-- A write stores MDR at MAR, both as they are after the edge's loads.
 
 abbrev pub written : ℕ → Mem → Ports → World → World
 written stack_end mems.Write p w = after_write stack_end w p.mar p.mdr

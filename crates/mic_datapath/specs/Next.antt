@@ -17,6 +17,6 @@ next_address (nexts.Goto to) x byte = to
 next_address (nexts.Dispatch high) x byte = if high then byte + 256 else byte
 next_address (nexts.Branch test low) x byte = if flag test x then low + 256 else low
 
--- that each statement whose next address has these bits goes there
+-- each statement whose next address has these bits goes there
 abbrev pub GoesTo : ℕ → ℕ → ℕ → ℕ → ℕ → Type 0
 GoesTo addr jam x byte to = (n : PlacedNext) → IsTrue (is_next n) → addr ≡ addr_bits n → jam ≡ jam_bits n → to ≡ next_address n x byte

@@ -1,4 +1,4 @@
--- The places of a datapath: the nine registers by the places of their bits in the field C, behind them the fetched bytes, and one that holds 0.
+-- The places of a datapath: the nine registers by the places of their bits in the field C, after them the fetched bytes, and one that holds 0.
 use Rattle.std.specs.Prelude.{ℕ, List, slice_index}
 use Rattle.mic_datapath.specs.Registers.{NineRegisters}
 

@@ -17,7 +17,7 @@ pub record NineRegisters : Type 0 where
   pub opc : ℕ
   pub h : ℕ
 
--- what is on a bus, where `fetched` tells what each source of fetched bytes has; 0 is there when nothing drives it
+-- what is on a bus, where `fetched` has the value of each source of fetched bytes; 0 when nothing drives it
 abbrev pub on_bus : NineRegisters → (BusSource → ℕ) → Option BusSource → ℕ
 on_bus r fetched None = 0
 on_bus r fetched (Some sources.Mdr) = r.mdr
@@ -55,6 +55,6 @@ loaded c v word r =
       h = if loads c registers.H then v else r.h;
     }
 
--- what the memory's two ports are given of the registers
+-- the registers that the memory's two ports are given
 abbrev pub ports_given : NineRegisters → Ports
 ports_given r = record { mar = r.mar; mdr = r.mdr; pc = r.pc }

@@ -121,7 +121,7 @@ fn access_tested<S: Source, K: Sink>(
     Ok(Sampled { word, byte })
 }
 
-/// Does what a cycle does on the bus. Most cycles do nothing, and most others reach memory alone.
+/// Does what a cycle does on the bus. Most cycles do nothing, and most others reach only memory.
 #[inline(always)]
 pub fn access<S: Source, K: Sink>(
     mem: Mem,

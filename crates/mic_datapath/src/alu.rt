@@ -10,7 +10,7 @@ ghost use Rattle.mic1_alu.specs.Gates.{enabled};
 use mic1_alu::{alu_by_lines, each_row_computes, shift};
 use micro_word::{Lines, Shift};
 
-/// What the gates give of two buses, where nothing is on the B bus of an operation that does not use it.
+/// What the gates give for two buses. The B bus of an operation that does not use it has 0.
 pub fn operate(bits: u8, lines: &Lines, a: u32, b: u32) -> u32
     requires ena { lines.now.ena ≡ on_each_bit (bits / 8 % 2 == 1) }
     requires inva { lines.now.inva ≡ on_each_bit (bits / 2 % 2 == 1) }

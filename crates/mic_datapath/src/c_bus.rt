@@ -24,7 +24,7 @@ pub fn port(c: u16, place: u8, value: u32, places: &Places) -> u32
     }
 }
 
-/// Loads those from a place on.
+/// Loads the named registers from a place on.
 fn load_further(c: u16, from: u8, value: u32, places: &mut Places)
     ensures loaded { (k : ℕ) → from ≤ k → k < 9 → slice_index places.new k ≡ (if names c k then value else slice_index places.old k) }
     ensures before { (k : ℕ) → k < from → slice_index places.new k ≡ slice_index places.old k }

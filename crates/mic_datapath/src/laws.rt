@@ -18,7 +18,7 @@ pub fn side_law()
         IsTrue (fits_side (row op).uses_b may b) → (b ≡ None → x ≡ 0) → enabled ((row op).gates / 4 % 2 == 1) x ≡ x }
 {}
 
-/// Behind the memory's words, a read takes the first untaken byte, and a write gives one byte more.
+/// Past the memory's words, a read takes the first untaken byte, and a write gives one byte more.
 pub fn console_law()
     ensures takes { (stack_end : ℕ) (p : Ports) (mem : Mem) (w : World) → stack_end ≤ p.mar → is_read mem ≡ true →
         (sampled stack_end mem p (written stack_end mem p w)).untaken ≡ drop 1 w.untaken }

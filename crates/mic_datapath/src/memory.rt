@@ -1,4 +1,4 @@
-//! The accesses of a cycle that reach memory alone, which none refuses and no fault stops.
+//! The accesses of a cycle that reach only memory. None of them is refused, and no fault stops one.
 
 ghost use Rattle.std.specs.Prelude.{◌≡◌, ◌<◌, ◌/◌, None, is_some, length, true, false};
 ghost use Rattle.console_port.specs.Bus.{ChangesOnly};
@@ -11,7 +11,7 @@ use crate::ports::Ports;
 use console_port::Bus;
 use micro_word::Mem;
 
-/// Whether the accesses reach memory alone.
+/// Whether the accesses reach only memory.
 pub fn is_in_memory(mem: Mem, fetch: bool, mar: u32, pc: u32, bus: &Bus) -> bool
     ensures { result ≡ true → AreInMemory (length bus.now.words) mem fetch mar pc }
 {
@@ -31,7 +31,7 @@ pub fn is_quiet(mem: Mem, fetch: bool) -> bool
     mem == Mem::None && !fetch
 }
 
-/// What no access samples.
+/// The samples of a cycle without an access: none.
 pub fn no_access(mem: Mem, fetch: bool, ports: &Ports, bus: &Bus) -> Sampled
     requires mem { mem ≡ Mem.None }
     requires fetch { fetch ≡ false }
@@ -117,7 +117,7 @@ fn transfer_memory(mem: Mem, ports: &Ports, bus: &mut Bus) -> Option<u32>
     }
 }
 
-/// Does them.
+/// Does the accesses of a cycle, which are all in memory.
 #[inline(always)]
 #[tactic(auto, unfolding(console_port::specs::World::fetch_refusal))]
 pub fn access_memory(mem: Mem, fetch: bool, ports: &Ports, bus: &mut Bus) -> Sampled

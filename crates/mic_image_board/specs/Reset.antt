@@ -10,7 +10,7 @@ use Rattle.mic_clock.specs.Board.{ShowsRun}
 use Rattle.ijvm_image.specs.Image.{IsImage}
 use Rattle.verifier_facts.specs.Accepted.{VerifiedView, IsAccepted}
 
--- the clocked run at its reset: MPC at the entry, and SP before the first operand of main, which has so many locals
+-- the clocked run at its reset: MPC at the entry, and SP before the first operand of main, which has this many locals
 abbrev pub reset_run : {S : Type 0} → Meaning S → ℕ → ℕ → World → MicroRun S
 reset_run m entry main_locals w = start_run m entry (0x8000 + main_locals - 1) w
 

@@ -10,7 +10,7 @@ use mic_clock::{Board, Clocked};
 use micro_word::Store;
 use std::alloc::{AllocError, Global};
 
-/// The bytes of a text and the words of a pool are what their types say.
+/// A text and a pool within their limits are an image: their types bound the bytes and the words.
 fn are_parts(text: &[u8], pool: &[u32])
     requires { IsWithinLimits text.now pool.now }
     ensures { IsImage (record { text = text.now; pool = pool.now }) }

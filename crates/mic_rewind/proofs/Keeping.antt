@@ -1,4 +1,4 @@
--- What a board that was clocked lets a history keep.
+-- What a history keeps of a board that was clocked.
 use Rattle.std.proofs.Common.{◌≡◌, ◌∙◌, sym, ap, subst, refl, ℕ, zero, suc, ◌≤◌, ◌+◌, ◌-◌, ◌++◌, drop, length, arith, rules, Bool, true, false, if◌then◌else◌, List, [], ◌∷◌, Option, Some, None, IsSome, slice_get}
 use Rattle.console_port.specs.Bus.{ChangesOnly}
 use Rattle.mic_clock.specs.Meaning.{Meaning}
@@ -49,7 +49,7 @@ addresses_drop zero ss all = all
 addresses_drop (suc n) [] all = tt
 addresses_drop (suc n) (s ∷ ss) all = addresses_drop n ss all.1
 
--- of a state that was kept last, and those before it
+-- MPC is an address in the state that was kept last, and in those before it
 pub addresses_less : (ss : List Snapshot) (s : Snapshot) → HaveAddresses (ss ++ s ∷ []) → HaveAddresses ss × HasAddress s
 addresses_less [] s all = (tt, all.0)
 addresses_less (t ∷ ss) s all = let rest = addresses_less ss s all.1 in ((all.0, rest.0), rest.1)
@@ -78,7 +78,7 @@ live_by : {M : Type 0} (old new : BoardView M) (o : Option End) → old.end ≡ 
 live_by old new None e same none = e
 live_by old new (Some x) e same none = ap (λ (b : BoardView _). b.end) (sym (same x e)) ∙ none
 
--- a board that has not ended had not
+-- a board that has not ended after a call had not ended before it
 pub live : {M : Type 0} (old new : BoardView M) → ((e : End) → old.end ≡ Some e → new ≡ old) → new.end ≡ None → old.end ≡ None
 live old new same none = live_by old new old.end refl same none
 
@@ -106,7 +106,7 @@ module _ {M State : Type 0} (state : M → State) (m : Meaning State) where
   newest_forth : (old new : HistoryView) → GoesBack new old → newest new ≡ newest old
   newest_forth old new went = sym (ap (λ (ss : List Snapshot). last_of old.here ss) went.after)
 
-  -- so does a step forward over a kept cycle
+  -- a step forward over a kept cycle keeps the newest state too
   pub forth_keeps : (board : BoardView M) (old new : HistoryView) → GoesBack new old → IsRewind state m board old → IsRewind state m board new
   forth_keeps board old new went is =
       let all = addresses_forth old new went is.before is.here is.after in
@@ -133,7 +133,7 @@ module _ {M State : Type 0} (state : M → State) (m : Meaning State) where
       (λ none. ap (λ (c : Counts). c.cycles) (is_counted none).1 ∙ counted (m.is_boundary (state new.machine)) old.counts _ _ refl refl)
       (λ some. (ends some).0)
 
-  -- the state that a clocked cycle leaves is told by the memory before it and the word at MAR
+  -- the state that a clocked cycle leaves follows from the memory before it and the word at MAR
   pub left_by : (old new : BoardView M) (words : List ℕ) (after : Moment) (word : Option ℕ) →
       after ≡ moment_of state m new → word ≡ slice_get new.bus.words after.registers.mar → words ≡ old.bus.words →
       ChangesOnly (m.registers (state new.machine)).mar old.bus.words new.bus.words →

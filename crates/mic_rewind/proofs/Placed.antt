@@ -41,7 +41,7 @@ module _ (first : Moment) (b : Buffer KeptCycle) (behind : ℕ) (words : List �
         (view_from first b (behind + 1) (undone c.written words))
     goes_back = went_back (begun_at first b) behind (moment_at first b.items behind) words (begun (moment_at first b.items (behind + 1)) c) h some_there got_back
 
-  -- going on over the cycle behind the cursor
+  -- going on over the cycle after the cursor
   module _ (some : 0 < behind) (got : slice_get b.items (length b.items - behind) ≡ Some c) where
     led_on : c.after ≡ moment_at first b.items (behind - 1)
     led_on =

@@ -1,4 +1,4 @@
--- How the states that kept cycles tell change with the cycles and with the cursor.
+-- How the states of kept cycles change with the cycles and with the cursor.
 use Rattle.std.proofs.Common.{◌≡◌, sym, ap, subst, refl, ℕ, zero, suc, List, [], ◌∷◌, ◌++◌, length, drop}
 use Rattle.mic_rewind.specs.declared.moment.Moment.{Moment}
 use Rattle.mic_rewind.specs.States.{Cycle, undone, redone, words_before, moment_before, states_before, states_after, Fits, LeadTo, LeadFrom}
@@ -39,7 +39,7 @@ pub LeadTo-last : (cs : List Cycle) (c : Cycle) (m : Moment) (words : List ℕ) 
 LeadTo-last [] c m words h = h.0
 LeadTo-last (d ∷ ds) c m words h = LeadTo-last ds c m words h.1
 
--- and those before it led to where it began
+-- the cycles before the last one led to where it began
 pub LeadTo-front : (cs : List Cycle) (c : Cycle) (m : Moment) (words : List ℕ) → LeadTo (cs ++ c ∷ []) m words → LeadTo cs c.before (undone c.written words)
 LeadTo-front [] c m words h = tt
 LeadTo-front (d ∷ ds) c m words h =
@@ -55,7 +55,7 @@ LeadTo-snoc (d ∷ ds) c m words h f =
     rw (words_before-snoc ds c words, moment_before-snoc ds c m) h.0 in
     (fits, LeadTo-snoc ds c m words h.1 f)
 
--- a cursor behind a cycle goes back over it
+-- a cursor after a cycle goes back over it
 pub back-before : (p : List Cycle) (c : Cycle) (words : List ℕ) →
     states_before (p ++ c ∷ []) words ≡ states_before p (undone c.written words) ++ record { moment = c.before; words = undone c.written words } ∷ []
 back-before p c words = states_before-snoc p c words

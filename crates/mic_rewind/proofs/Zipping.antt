@@ -66,7 +66,7 @@ module _ (b : Buffer Cycle) (behind : ℕ) (m : Moment) (words : List ℕ) (c : 
       leads = subst (λ (cs : List Cycle). LeadFrom cs c.before (undone c.written words)) (sym future_is) (back-leads (future b behind) c m words fits_back h.leads);
     }
 
-  -- going on over the cycle behind the cursor
+  -- going on over the cycle after the cursor
   module _ (h : IsHistory b behind m words) (some : 0 < behind) (is : slice_get b.items (length b.items - behind) ≡ Some c) where
     future_was : future b behind ≡ c ∷ future b (behind - 1)
     future_was =

@@ -20,11 +20,11 @@ pub record RewindView (M : Type 0) : Type 0 where
 abbrev pub KeepsMemoryAndInput : BusView → BusView → Type 0
 KeepsMemoryAndInput bus bus' = (bus'.words ≡ bus.words) × (bus'.console.ended ≡ bus.console.ended)
 
--- where it fails, the bus stands for what it stood for, whatever the source may have left
+-- where a flush fails, the bus stands for what it stood for, whatever the source may have left
 abbrev pub StandsOnErr : {K : Type 0} → (K → Option (List ℕ)) → K → BusView → K → BusView → Result Unit BusFault → Type 0
 StandsOnErr held sink bus sink' bus' result = (left : Option (List ℕ)) → IfErr result (Stands left (held sink) bus left (held sink') bus')
 
--- the last of some states behind one
+-- the last of a state and those after it
 abbrev pub last_of : Snapshot → List Snapshot → Snapshot
 last_of s [] = s
 last_of s (t ∷ ts) = last_of t ts
@@ -41,7 +41,7 @@ abbrev pub HaveAddresses : List Snapshot → Type 0
 HaveAddresses [] = Unit {0}
 HaveAddresses (s ∷ ss) = HasAddress s × HaveAddresses ss
 
--- The cursor went on over a kept cycle, and its tick is answered: the board stays, with its source and its sink.
+-- The cursor went on over a kept cycle, and its tick is returned: the board stays, with its source and its sink.
 pub record MovesOn {S K M : Type 0} (source : S) (sink : K) (old : RewindView M) (source' : S) (sink' : K) (new : RewindView M) (answer : Tick) : Type 0 where
   pub went : GoesBack new.history old.history
   pub tick : answer ≡ tick_of old.history.here.moment.counts new.history.here.moment.counts None
@@ -71,7 +71,7 @@ module _ {M State : Type 0} (state : M → State) (m : Meaning State) where
     pub clocked : new.board.end ≡ None → new.history ≡ appended old.history (state_of new.board)
     pub ended : IsSome new.board.end → new.history ≡ old.history
 
-  -- The board made a turn, with the cursor at it: where that led, what the board answered, and what is kept of it.
+  -- The board made a turn, with the cursor at it: where that led, what the board returned, and what is kept of it.
   pub record ClocksOn {S K : Type 0} (left : S → Option (List ℕ)) (held : K → Option (List ℕ))
       (source : S) (sink : K) (old : RewindView M) (source' : S) (sink' : K) (new : RewindView M) (answer : Tick) : Type 0 where
     pub turn : IsTurned state m (left source) (held sink) old.board (left source') (held sink') new.board None
@@ -79,7 +79,7 @@ module _ {M State : Type 0} (state : M → State) (m : Meaning State) where
     pub tick : answer ≡ tick_of old.board.counts new.board.counts new.board.end
     pub keeps : Keeps old new
 
-  -- The newest state is where the board stands; behind an end, its memory. MPC is an address in each state.
+  -- The newest state is where the board stands; after an end, it has the board's memory. MPC is an address in each state.
   pub record IsRewind (board : BoardView M) (h : HistoryView) : Type 0 where
     pub words : (newest h).words ≡ board.bus.words
     pub moment : board.end ≡ None → (newest h).moment ≡ moment_of board

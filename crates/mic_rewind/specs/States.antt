@@ -42,7 +42,7 @@ abbrev pub stored : ℕ → Option ℕ → List ℕ → List ℕ
 stored at None words = words
 stored at (Some word) words = slice_set words at word
 
--- this moment, behind a cycle that left this word at MAR
+-- this moment, after a cycle that left this word at MAR
 abbrev pub snapshot_after : Moment → Option ℕ → List ℕ → Snapshot
 snapshot_after after word words = record { moment = after; words = stored after.registers.mar word words }
 

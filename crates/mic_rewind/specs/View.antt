@@ -36,7 +36,7 @@ appended h s = record { before = keep_last h.depth (h.before ++ h.here ∷ []); 
 abbrev pub WentOn : HistoryView → Snapshot → HistoryView → Type 0
 WentOn old s new = (0 < old.depth) × (old.after ≡ []) × (new ≡ appended old s)
 
--- How it is kept: the cycles up to the cursor, with so many of them after it.
+-- How it is kept: the cycles up to the cursor, with this many of them after it.
 abbrev pub past : Buffer Cycle → ℕ → List Cycle
 past b behind = take (length b.items - behind) b.items
 

@@ -92,7 +92,7 @@ impl History {
         &self.cycles.get(kept - 1).unwrap().after
     }
 
-    /// The memory word at the cursor, or none where no memory is.
+    /// The memory word at the cursor, or none where there is no memory.
     pub fn peek(&self, at: u32) -> Option<u32>
         ensures { result ≡ slice_get self.now.here.words at }
     {
@@ -114,7 +114,7 @@ impl History {
         begin_after(&mut self.first, dropped);
     }
 
-    /// Goes back over the kept cycle before the cursor; answers whether there was one.
+    /// Goes back over the kept cycle before the cursor, and returns whether there was one.
     pub fn back(&mut self) -> bool
         ensures went { result ≡ true → GoesBack self.old self.new }
         ensures stayed { result ≡ false → (self.old.before ≡ []) × (self.new ≡ self.old) }

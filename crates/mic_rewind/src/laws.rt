@@ -12,7 +12,8 @@ pub fn kept_states_are_of_the_run<M: Clocked>(_machine: &M)
     ensures { KeepsStatesOfRuns M.state M.meaning }
 {}
 
-/// A step back after a step forward that moved or clocked restores all that is seen at the cursor, and a step forward after such a step back restores it too.
+/// A step back after a step forward, which moved or clocked, restores all that is seen at the cursor. A step forward
+/// after such a step back restores it too.
 pub fn going_back_restores()
     ensures moved { (a b c : HistoryView) → GoesBack b a → GoesBack b c → c ≡ a }
     ensures clocked { (a b c : HistoryView) (s : Snapshot) → WentOn a s b → GoesBack b c → c.here ≡ a.here }

@@ -23,7 +23,7 @@ pub fn undo(memory: &mut Vec<u32>, written: Option<WrittenWord>)
     }
 }
 
-/// Writes once more what a cycle wrote.
+/// Writes again what a cycle wrote.
 pub fn redo(memory: &mut Vec<u32>, written: Option<WrittenWord>)
     ensures { memory.new.items ≡ redone written memory.old.items }
 {
@@ -32,7 +32,7 @@ pub fn redo(memory: &mut Vec<u32>, written: Option<WrittenWord>)
     }
 }
 
-/// Stores the word that a cycle left at an address, where there is one, and says what that wrote.
+/// Stores the word that a cycle left at an address, where there is one, and returns what that wrote.
 pub fn take_over(memory: &mut Vec<u32>, at: u32, word: Option<u32>) -> Option<WrittenWord>
     ensures words { memory.new.items ≡ stored at word memory.old.items }
     ensures undoes { undone result memory.new.items ≡ memory.old.items }

@@ -1,4 +1,4 @@
-//! Where a machine stands between two cycles, beside its memory.
+//! Where a machine stands between two cycles, apart from its memory.
 
 use mic_clock::{Counts, Registers};
 

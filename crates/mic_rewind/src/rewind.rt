@@ -33,7 +33,7 @@ impl<M: Clocked> Model for Rewind<M> {
     ghost invariant = { λ r. IsRewind M.state M.meaning r.board r.history };
 }
 
-/// Where a board stands, beside its memory.
+/// Where a board stands, apart from its memory.
 fn moment_of<M: Clocked>(board: &Board<M>) -> Moment
     ensures value { result ≡ moment_of M.state M.meaning board.now }
     ensures mpc { result.registers.mpc < 512 }
@@ -97,7 +97,7 @@ impl<M: Clocked> Rewind<M> {
         tick
     }
 
-    /// Goes back over the kept cycle before the cursor; answers whether there was one.
+    /// Goes back over the kept cycle before the cursor, and returns whether there was one.
     pub fn back(&mut self) -> bool
         ensures went { result ≡ true → GoesBack self.old.history self.new.history × (self.new.board ≡ self.old.board) }
         ensures stayed { result ≡ false → (self.old.history.before ≡ []) × (self.new ≡ self.old) }
@@ -142,7 +142,7 @@ impl<M: Clocked> Rewind<M> {
         self.history.here().counts
     }
 
-    /// The memory word at the cursor, or none where no memory is.
+    /// The memory word at the cursor, or none where there is no memory.
     pub fn peek(&self, at: u32) -> Option<u32>
         ensures { result ≡ slice_get self.now.history.here.words at }
     {

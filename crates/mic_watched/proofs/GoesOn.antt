@@ -81,7 +81,7 @@ module _ {S K M : Type 0} {left : S → Option (List ℕ)} {source_faults : S �
           cause = cause_step _ _ _ _ _ _ board0.end board.end board'.end running not_ended first.cause next.cause;
         }
 
-    -- it has this end
+    -- the board has this end
     pub goes-until : (end : Option End) → board.end ≡ end → GoesOn left source_faults held passed sink_faults source0 sink0 board0 source sink (record board { end = end })
     goes-until end is = subst (λ (e : Option End). GoesOn left source_faults held passed sink_faults source0 sink0 board0 source sink (record board { end = e })) is first
 

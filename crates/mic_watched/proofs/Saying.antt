@@ -1,4 +1,4 @@
--- What a watcher says of cycles one after the other.
+-- The texts of a watcher for cycles one after the other.
 use Rattle.std.proofs.Common.{◌≡◌, ℕ, ◌+◌, List, [], ◌∷◌, ◌++◌, length, take, ap, sym, ◌∙◌, append_assoc, refl, subst, Result, Ok, Err, Option, Some, None}
 use Rattle.std.specs.Option.{option_map}
 use Rattle.std.proofs.Math.Seq.{take-append-add}
@@ -8,7 +8,7 @@ use Rattle.mic_base.specs.Causes.{HasCause}
 use Rattle.mic_watched.specs.declared.cycle.Cycle.{Cycle}
 use Rattle.mic_watched.specs.Watched.{kept_of, PrintsOf, Saw}
 
--- what is put behind a text that was put
+-- a text that is put after another
 puts_then : {E : Type 0} (old mid new : Option (List ℕ)) (p q : List ℕ) (result : Result Unit E) →
     mid ≡ option_map (λ held. held ++ p) old → Puts mid q result new → Puts old (p ++ q) result new
 puts_then None mid new p q (Ok done) e h = h ∙ ap (option_map (λ (held : List ℕ). held ++ q)) e
@@ -35,7 +35,7 @@ module _ {Kept : Type 0} (keeps : Kept → Cycle → Kept) (Prints : Kept → Cy
   says-append k (c ∷ cs) ds p q first next =
       (first.0, first.1 ++ q, first.2, says-append (keeps k c) cs ds first.1 q first.3 next, ap (λ (x : List ℕ). x ++ q) first.4 ∙ append_assoc first.0 first.1 q)
 
-  -- cycles that were seen, and more behind them
+  -- cycles that were seen, and more after them
   pub saw-then : {E : Type 0} (k k' k'' : Kept) (err err' err'' : Option (List ℕ)) (cs ds : List Cycle) (result : Result Unit E) →
       Saw keeps Prints {E = E} k k' err err' cs (Ok tt) → Saw keeps Prints k' k'' err' err'' ds result → Saw keeps Prints k k'' err err'' (cs ++ ds) result
   saw-then k k' k'' err err' err'' cs ds result first next =
@@ -46,7 +46,7 @@ module _ {Kept : Type 0} (keeps : Kept → Cycle → Kept) (Prints : Kept → Cy
         said = puts_then err err' err'' first.text next.text result first.said next.said;
       }
 
-  -- nothing yet
+  -- no cycle yet
   pub saw-nothing : {E : Type 0} (k : Kept) (err : Option (List ℕ)) → Saw keeps Prints {E = E} k k err err [] (Ok tt)
   saw-nothing k err = record { kept = refl; text = []; says = refl; said = puts_nothing err }
 

@@ -89,7 +89,7 @@ module _ {M State : Type 0} (state : M → State) (m : Meaning State) (bound : �
               ),
         )
 
-    -- one turn, by what a board says of it
+    -- one turn, by the relations that a board keeps
     pub one-turn : (mpc : ℕ) → mpc ≡ (m.registers (state board.machine)).mpc → last_cycles board.counts.boundary ≤ board.counts.cycles → board.end ≡ None →
         IsCountedTurn state m board board' →
         IsTurned state m left held board left' held' board' (Some bound) →
@@ -169,7 +169,7 @@ last_lost (Some h) held' kept kept' given some lost told = subst (λ o. LosesLas
 module _ {M State : Type 0} (state : M → State) (m : Meaning State) (bound : ℕ) (left0 held0 : Option (List ℕ)) (board0 : BoardView M)
     (left held : Option (List ℕ)) (board : BoardView M) (held' : Option (List ℕ)) (board' : BoardView M) (cs : List Cycle)
     (same : board' ≡ record board { bus = board'.bus }) (input : board'.bus.console.ended ≡ board.bus.console.ended) where
-  -- a flush behind the last turn leads nowhere else
+  -- a flush after the last turn leads nowhere else
   over_flush : (H H' : MicroRun State → Type 0) → ((r : MicroRun State) → H r → H' r) →
       LeadsOver state m bound left0 held0 board0 left held board cs H → LeadsOver state m bound left0 held0 board0 left held' board' cs H'
   over_flush H H' f led rest fits =
@@ -181,7 +181,7 @@ module _ {M State : Type 0} (state : M → State) (m : Meaning State) (bound : �
             (at.0, at.1, record { here = f (turns m board0.store.words (Some bound) at.0 r) at.2.here; untaken = at.2.untaken; buses = ap (λ (b : BoardView M). b.buses) same ∙ at.2.buses }),
       )
 
-  -- where it is done
+  -- where the flush is done
   pub flush-done : ShowsAs state held board held' board' (λ r. r) → (kept : board.bus.console.kept ≡ [] → (board' ≡ board) × (held' ≡ held)) →
       (board.end ≡ Some ends.ReadFault → board.bus.console.kept ≡ []) → (board.end ≡ Some ends.WriteFault → board.bus.console.kept ≡ []) →
       ShowsCycles state m bound left0 held0 board0 left held board cs board.end → ShowsCycles state m bound left0 held0 board0 left held' board' cs board.end
@@ -196,7 +196,7 @@ module _ {M State : Type 0} (state : M → State) (m : Meaning State) (bound : �
         write = λ p. (unchanged (empty_write p)).write p;
       }
 
-  -- where it fails, it cuts the ended run
+  -- where the flush fails, it cuts the ended run
   pub flush-lost : IsSome board.end → board.bus.console.kept ≢ [] → NoFault None board.end → board'.bus.words ≡ board.bus.words → IsLost held board.bus.console.kept held' board'.bus.console.kept →
       ShowsCycles state m bound left0 held0 board0 left held board cs board.end → ShowsCycles state m bound left0 held0 board0 left held' board' cs (Some ends.WriteFault)
   flush-lost over some plain memory lost first =
@@ -219,7 +219,7 @@ module _ {M State : Type 0} (state : M → State) (m : Meaning State) (bound : �
             }) (first.run plain);
       }
 
--- a run that no fault ended, or one did
+-- a run that ended by neither fault had no fault
 pub no_fault : (end : Option End) → end ≢ Some ends.ReadFault → end ≢ Some ends.WriteFault → NoFault None end
 no_fault None read write = tt
 no_fault (Some ends.ReadFault) read write = absurd (read refl)

@@ -28,7 +28,7 @@ module _ {State : Type 0} (m : Meaning State) (words : List ℕ) (bound : Option
   turns-plus zero k r = ap (λ (x : ℕ). turns m words bound x r) (zero-add k)
   turns-plus (suc n) k r = ap (λ (x : ℕ). turns m words bound x r) (suc-add n k) ∙ turns-plus n k (turn m words (bounded m bound r))
 
-  -- the turn behind n + k turns
+  -- the turn after n + k turns
   last_turn : (n k : ℕ) (r : MicroRun State) → turns m words bound (suc (n + k)) r ≡ turns m words bound (suc k) (turns m words bound n r)
   last_turn n k r = ap (λ (x : ℕ). turns m words bound x r) (sym (add-suc n k)) ∙ turns-plus n (suc k) r
 
@@ -46,13 +46,13 @@ module _ {State : Type 0} (m : Meaning State) (words : List ℕ) (bound : Option
       ∙ append_assoc (cycles_of m words bound n r) (cycles_of m words bound k (turns m words bound n r))
       (shown m words (turns m words bound k (turns m words bound n r)) (turns m words bound (suc k) (turns m words bound n r))))
 
--- each cycle counts
+-- a clocked cycle is counted as one
 
 counted_cycles : (b : Bool) (c : Counts) (stalled : Bool) (at : ℕ) (r : Registers) → (if b then counts_at c stalled at r else counts_between c stalled).cycles ≡ c.cycles + 1
 counted_cycles true c stalled at r = refl
 counted_cycles false c stalled at r = refl
 
--- as many cycles are shown as the counts have more
+-- as many cycles are shown as were counted
 abbrev Counted : {State : Type 0} → MicroRun State → MicroRun State → Type 0
 Counted r q = (c : Cycle) → length (shown_where q.end c) + r.counts.cycles ≡ q.counts.cycles
 
@@ -108,7 +108,7 @@ module _ {State : Type 0} (m : Meaning State) (words : List ℕ) where
       let all = counts_of bound k r in
       nil_from_length (cycles_of m words bound k r) (omega (arith, all, same))
 
--- the boundary that a counted cycle reached is told by the counts
+-- the counts show the boundary that a counted cycle reached
 at_none : (b : Option Boundary) (cycles : ℕ) → last_cycles b ≤ cycles → boundary_at b (cycles + 1) ≡ None
 at_none None cycles h = refl
 at_none (Some b) cycles h =

@@ -18,7 +18,7 @@ module _ {State : Type 0} (m : Meaning State) (words : List ℕ) where
   abbrev pub boundary_of : State → Option ℕ
   boundary_of s = if m.is_boundary s then Some (m.address s) else None
 
-  -- the cycle that led from one state to another, with these counts behind it
+  -- the cycle that led from one state to another, with these counts after it
   abbrev pub cycle_between : State → State → Counts → Cycle
   cycle_between s s' counts =
       record {
@@ -33,12 +33,12 @@ module _ {State : Type 0} (m : Meaning State) (words : List ℕ) where
   abbrev pub shown : MicroRun State → MicroRun State → List Cycle
   shown r q = shown_where q.end (cycle_between r.state q.state q.counts)
 
-  -- the cycles of so many turns, each with the test of the bound before it where one is tested
+  -- the cycles of this many turns, each with the test of the bound before it where one is tested
   abbrev pub cycles_of : Option ℕ → ℕ → MicroRun State → List Cycle
   cycles_of bound zero r = []
   cycles_of bound (suc n) r = cycles_of bound n r ++ shown (turns m words bound n r) (turns m words bound (suc n) r)
 
--- the address of the last boundary, where no cycle was clocked behind it
+-- the address of the last boundary, where no cycle was clocked after it
 abbrev pub boundary_at : Option Boundary → ℕ → Option ℕ
 boundary_at None cycles = None
 boundary_at (Some b) cycles = if b.cycles == cycles then Some b.at else None
@@ -58,6 +58,6 @@ cycle_on state m mpc board =
       boundary = boundary_in board.counts;
     }
 
--- that cycle, where it did not end the board
+-- the last cycle of a board, where it did not end the board
 abbrev pub shown_on : {M State : Type 0} → (M → State) → Meaning State → ℕ → BoardView M → List Cycle
 shown_on state m mpc board = shown_where board.end (cycle_on state m mpc board)

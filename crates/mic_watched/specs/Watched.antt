@@ -10,7 +10,7 @@ use Rattle.mic_clock.specs.Board.{ShowsRun, IsLedTo, IsCutAt, IsCutByRead, Leads
 use Rattle.mic_watched.specs.declared.cycle.Cycle.{Cycle}
 use Rattle.mic_watched.specs.Cycles.{cycles_of}
 
--- a watcher that keeps this has nothing to do with cycles that reach a boundary, or with those that do not
+-- a watcher that keeps this ignores the cycles that reach a boundary, or those that do not
 abbrev pub Ignores : {Kept : Type 0} → (Kept → Cycle → Kept) → (Kept → Cycle → List ℕ → Type 0) → Kept → Bool → Type 0
 Ignores keeps Prints k boundary = (cycle : Cycle) → is_some cycle.boundary ≡ boundary → (keeps k cycle ≡ k) × Prints k cycle []
 
@@ -46,12 +46,12 @@ module _ {Kept : Type 0} (keeps : Kept → Cycle → Kept) (Prints : Kept → Cy
   kept_of k [] = k
   kept_of k (c ∷ cs) = kept_of (keeps k c) cs
 
-  -- it says this of them: the texts of the cycles one after the other
+  -- what it prints of them: the texts of the cycles one after the other
   abbrev pub PrintsOf : Kept → List Cycle → List ℕ → Type 0
   PrintsOf k [] text = text ≡ []
   PrintsOf k (c ∷ cs) text = (first rest : List ℕ) × Prints k c first × PrintsOf (keeps k c) cs rest × (text ≡ first ++ rest)
 
-  -- A watcher saw these cycles. Where `err` failed, it has a front of what was said.
+  -- A watcher saw these cycles. Where `err` failed, it has a front of their texts.
   pub record Saw {E : Type 0} (k k' : Kept) (err err' : Option (List ℕ)) (cs : List Cycle) (result : Result Unit E) : Type 0 where
     pub kept : k' ≡ kept_of k cs
     pub text : List ℕ

@@ -14,9 +14,9 @@ pub struct Cycle {
     pub drive: Drive,
     /// What left the ALU and the shifter.
     pub computed: Computed,
-    /// The counts behind its edge.
+    /// The counts after its edge.
     pub counts: Counts,
-    /// The registers behind its edge.
+    /// The registers after its edge.
     pub registers: Registers,
     /// The byte address of the instruction whose boundary it reached.
     pub boundary: Option<u32>,

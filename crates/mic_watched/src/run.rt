@@ -65,7 +65,8 @@ fn watch_turns<M: Clocked, W: Watcher, S: Source, K: Sink, E: Sink>(
     Ok(())
 }
 
-/// Clocks a board to its end, or until `err` fails, and shows a watcher each cycle. Then the console is flushed, which where it fails is a write fault.
+/// Clocks a board to its end, or until `err` fails, and shows a watcher each cycle. Then it flushes the console. Where
+/// that fails, the end is a write fault.
 pub fn run_watched<M: Clocked, W: Watcher, S: Source, K: Sink, E: Sink>(
     board: &mut Board<M>,
     bound: u64,

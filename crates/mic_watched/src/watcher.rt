@@ -8,19 +8,19 @@ ghost use Rattle.mic_watched.specs.Watched.{Ignores, PutsSome};
 use crate::cycle::Cycle;
 use mic_base::{Sink, SinkFailed};
 
-/// Sees one cycle after the other, keeps of them what it will, and says of each what it will on `err`.
+/// Sees one cycle after the other. It may keep something of each, and print something of it on `err`.
 pub trait Watcher {
     /// What it keeps.
     ghost Kept: { Type 0 };
 
     ghost kept: { Self → Kept };
 
-    /// What it keeps after a cycle, and the texts that it may say of it.
+    /// What it keeps after a cycle, and the texts that it may print of it.
     ghost keeps: { Kept → Cycle → Kept };
 
     ghost Prints: { Kept → Cycle → List ℕ → Type 0 };
 
-    /// Whether it has anything to do with cycles that reach a boundary, or with those that do not.
+    /// Whether it needs to see cycles that reach a boundary, or those that do not.
     fn wants(&self, boundary: bool) -> bool
         ensures { result ≡ false → Ignores keeps Prints (kept self.now) boundary }
     {

@@ -30,7 +30,7 @@ valid machine p h =
 is_valid_by : (machine : Machine) (p : Placed) → Valid machine p → IsTrue (is_valid machine p)
 is_valid_by machine p v = join _ _ (join _ _ (join _ _ (join _ _ (join _ _ (join _ _ v.dests v.op) v.a) v.b) v.apart) v.fetch) v.next
 
--- what the fields of a canonical word meet
+-- the conditions on the fields of a canonical word
 record Conditions (machine : Machine) (f : Fields) : Type 0 where
   is_a_row : IsTrue (is_row machine f.gates)
   shift : IsTrue (is_one_at_most f.shift)
@@ -160,7 +160,7 @@ named_valid machine f fit c =
       next = (target_back f.jam f.addr fit.in_jam fit.in_addr c.target).valid;
     })
 
--- they are its codes
+-- such fields are the codes of the statement that they name
 codes-named : (machine : Machine) (f : Fields) → Fitting machine f → Conditions machine f → codes machine (named machine f) ≡ f
 codes-named machine f fit c =
     let op : AluOp = op_of f.gates in

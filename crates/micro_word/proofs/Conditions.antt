@@ -25,7 +25,7 @@ found_at : {X : Type 0} (p : X → Bool) (y x : X) (rest : Option X) (b : Bool) 
 found_at p y x rest true e h later = let same : y ≡ x = cc in ap p (sym same) ∙ e
 found_at p y x rest false e h later = later h
 
--- what is found passes
+-- what a search finds passes its test
 pub found : {X : Type 0} (p : X → Bool) (xs : List X) (x : X) → find p xs ≡ Some x → IsTrue (p x)
 found p [] x h = cc
 found p (y ∷ ys) x h = found_at p y x (find p ys) (p y) refl h (found p ys x)

@@ -1,4 +1,4 @@
--- The codes of the parts, there and back.
+-- The code of each part, decoded, is that part again.
 use Rattle.std.proofs.Common.{◌≡◌, ℕ, zero, suc, ◌<◌, Bool, true, false, is_some, ◌||◌, ◌==◌, nat_lt, if◌then◌else◌, Option, Some, None, unwrap_or, IsTrue, refl, sym, ap, ◌∙◌, subst, arith}
 use Rattle.std.proofs.lemmas.Bool.Decides.{nat_tests}
 use Rattle.micro_word.proofs.Conditions.{both, equal, below, above, found}
@@ -172,7 +172,7 @@ side-lt Mic1 false code h = grind (arith, nat_tests)
 side-lt Mic2 true code h = grind (arith, nat_tests)
 side-lt Mic2 false code h = grind (arith, nat_tests)
 
--- each code below that for nothing is a source's
+-- each code below the code for nothing is a source's
 code_found : (machine : Machine) (code : ℕ) → code < idle_code machine → IsTrue (is_some (source_of machine code))
 code_found Mic1 zero h = refl
 code_found Mic1 (suc zero) h = refl
@@ -202,7 +202,7 @@ coded_by : (machine : Machine) (code : ℕ) (o : Option ℕ) → IsTrue (is_code
 coded_by machine code None h = cc
 coded_by machine code (Some other) h = sym (equal _ _ h)
 
--- what a code below that for nothing names
+-- what a code below the code for nothing names
 record Named (machine : Machine) (code : ℕ) (o : Option BusSource) : Type 0 where
   its_code : bus_code machine o ≡ code
   may_stand : IsTrue (fits_side true (may_be_b machine) o)

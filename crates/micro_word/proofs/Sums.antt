@@ -6,7 +6,7 @@ use Rattle.mic_words.specs.declared.machine.Machine.{Machine}
 use Rattle.mic_words.specs.declared.machine.Machine.TheVariants.{Mic1, Mic2}
 use Rattle.micro_word.specs.declared.layout.Fields.{Fields}
 
--- where a machine's word has no such field, 0 alone fits
+-- where a machine's word has no such field, only 0 fits
 abbrev pub fetch_end : Machine → ℕ
 fetch_end Mic1 = 2
 fetch_end Mic2 = 1

@@ -19,14 +19,14 @@ use Rattle.micro_word.specs.declared.operation.OperationRow.{OperationRow}
 use Rattle.micro_word.specs.declared.layout.Fields.{Fields}
 use Rattle.micro_word.specs.Layout.{word_with, fields_of}
 
--- a statement without parts: it computes 0 and keeps it nowhere
+-- a statement without parts: it computes 0 and stores it nowhere
 abbrev pub idle : Part
 idle = record { dests = 0; op = ops.Zero; a = None; b = None; shift = shifts.None; mem = mems.None; fetch = false }
 
 abbrev pub entry : ℕ → Bool → Bool → OperationRow
 entry gates uses_a uses_b = record { gates = gates; uses_a = uses_a; uses_b = uses_b }
 
--- the table of operations: the gates, whether it uses side A, whether it uses side B; behind it what it gives
+-- the table of operations: the gates, whether it uses side A and side B, and as a comment what it gives
 abbrev pub row : AluOp → OperationRow
 -- operation   F0 F1 ENA ENB INVA INC   uses A   uses B   gives
 row ops.A = entry 0b011000 true false  -- A

@@ -13,7 +13,7 @@ pub record ControlStore : Type 0 where
 abbrev pub AreCanonical : Machine → List ℕ → Type 0
 AreCanonical machine words = (address : ℕ) → address < 512 → IsTrue (is_canonical machine (slice_index words address))
 
--- beside each word its lines
+-- each word's lines stand at its address
 abbrev pub AreDecoded : Machine → List ℕ → List Lines → Type 0
 AreDecoded machine words lines = (address : ℕ) → address < 512 → (d : Lines) →
     AreLines machine (fields_of machine (slice_index words address)) (get_or lines address d)

@@ -8,7 +8,7 @@ use Rattle.micro_word.specs.declared.statement.BusSource.{BusSource}
 use Rattle.micro_word.specs.declared.statement.BusSource.TheVariants as bus
 use Rattle.micro_word.specs.Coding.{op_of, a_of, source_of}
 
--- The registers stand at the places of their bits in the field C, and behind them the fetched bytes: with and without their sign, one and two.
+-- The registers stand at the places of their bits in the field C, and after them the fetched bytes: with and without their sign, one and two.
 abbrev pub place_of : BusSource → ℕ
 place_of bus.Mdr = 1
 place_of bus.Pc = 2
@@ -38,7 +38,7 @@ names c place = c / 2 ^ place % 2 == 1
 abbrev pub on_each_bit : Bool → ℕ
 on_each_bit on = if on then 0xFFFFFFFF else 0
 
--- the place of a destination, or the place that nothing reads
+-- the place of a destination, or NOWHERE
 abbrev pub IsSlot : ℕ → ℕ → Type 0
 IsSlot c place = place ≢ NOWHERE → (place < 9) × (names c place ≡ true)
 

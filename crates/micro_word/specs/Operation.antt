@@ -6,7 +6,7 @@ use Rattle.micro_word.specs.declared.statement.AluOp.TheVariants as ops
 use Rattle.micro_word.specs.declared.statement.Shift.{Shift}
 use Rattle.micro_word.specs.declared.statement.Shift.TheVariants as shifts
 
--- what an operation gives of the words on its sides A and B
+-- an operation's result for the words on its sides A and B
 abbrev pub alu : AluOp → ℕ → ℕ → ℕ
 alu ops.A a b = a
 alu ops.B a b = b
@@ -25,7 +25,7 @@ alu ops.Zero a b = 0
 alu ops.One a b = 1
 alu ops.MinusOne a b = 4294967295
 
--- what the shifter gives
+-- the shifter's result
 abbrev pub shifted : Shift → ℕ → ℕ
 shifted shifts.None x = x
 shifted shifts.Left8 x = wrap (256 * x)

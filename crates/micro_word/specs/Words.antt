@@ -54,7 +54,7 @@ is_pair _ = false
 abbrev pub is_mixed : Option BusSource → Option BusSource → Bool
 is_mixed a b = (is_byte a && is_pair b) || (is_pair a && is_byte b)
 
--- a fetch stands on Mic-1 alone
+-- only Mic-1 has a fetch
 abbrev pub may_fetch : Machine → Bool → Bool
 may_fetch Mic1 fetch = true
 may_fetch Mic2 fetch = not fetch
@@ -73,7 +73,7 @@ is_next (nexts.Branch test low) = nat_lt low 256
 abbrev pub is_valid : Machine → Placed → Bool
 is_valid machine p = is_part machine p.part && is_next p.next
 
--- the same, condition by condition
+-- a statement that has a word on the machine, condition by condition
 pub record Valid (machine : Machine) (p : Placed) : Type 0 where
   pub dests : IsTrue (nat_lt p.part.dests 512)
   pub op : IsTrue (has_operation machine p.part.op)
@@ -87,9 +87,9 @@ pub record Valid (machine : Machine) (p : Placed) : Type 0 where
 abbrev pub IsCanonical : Machine → ℕ → Type 0
 IsCanonical machine word = (p : Placed) × IsTrue (is_valid machine p) × (microword_of machine p ≡ word)
 
--- The same, told by the fields.
+-- The same conditions on the fields of a word.
 
--- the six bits are a row of the table, on Mic-2 none of those that it does not use
+-- the six bits are a row of the table that the machine uses
 abbrev pub is_row : Machine → ℕ → Bool
 is_row machine gates = is_some (operation_of_gates gates) && has_operation machine (op_of gates)
 

@@ -1,4 +1,4 @@
-//! The fields of a word one by one, for those who need few of them.
+//! The fields of a word one by one, for callers that need few of them.
 ghost use Rattle.std.specs.Prelude.{◌≡◌, ◌<◌, ◌==◌};
 ghost use Rattle.micro_word.specs.Layout.{fields_of};
 

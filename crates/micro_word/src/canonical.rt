@@ -1,4 +1,4 @@
-//! Which numbers are words of statements, told by their fields.
+//! Which numbers are words of statements, tested by their fields.
 ghost use Rattle.std.specs.Prelude.{◌≡◌};
 ghost use Rattle.micro_word.specs.Words.{is_row, is_side, is_side_a, are_apart, is_target, are_canonical};
 

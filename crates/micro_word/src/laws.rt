@@ -1,4 +1,4 @@
-//! What the coding promises of all statements and of all numbers, for those who prove something above it.
+//! What the coding promises of all statements and of all numbers, for proofs in the crates above it.
 ghost use Rattle.std.specs.Prelude.{◌≡◌, ◌↔◌, ℕ, IsTrue};
 ghost use Rattle.micro_word.specs.declared.statement.Placed.{Placed};
 ghost use Rattle.micro_word.specs.Coding.{microword_of, statement_of};
@@ -13,7 +13,8 @@ pub fn statement_law(_machine: Machine)
     ensures statement { (p : Placed) → IsTrue (is_valid _machine p) → statement_of _machine (microword_of _machine p) ≡ p }
 {}
 
-/// The test for a canonical number tells the words of valid statements, and each is spelled by its fields.
+/// A number passes the test for a canonical word just where it is the word of a valid statement. Its fields then name
+/// that statement.
 pub fn word_law(_machine: Machine)
     ensures canonical { (w : ℕ) → IsTrue (is_canonical _machine w) ↔ IsCanonical _machine w }
     ensures spells { (w : ℕ) → IsTrue (is_canonical _machine w) → SpellsWord _machine w (statement_of _machine w) }

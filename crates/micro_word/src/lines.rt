@@ -27,14 +27,14 @@ pub struct Lines {
     /// The places of two destinations.
     pub first: u8,
     pub second: u8,
-    /// The first place at which a third one stands, or 9.
+    /// The place of a third destination, or 9.
     pub further: u8,
     /// How many bytes of its queue Mic-2 takes for the word: those of its operands, and one more for a dispatch.
     pub takes: u8,
 }
 
 impl BusSource {
-    /// Its place: the registers stand by their bits of the field C, and behind them the fetched bytes.
+    /// Its place: the registers stand at the places of their bits in the field C, and after them the fetched bytes.
     pub const fn place(self) -> u8
         ensures place { result ≡ place_of self }
         ensures within { result < 16 }

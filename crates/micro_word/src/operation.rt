@@ -4,7 +4,7 @@ ghost use Rattle.micro_word.specs.Coding.{row, operation_of_gates, op_of};
 
 use crate::statement::AluOp;
 
-/// What the table says of an operation.
+/// An operation's row of the table.
 #[derive(Clone, Copy, Debug, PartialEq, Eq)]
 pub struct OperationRow {
     /// F0 F1 ENA ENB INVA INC
@@ -50,7 +50,7 @@ impl AluOp {
         AluOp::MinusOne,
     ];
 
-    /// The table of operations: the gates, whether it uses side A, whether it uses side B; behind it what it gives.
+    /// The table of operations: the gates, whether it uses side A and side B, and as a comment what it gives.
     pub fn row(self) -> OperationRow
         ensures { result ≡ row self }
     {

@@ -73,7 +73,7 @@ pub struct Part {
 }
 
 impl Part {
-    /// Of a statement without parts: it computes 0 and keeps it nowhere.
+    /// A statement without parts: it computes 0 and stores it nowhere.
     pub const IDLE: Part = Part {
         dests: 0,
         op: AluOp::Zero,

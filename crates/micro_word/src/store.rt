@@ -104,7 +104,7 @@ impl Store {
         self.lines[address as usize]
     }
 
-    /// The same, where they stand.
+    /// The control lines of the word there, by reference.
     #[inline]
     pub fn lines_at(&self, address: u16) -> &Lines
         requires { address < 512 }

@@ -41,7 +41,7 @@ Apart-filter_map R S h gives (x ∷ xs) apart =
       | Some w ↦ λ e. (λ y among. let r = among-filter_map h xs y among in gives x r.0 w y (apart.0 r.0 r.1) e r.2, Apart-filter_map R S h gives xs apart.1)
     ] refl
 
--- over the elements of the list alone
+-- only over the elements of the list
 pub Apart-map : {X Y : Type 0} (R : X → X → Type 0) (S : Y → Y → Type 0) (f : X → Y) (xs : List X) → ((x z : X) → Among x xs → Among z xs → R x z → S (f x) (f z)) → Apart R xs → Apart S (map f xs)
 Apart-map R S f [] gives apart = tt
 Apart-map {X} {Y} R S f (x ∷ xs) gives apart = (

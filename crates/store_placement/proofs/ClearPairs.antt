@@ -41,7 +41,7 @@ same_pair_is p q h = pair_is p q (eqb-true p.yes q.yes (and_parts _ _ h).0) (eqb
 no_clash : {fixed : List (Option ℕ)} {pairs : List Pair} → AreClear fixed pairs → (s : ℕ) (p : Pair) → Among p pairs → stands_in s p ≡ true → clashes pairs s ≡ false
 no_clash {fixed} {pairs} c s p among stands = c.clear s (stands_below (length fixed) s p (of_statements c.within p among) stands)
 
--- a statement stands in one pair at most
+-- a statement stands in at most one pair
 pub one_pair : {fixed : List (Option ℕ)} {pairs : List Pair} → AreClear fixed pairs → (s : ℕ) (p q : Pair) → Among p pairs → Among q pairs → stands_in s p ≡ true → stands_in s q ≡ true → p ≡ q
 unfolding clashes stands_twice
 one_pair {fixed} {pairs} c s p q in_p in_q stands_p stands_q =
@@ -50,7 +50,7 @@ one_pair {fixed} {pairs} c s p q in_p in_q stands_p stands_q =
     let beside = right_false (stands_in s p) (stands_beside pairs s p) (none_of (λ r. stands_in s r && stands_beside pairs s r) pairs p twice in_p) stands_p in
     same_pair_is p q (not-false (same_pair p q) (right_false (stands_in s q) (not (same_pair p q)) (none_of (λ r. stands_in s r && not (same_pair p r)) pairs q beside in_q) stands_q))
 
--- and in one role
+-- a statement stands in at most one role
 pub one_role : {fixed : List (Option ℕ)} {pairs : List Pair} → AreClear fixed pairs → (p q : Pair) → Among p pairs → Among q pairs → p.yes ≡ q.no → ⊥
 unfolding clashes
 one_role {fixed} {pairs} c p q in_p in_q same =
@@ -61,7 +61,7 @@ one_role {fixed} {pairs} c p q in_p in_q same =
     let both = and_from (is_true_target pairs p.yes) (is_false_target pairs p.yes) is_high is_low in
     let wrong : true ≡ false = sym both ∙ roles in cc
 
--- and none is fixed in the wrong half
+-- the pairs are clear, and no statement is fixed in the wrong half
 pub record AreHalved (fixed : List (Option ℕ)) (pairs : List Pair) : Type 0 where
   pub clear : AreClear fixed pairs
   pub halved : Never (in_wrong_half fixed pairs) (length fixed)

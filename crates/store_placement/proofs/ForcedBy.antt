@@ -10,7 +10,7 @@ use Rattle.store_placement.specs.Forced.{given_by, given, forced}
 use Rattle.store_placement.proofs.Among.{Among}
 use Rattle.store_placement.proofs.ClearPairs.{AreClear, stands_cases, one_pair, one_role}
 
--- its own address, or one 256 above or below its partner's
+-- a statement is forced to its own address, or to one 256 above or below its partner's
 pub data IsForcedBy (fixed : List (Option ℕ)) (pairs : List Pair) (s a : ℕ) : Type 0 where
   Own : fixed_at fixed s ≡ Some a → IsForcedBy fixed pairs s a
   Above : (p : Pair) (b : ℕ) → fixed_at fixed s ≡ None → Among p pairs → p.yes ≡ s → fixed_at fixed p.no ≡ Some b → a ≡ b + 256 → IsForcedBy fixed pairs s a

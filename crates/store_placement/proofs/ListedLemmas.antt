@@ -1,4 +1,4 @@
--- A list that computing tells to be the chosen placement is it, and no other list is.
+-- A list that passes the computed test `IsListed` is the chosen placement, and no other list is.
 use Rattle.std.proofs.Common.{◌≡◌, ◌≢◌, ℕ, ◌+◌, ◌<◌, Bool, true, false, not, List, [], ◌∷◌, Option, Some, None, length, zero, suc, eqb, refl, sym, ap, ◌∙◌, inl, inr, arith}
 use Rattle.std.specs.Prelude.{slice_index, nat_lt}
 use Rattle.std.specs.List.{list_any, list_all}

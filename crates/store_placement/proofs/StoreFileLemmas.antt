@@ -53,7 +53,7 @@ rows (w ∷ words) bytes k size small are =
 one_word : (w v : ℕ) → w < 2 ^ 40 → v < 2 ^ 40 → w / 2 ^ 32 % 256 ≡ v / 2 ^ 32 % 256 → w / 2 ^ 24 % 256 ≡ v / 2 ^ 24 % 256 → w / 2 ^ 16 % 256 ≡ v / 2 ^ 16 % 256 → w / 2 ^ 8 % 256 ≡ v / 2 ^ 8 % 256 → w % 256 ≡ v % 256 → w ≡ v
 one_word w v in_w in_v a b c d e = omega arith
 
--- short words are told apart by their bytes
+-- short words with the same bytes are the same
 pub flat_same : (ws vs : List ℕ) → length ws ≡ length vs → ((a : ℕ) → a < length ws → slice_index ws a < 2 ^ 40) → ((a : ℕ) → a < length vs → slice_index vs a < 2 ^ 40) → flat_map word_bytes ws ≡ flat_map word_bytes vs → ws ≡ vs
 flat_same [] [] size in_ws in_vs e = refl
 flat_same [] (v ∷ vs) size in_ws in_vs e = absurd (omega arith)
@@ -173,7 +173,7 @@ no_bad bytes machine s address is e small of first =
     let wrong : false ≡ true = sym (ap not good) ∙ first.passes in
     cc
 
--- two stores of one file are one
+-- two stores of one file are the same
 pub one_store : (bytes : List ℕ) (machine : Machine) (s r : ControlStore) → IsStore s → bytes ≡ store_file s → ((i : ℕ) → slice_index bytes i < 256) → machine_of bytes ≡ Some machine → IsReadFrom bytes machine 512 r → r ≡ s
 one_store bytes machine s r is e small of read =
     let P : List ℕ → Type 0 = λ xs. (i : ℕ) → slice_index xs i < 256 in

@@ -20,7 +20,7 @@ pub record IsFirst (test : ℕ → Bool) (n s : ℕ) : Type 0 where
 abbrev pub NeverWith : (ℕ → ℕ → Bool) → ℕ → ℕ → Type 0
 NeverWith test n s = (t : ℕ) → s < t → t < n → test s t ≡ false
 
--- t is the lowest number behind s that passes with it
+-- t is the lowest number after s that passes with it
 pub record IsFirstWith (test : ℕ → ℕ → Bool) (n s t : ℕ) : Type 0 where
   pub ordered : s < t
   pub inside : t < n

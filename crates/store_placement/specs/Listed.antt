@@ -1,4 +1,4 @@
--- A list of addresses that can be told to be the chosen placement by computing.
+-- A list of addresses that computing shows to be the chosen placement.
 use Rattle.std.specs.Prelude.{◌≡◌, ℕ, ◌+◌, ◌==◌, Bool, true, not, ◌&&◌, List, [], ◌∷◌, Option, Some, None, length, map, take, slice_index, nat_lt}
 use Rattle.std.specs.List.{list_any, list_all}
 use Rattle.store_placement.specs.Demands.{Demands}

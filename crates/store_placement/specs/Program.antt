@@ -40,7 +40,7 @@ placed_next address number (nexts.Goto to) = placed.Goto (address to)
 placed_next address number (nexts.Dispatch high) = placed.Dispatch high
 placed_next address number (nexts.Branch test high low) = placed.Branch test (address low)
 
--- the statements that it needs the addresses of are there
+-- the statements whose addresses it needs exist
 abbrev pub LeadsInside : ℕ → ℕ → Next ℕ → Type 0
 LeadsInside count number nexts.Following = number + 1 < count
 LeadsInside count number (nexts.Goto to) = to < count

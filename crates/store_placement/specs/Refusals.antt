@@ -1,4 +1,4 @@
--- Why constraints have no placement, and in which order that is looked for.
+-- Why constraints have no placement, and in which order that is tested.
 use Rattle.std.specs.Prelude.{◌<◌, ℕ, ◌+◌, ◌==◌, Bool, false, not, ◌&&◌, ◌||◌, if◌then◌else◌, nat_lt, List, Option, Some, None, length}
 use Rattle.std.specs.List.{list_any}
 use Rattle.store_placement.specs.declared.pair.Pair.{Pair}

@@ -15,7 +15,7 @@ is_marked taken a = slice_index_or taken a false
 abbrev pub AreTaken : List (Option ℕ) → List Bool → Type 0
 AreTaken placed taken = (a : ℕ) → a < 512 → is_marked taken a ≡ is_taken placed a
 
--- it is marked, or outside of the store
+-- the address is marked, or outside of the store
 abbrev pub may_collide : List Bool → Option ℕ → Bool
 may_collide taken None = false
 may_collide taken (Some a) = not (nat_lt a 512) || is_marked taken a

@@ -56,7 +56,7 @@ fn collide(fixed: &[Option<u16>], pairs: &[Pair], addresses: &[Option<u16>], s: 
     same_address(addresses[s as usize], addresses[t as usize]) || split_apart(fixed, pairs, s, t)
 }
 
-/// The lowest statement behind `s` that collides with it.
+/// The lowest statement after `s` that collides with it.
 fn collides_with(
     fixed: &[Option<u16>],
     pairs: &[Pair],

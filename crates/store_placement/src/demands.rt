@@ -31,7 +31,7 @@ fn add_pair(constraints: &mut Constraints, next: MalNext)
     }
 }
 
-/// The fixed addresses alone.
+/// Only the fixed addresses.
 fn fixed_of(program: &MalProgram) -> Constraints
     ensures fixed { result.fixed ≡ map (λ s. s.fixed) program.now.statements }
     ensures pairs { result.pairs ≡ [] }

@@ -8,7 +8,7 @@ use thiserror::Error;
 pub enum StoreError {
     /// The bytes begin with the magic of neither machine.
     BadMagic,
-    /// There are so many bytes, and not 2,564.
+    /// There are this many bytes, and not 2,564.
     BadLength(usize),
     /// The lowest address whose word is not canonical.
     BadWord(u16),

@@ -108,7 +108,7 @@ fn read_words(machine: Machine, bytes: &[u8]) -> Result<Store, u16>
     Ok(store)
 }
 
-/// The control store of a file. Every refusal but want of memory comes exactly where it is the first.
+/// The control store of a file. Each refusal comes exactly where it is the first one, except that memory may run out.
 pub fn read_store(alloc: Global, bytes: &[u8]) -> Result<Box<Store>, StoreError>
     ensures ok { IfOk result (λ store. store_file store.value ≡ bytes.now) }
     ensures back { (s : ControlStore) → IsStore s → bytes.now ≡ store_file s → MatchResult result (λ store. store.value ≡ s) (λ e. e ≡ StoreError.OutOfMemory) }

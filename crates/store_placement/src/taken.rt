@@ -26,7 +26,7 @@ pub fn taken_addresses(placed: &[Option<u16>]) -> [bool; 512]
     taken
 }
 
-/// Whether the address may be a second time that of a statement: it is taken, or outside of the store.
+/// Whether the address may be that of a second statement: it is taken, or outside of the store.
 fn may_collide(taken: &[bool; 512], address: Option<u16>) -> bool
     ensures { result ≡ may_collide taken.now address }
 {

@@ -76,7 +76,7 @@ method_there image z a i k h call =
       | inr past ↦ absurd (h.accepts (BadEntry k) (a, h.reached, (row_of i, row_there image z a i h, call, e, is, past)))
     ]
 
--- the operands that the instruction needs are there
+-- the operands that the instruction needs are available
 pub operands_there : (image : ImageView) (z : ℕ) (a : Arrival) (i : Instr) → Stands image z a i → (need : ℕ) × (need_of image (row_of i).needs (row_of i).flow ≡ Some need) × (need ≤ a.depth)
 operands_there image z a i h = by_flow (row_of i).flow refl
   where

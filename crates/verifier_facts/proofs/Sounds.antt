@@ -83,7 +83,7 @@ set_local image z count s i h k reads =
         own_above (Some r) zero some own = cc
         own_above (Some r) (suc j) some own = omega arith
 
--- a method's caller is there
+-- a method has a caller
 caller_there : (image : ImageView) (z count : ℕ) → Accepts image z → (back : Option ℕ) (fs : List Frame) → AreWaiting image count back fs → back ≢ None →
     (to : ℕ) × (g : Frame) × (gs : List Frame) × (back ≡ Some to) × (fs ≡ g ∷ gs) × (to < length image.text)
 caller_there image z count accepts None fs w some = absurd (some refl)
@@ -171,7 +171,7 @@ good_push : (image : ImageView) (z count : ℕ) (s : State) (i : Instr) (h : Ste
 good_push image z count s i h v to needs gives stores goes =
     good_limited image count z s (moved s (v ∷ s.running.operands) to) (sound_on image z count s i h 0 to (v ∷ s.running.operands) needs goes (omega arith) stores)
 
--- so many operands are there
+-- there are this many operands
 enough : (image : ImageView) (z count : ℕ) (s : State) (i : Instr) (h : Steps image z count s i) (need : ℕ) → need_of image (row_of i).needs (row_of i).flow ≡ Some need → need ≤ length s.running.operands
 enough image z count s i h need needs =
     let w = (finds image z count s i h).operands in
@@ -456,7 +456,7 @@ sound_start image count input = record {
     zeros (suc n) zero is = cc
     zeros (suc n) (suc k) is = zeros n k is
 
--- so is each state that a run comes to
+-- each state that a run comes to is sound
 sound_at : (image : ImageView) (z count : ℕ) → Accepts image z → IsMainCount image count → (s to : State) → IsSound image count s → ComesTo image z s to → IsSound image count to
 sound_at image z count accepts main s to sound (Here t same) = same_sound image count s t same sound
 sound_at image z count accepts main s to sound (Onward t u v comes goes same) =

@@ -19,10 +19,10 @@ pub record IsAccepted (v : VerifiedView) : Type 0 where
   pub accepts : Accepts v.image v.map.stack_end
   pub main : IsMainCount v.image v.main_locals
   pub main_fits : 0x8000 + v.main_locals ≤ v.map.stack_end
-  -- so no run of it gets stuck
+  -- no run of it gets stuck
   pub safe : IsSafe v.image v.map.stack_end v.main_locals
 
--- what a verified image keeps beside the image
+-- what a verified image keeps besides the image
 pub record IsVerified (v : VerifiedView) (methods : ℕ) (found : List Kind) : Type 0 where
   pub accepted : IsAccepted v
   pub methods_are : IsMethodCount v.image methods

@@ -16,7 +16,7 @@ IsKind image at kinds.Header = Covers image (Header at) at
 IsKind image at kinds.Inside = (p : Piece) × Covers image p at × (first p < at)
 IsKind image at kinds.Unreached = (p : Piece) → Covers image p at → ⊥
 
--- the kinds of all bytes of the text, and nothing stands behind it
+-- the kinds of all bytes of the text, and nothing stands past it
 pub record AreKinds (image : ImageView) (found : List Kind) : Type 0 where
   pub long : length found ≡ length image.text
   pub each : (at : ℕ) (kind : Kind) → slice_get found at ≡ Some kind → IsKind image at kind

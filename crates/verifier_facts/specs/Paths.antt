@@ -31,12 +31,12 @@ HasRow text at r = (i : Instr) × (instr_at text at ≡ Some i) × (r ≡ row_of
 abbrev pub IsWhole : List ℕ → ℕ → Row → Type 0
 IsWhole text at r = (0 < size_of r) × (at + size_of r ≤ length text)
 
--- the constant that a row names is there
+-- the constant that a row names exists
 abbrev pub HasConstant : List ℕ → Option ℕ → Type 0
 HasConstant pool None = Unit {0}
 HasConstant pool (Some k) = k < length pool
 
--- the method that a call's constant names, if it is there
+-- the method that a call's constant names, if it exists
 abbrev pub callee : ImageView → ℕ → Option Method
 callee image k = method_at image.text (slice_get image.pool k)
 
@@ -65,7 +65,7 @@ HasJump f o = (ways_of f).jump ≡ Some o
 abbrev pub IsNoCall : Flow → Type 0
 IsNoCall f = (ways_of f).call ≡ None
 
--- the addresses at which the unit goes on, from an instruction at an address and the address behind it
+-- the addresses at which the unit goes on, from an instruction at an address and the address after it
 abbrev pub GoesOn : Flow → ℕ → ℕ → ℕ → Type 0
 GoesOn f at next to = (HasNext f × (to ≡ next)) ⊎ ((o : ℤ) × HasJump f o × (to ≡ target at o))
 
@@ -77,13 +77,13 @@ need_by image needs (Some k) = option_map (λ m. m.params) (callee image k)
 abbrev pub need_of : ImageView → ℕ → Flow → Option ℕ
 need_of image needs f = need_by image needs (ways_of f).call
 
--- what is still unset behind an instruction that stores to this local
+-- what is still unset after an instruction that stores to this local
 abbrev pub left_unset : Option ℕ → Option ℕ → Option ℕ
 left_unset None unset = unset
 left_unset (Some stored) None = None
 left_unset (Some stored) (Some k) = if k == stored then None else Some k
 
--- a local of the method at this entry, behind its parameters
+-- a local of the method at this entry, after its parameters
 abbrev pub IsOwn : List ℕ → ℕ → ℕ → Type 0
 IsOwn text entry k = (params text entry ≤ k) × (k < params text entry + others text entry)
 
@@ -92,14 +92,14 @@ abbrev pub MayCarry : List ℕ → ℕ → Option ℕ → Type 0
 MayCarry text entry None = Unit {0}
 MayCarry text entry (Some k) = IsOwn text entry k
 
--- the instruction of the arrival is whole, its constant and its method are there, and it finds the operands that it needs
+-- the instruction of the arrival is whole, its constant and its method exist, and it finds the operands that it needs
 pub record Works (image : ImageView) (a : Arrival) (r : Row) (need : ℕ) : Type 0 where
   pub has_row : HasRow image.text a.at r
   pub constant : HasConstant image.pool r.constant
   pub needs : need_of image r.needs r.flow ≡ Some need
   pub enough : need ≤ a.depth
 
--- on in the same unit
+-- the path goes on in the same unit
 pub record Goes (image : ImageView) (a b : Arrival) (r : Row) (need : ℕ) : Type 0 where
   pub works : Works image a r need
   pub way : GoesOn r.flow a.at (a.at + size_of r) b.at
@@ -108,7 +108,7 @@ pub record Goes (image : ImageView) (a b : Arrival) (r : Row) (need : ℕ) : Typ
   pub depth_is : b.depth + need ≡ a.depth + r.gives
   pub unset_is : b.unset ≡ left_unset r.stores a.unset
 
--- into the called method
+-- the path goes into the called method
 pub record Enters (image : ImageView) (a b : Arrival) (r : Row) (need entry : ℕ) : Type 0 where
   pub works : Works image a r need
   pub calls : (k : ℕ) × (r.flow ≡ Call k) × (slice_get image.pool k ≡ Some entry)

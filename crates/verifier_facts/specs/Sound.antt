@@ -53,12 +53,12 @@ pub record Finds (image : ImageView) (s : State) (i : Instr) : Type 0 where
   pub returns : (row_of i).flow ≡ Return → (to : ℕ) × (f : Frame) × (fs : List Frame) × (s.running.back ≡ Some to)
       × (s.callers ≡ f ∷ fs) × (to < length image.text)
 
--- every run of the image, with so many locals of main, is sound, and never gets stuck
+-- every run of the image, with this many locals of main, is sound, and never gets stuck
 pub record KeepsSound (image : ImageView) (stack_end main_locals : ℕ) : Type 0 where
   pub start : (input : List ℕ) → IsSound image main_locals (start_of main_locals input)
   pub steps : (s to : State) → IsSound image main_locals s → step_outcome image stack_end s ≡ Goes to → IsSound image main_locals to
   pub finds : (s : State) → IsSound image main_locals s → (i : Instr) × Finds image s i
-  -- so at each state that a run comes to
+  -- each state that a run comes to is sound
   pub comes_to : (input : List ℕ) (to : State) → ComesTo image stack_end (start_of main_locals input) to → IsSound image main_locals to
   pub after : (input : List ℕ) (k : ℕ) (to : State) → state_after image stack_end k (start_of main_locals input) ≡ Some to → IsSound image main_locals to
   pub safe : IsSafe image stack_end main_locals

@@ -5,13 +5,13 @@ ghost use Rattle.std.specs.Prelude.{◌≡◌};
 use std::alloc::{AllocError, AllocFailed};
 use thiserror::Error;
 
-/// A fact of the refused image. Where several are true, any one of them is told.
+/// A fact of the refused image. Where several are true, any one of them is reported.
 #[derive(Clone, Copy, Debug, PartialEq, Eq, Error)]
 pub enum VerifyError {
     /// The address is reached, and no whole instruction stands there.
     #[error("bad code at {0}")]
     BadCode(u32),
-    /// The reached instruction goes on behind the text's end.
+    /// The reached instruction goes on past the text's end.
     #[error("{0} falls off")]
     FallsOff(u32),
     /// The reached jump leads outside the text.
@@ -20,10 +20,10 @@ pub enum VerifyError {
     /// The byte belongs to two reached instructions or headers.
     #[error("overlap at {0}")]
     Overlap(u32),
-    /// The reached instruction names a constant, by its index, that the pool has not.
+    /// The reached instruction names a constant, by its index, that the pool does not have.
     #[error("{0} names no constant {1}")]
     BadConstant(u32, u16),
-    /// No header with code behind it stands inside the text where this constant of a reached call says.
+    /// No header with code after it stands inside the text where this constant of a reached call points.
     #[error("constant {0} is no method")]
     BadEntry(u16),
     /// The reached method has a parameter count of 0.
@@ -32,7 +32,7 @@ pub enum VerifyError {
     /// The reached instruction of a method names local 0.
     #[error("{0} names the link word")]
     LinkSlot(u32),
-    /// The reached instruction of a method names a local that the method has not.
+    /// The reached instruction of a method names a local that the method does not have.
     #[error("{0} names no local {1}")]
     BadLocal(u32, u16),
     /// A path comes to this read of a method's own local with no store to that local before.
@@ -50,7 +50,7 @@ pub enum VerifyError {
     /// A return is reached in main.
     #[error("return in main at {0}")]
     ReturnInMain(u32),
-    /// Main's locals, so many, do not fit between their place and the stack's end.
+    /// Main's locals, this many, do not fit between their place and the stack's end.
     #[error("{0} locals in main")]
     MainFrame(u32),
     #[error("out of memory")]

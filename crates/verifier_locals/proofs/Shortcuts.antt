@@ -89,7 +89,7 @@ skips_carries graph start k to i Stay way = way
 skips_carries graph start k to i (Skip at next node is plain rest) way =
     skips_carries graph start k to next rest (Pass at next node way is (λ stores. no_number node.stores k plain.stores stores) plain.leads)
 
--- and a way of the graph has a short one, or comes to a dead end
+-- a way of the graph has a short one, or comes to a dead end
 abbrev HasShort : List Node → Option ℕ → ℕ → Type 0
 HasShort graph new at = ((to : ℕ) × (new ≡ Some to) × Skips graph to at) ⊎ ((to : ℕ) × Skips graph to at × IsEndAt graph to)
 

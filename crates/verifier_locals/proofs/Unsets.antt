@@ -24,7 +24,7 @@ use Rattle.verifier_locals.specs.Trace.{IsReady, ReadsUnset, ReadsNone}
 use Rattle.verifier_locals.specs.Unset.{AreSet, Wants, AreWanted}
 use Rattle.verifier_locals.proofs.Graphs.{way_inside}
 
--- what is carried behind an instruction was carried before, and is not stored
+-- what is carried after an instruction was carried before, and is not stored
 was_carried : (stores unset : Option ℕ) (k : ℕ) → left_unset stores unset ≡ Some k → (unset ≡ Some k) × (stores ≢ Some k)
 was_carried None unset k is = (is, λ e. absurd (none-some k e))
 was_carried (Some s) None k is = cc
@@ -47,7 +47,7 @@ stays_unset (Some s) k ne = ap (λ (b : Bool). cond b None (Some k)) (ne_eqb k s
 pub method_inside : (image : ImageView) (seen : List (Option Kept)) (e : ℕ) → IsClosed image seen → IsReachedMethod image e → e + 4 < length image.text
 method_inside image seen e closed m = omega (arith, slice_get_within seen (e + 4) (Some (kept_of (Some e) 0)) (closed.starts e m), closed.long)
 
--- and is entered, with any of its own locals or with nothing
+-- a reached method is entered, with any of its own locals or with nothing
 pub entered_with : (image : ImageView) (e : ℕ) (unset : Option ℕ) → MayCarry image.text e unset → (a : Arrival) → Reached image a → a.unit ≡ Some e → Reached image (arrival (Some e) (e + 4) 0 unset)
 entered_with image e unset may a Start unit = cc
 entered_with image e unset may b (Then a to reached (On r need g)) unit = entered_with image e unset may a reached (sym g.unit_is ∙ unit)
@@ -96,7 +96,7 @@ reached_carries image seen graph e k closed g b (Then a to reached (Into r need 
     let at : to.at ≡ e + 4 = h.at_is ∙ ap (λ (x : ℕ). x + 4) (same_Some f e (sym h.unit_is ∙ unit)) in
     subst (λ (x : ℕ). Carries graph (e + 4) k x) (sym at) Begin
 
--- and a way is a path that carries the local
+-- a way is a path that carries the local
 carries_reached : (image : ImageView) (seen : List (Option Kept)) (graph : List Node) (e k : ℕ) → IsClosed image seen → IsGraph image seen graph → Reached image (arrival (Some e) (e + 4) 0 (Some k)) → (at : ℕ) → Carries graph (e + 4) k at →
     (d : ℕ) × Reached image (arrival (Some e) at d (Some k))
 carries_reached image seen graph e k closed g start at Begin = (0, start)

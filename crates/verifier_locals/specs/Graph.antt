@@ -10,7 +10,7 @@ use Rattle.verifier_facts.specs.Paths.{HasRow, GoesOn}
 abbrev pub LeadsTo : Node → ℕ → Type 0
 LeadsTo node to = (node.next ≡ Some to) ⊎ (node.jump ≡ Some to)
 
--- the node says what the row of the instruction at this address says
+-- the node has what the row of the instruction at this address has
 pub record IsNodeOf (at : ℕ) (r : Row) (node : Node) : Type 0 where
   pub reads : node.reads ≡ r.reads
   pub stores : node.stores ≡ r.stores

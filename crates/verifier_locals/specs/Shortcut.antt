@@ -1,4 +1,4 @@
--- A graph with shortcuts past the instructions that name no local and lead to one address alone, and without ways to dead ends.
+-- A graph with shortcuts past the instructions that name no local and lead to only one address, and without ways to dead ends.
 use Rattle.std.specs.Prelude.{◌≡◌, ℕ, List, length, slice_get, Option, Some, None}
 use Rattle.ijvm_image.specs.Image.{ImageView}
 use Rattle.verifier_reach.specs.declared.kept.Kept.{Kept}
@@ -6,7 +6,7 @@ use Rattle.verifier_locals.specs.declared.graph.Node.{Node}
 use Rattle.verifier_reach.specs.Search.{IsClosed}
 use Rattle.verifier_locals.specs.Graph.{LeadsTo, IsGraph}
 
--- the node names no local and leads to this address alone
+-- the node names no local and leads only to this address
 pub record IsPlain (node : Node) (to : ℕ) : Type 0 where
   pub leads : LeadsTo node to
   pub only : (other : ℕ) → LeadsTo node other → other ≡ to
@@ -27,7 +27,7 @@ pub record IsEnd (node : Node) : Type 0 where
 abbrev pub IsEndAt : List Node → ℕ → Type 0
 IsEndAt graph at = (node : Node) × (slice_get graph at ≡ Some node) × IsEnd node
 
--- plain nodes alone lead from the second address to the first
+-- a way of plain nodes leads from the second address to the first
 pub data Skips (graph : List Node) (to : ℕ) : ℕ → Type 0 where
   Stay : Skips graph to to
   Skip : (at next : ℕ) (node : Node) → slice_get graph at ≡ Some node → IsPlain node next → Skips graph to next → Skips graph to at
@@ -39,7 +39,7 @@ IsPast graph None (Some to) = ⊥
 IsPast graph (Some at) None = (to : ℕ) × Skips graph to at × IsEndAt graph to
 IsPast graph (Some at) (Some to) = Skips graph to at
 
--- the node, but for ways past plain nodes, and without those to dead ends
+-- the node, with ways past plain nodes, and without those to dead ends
 pub record IsShortOf (graph : List Node) (node new : Node) : Type 0 where
   pub reads : new.reads ≡ node.reads
   pub stores : new.stores ≡ node.stores

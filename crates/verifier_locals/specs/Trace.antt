@@ -30,7 +30,7 @@ blanks search (m ∷ marks) = (2 ^ 64 - held search m) + blanks search marks
 abbrev pub AreOlder : ℕ → List Mark → Type 0
 AreOlder search marks = (at : ℕ) (m : Mark) → slice_get marks at ≡ Some m → m.search < search
 
--- a search of this number may begin, over so many nodes
+-- a search of this number may begin, over this many nodes
 pub record IsReady (search many : ℕ) (marks : List Mark) (todo : List ℕ) : Type 0 where
   pub long : length marks ≡ many
   pub older : AreOlder search marks

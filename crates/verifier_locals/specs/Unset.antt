@@ -11,7 +11,7 @@ use Rattle.verifier_facts.specs.Paths.{arrival, HasRow, IsOwn, Reached}
 abbrev pub IsSetBefore : ImageView → ℕ → ℕ → Type 0
 IsSetBefore image entry k = (at d : ℕ) (r : Row) → Reached image (arrival (Some entry) at d (Some k)) → HasRow image.text at r → r.reads ≢ Some k
 
--- so for the method's own locals in the group
+-- the method's own locals in the group are set before each read
 abbrev pub AreSet : ImageView → Wanted → Type 0
 AreSet image w = (k : ℕ) → k / 64 ≡ w.group → IsOwn image.text w.entry k → IsSetBefore image w.entry k
 

@@ -1,4 +1,5 @@
-//! Whether each read of a method's own local comes behind a store to it: the graph of the reached instructions, and the search of it.
+//! Whether each read of a method's own local comes after a store to it: the graph of the reached instructions, and its
+//! search.
 #![tactic(auto)]
 
 pub mod graph;

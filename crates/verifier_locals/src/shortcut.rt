@@ -1,4 +1,4 @@
-//! Shortcuts past the instructions that name no local and lead to one address alone, so that no search comes to them
+//! Shortcuts past the instructions that name no local and lead to only one address, so that no search comes to them
 //! again and again. Ways to instructions that read no local and lead nowhere are left out.
 
 ghost use Rattle.std.specs.Prelude.{◌≡◌, ◌<◌, length, Option, ℕ, IsTrue, IfOk, IfSome};
@@ -9,10 +9,10 @@ ghost use Rattle.verifier_locals.specs.Shortcut.{IsPlain, first_way, IsEnd, IsPa
 use crate::graph::Node;
 use std::alloc::{AllocError, Global};
 
-/// So many at most: each round at least doubles how far a way goes, up to the longest text.
+/// The most rounds: each at least doubles how far a way goes, up to the longest text.
 const ROUNDS: u32 = 16;
 
-/// The address to which the node leads, if that is one alone.
+/// The address to which the node leads, if there is only one.
 fn one_way(node: Node) -> Option<u32>
     ensures { IfSome result (λ to. LeadsTo node to × ((other : ℕ) → LeadsTo node other → other ≡ to)) }
 {
@@ -25,7 +25,7 @@ fn one_way(node: Node) -> Option<u32>
     }
 }
 
-/// Where the node leads, if it names no local and leads to one address alone.
+/// Where the node leads, if it names no local and leads to only one address.
 fn onward(node: Node) -> Option<u32>
     ensures { IfSome result (IsPlain node) }
 {
@@ -74,7 +74,7 @@ fn leads_elsewhere(node: Node, next: Option<u32>, jump: Option<u32>) -> bool {
     next != node.next || jump != node.jump
 }
 
-/// Each way goes on past the node to which it leads, as far as the way from there. Answers whether one did.
+/// Each way goes on past the node to which it leads, as far as the way from there. Returns whether one did.
 fn shorten(graph: &[Node], short: &mut Vec<Node>) -> bool
     requires inside { IsInside graph.now }
     requires short { IsShort graph.now short.old.items }

@@ -18,7 +18,8 @@ pub struct Mark {
     locals: LocalSet,
 }
 
-/// The marks of all addresses, and the addresses that wait to be visited. Each search has a higher number than those before, whose marks then count no more.
+/// The marks of all addresses, and the addresses that wait to be visited. Each search has a higher number than those
+/// before, whose marks then count no more.
 #[derive(Drop)]
 pub struct Trace {
     marks: Vec<Mark>,
@@ -38,7 +39,7 @@ fn place_in(named: Option<u16>, group: u32) -> Option<u32>
     }
 }
 
-/// The set behind an instruction that stores to this local.
+/// The set after an instruction that stores to this local.
 fn passed(locals: LocalSet, stores: Option<u16>, group: u32) -> LocalSet
     ensures { (k : ℕ) → k / 64 ≡ group → IsIn group result k ↔ (IsIn group locals k × (stores ≢ Some k)) }
 {
@@ -60,7 +61,7 @@ fn read_of(locals: LocalSet, reads: Option<u16>, group: u32) -> Option<u16>
 }
 
 impl Trace {
-    /// For a graph of so many nodes.
+    /// For a graph of this many nodes.
     pub fn new(alloc: Global, many: usize) -> Result<Trace, AllocError>
         ensures { IfOk result (λ t. IsReady 1 many t.marks.items t.todo.items) }
     {
@@ -137,7 +138,8 @@ impl Trace {
 }
 
 impl Trace {
-    /// The waiting address is looked at. A local that is read here unset is answered, and else the search goes on where the node leads.
+    /// The waiting address is looked at. A local that is read here unset is returned; otherwise the search goes on
+    /// where the node leads.
     fn visit(
         &mut self,
         graph: &[Node],
@@ -162,7 +164,8 @@ impl Trace {
         Ok(None)
     }
 
-    /// A read of a local of the set, its address and the local, to which a way leads from the start with no store to that local; none, if there is none.
+    /// A read of a local of the set, its address and the local, to which a way leads from the start with no store to
+    /// that local; none, if there is none.
     pub fn trace(
         &mut self,
         graph: &[Node],

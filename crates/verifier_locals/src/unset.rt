@@ -1,4 +1,4 @@
-//! Whether each read of a method's own local comes behind a store to it.
+//! Whether each read of a method's own local comes after a store to it.
 
 ghost use Rattle.std.specs.Prelude.{◌≡◌, ◌+◌, ◌*◌, ◌/◌, ◌<◌, ◌≤◌, ◌↔◌, ℕ, length, slice_get, Some, false, IfOk, IfErr, OnOk, IfSome};
 ghost use Rattle.verifier_facts.specs.declared.error.VerifyError.{VerifyError};
@@ -135,7 +135,7 @@ pub fn check_locals(
     ensures err { IfErr result (λ e. States image.now e) }
 {
     let wanted = wanted_of(alloc, image, seen, graph)?;
-    // Without its ways to dead ends, a branch may lead to one address alone.
+    // Without its ways to dead ends, a branch may lead to only one address.
     let once = shortened(alloc, graph)?;
     let short = shortened(alloc, &once)?;
     let mut trace = Trace::new(alloc, short.len())?;

@@ -103,7 +103,7 @@ module _ (image : ImageView) (whole : List Item) where
   clear_of start (Header ∷ xs) at e n i all h (inl k) is = inr (omega (arith, k, after (start + 4) xs at n (past_header start xs at n h)))
   clear_of start (Header ∷ xs) at e n i all h (inr k) is = clear_of (start + 4) xs at e n i all (past_header start xs at n h) k is
 
--- so the image is noted
+-- a listed image is noted
 pub noted : (image : ImageView) (items : List Item) → IsListed image items → IsNoted image (note_at items)
 noted image items l = record {
   start = l.start;

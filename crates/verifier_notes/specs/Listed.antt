@@ -9,7 +9,7 @@ pub data Item : Type 0 where
   Code : (i : Instr) (n : Note) → Item
   Header : Item
 
--- in bytes
+-- the size of an item, in bytes
 abbrev pub item_size : Item → ℕ
 item_size (Code i n) = size_of (row_of i)
 item_size Header = 4
@@ -42,7 +42,7 @@ pub record IsMet (image : ImageView) (whole : List Item) (at : ℕ) (i : Instr) 
   pub meets : Meets image (note_at whole) at n
   pub headed : (e : ℕ) → n.unit ≡ Some e → HasHeader 0 whole e
 
--- so do all of these items of the whole list, which begin at this address
+-- `IsMet` holds of each instruction among these items of the whole list, which begin at this address
 abbrev pub AllMet : ImageView → List Item → ℕ → List Item → Type 0
 AllMet image whole at [] = Unit {0}
 AllMet image whole at (Code i n ∷ xs) = IsMet image whole at i n × AllMet image whole (at + size_of (row_of i)) xs

@@ -16,7 +16,7 @@ pub fn noted_images_are_accepted()
     instructions_are_whole();
 }
 
-/// So is one whose text is a list of instructions that meet their notes and of methods' headers.
+/// An image whose text is a list of instructions that meet their notes and of methods' headers is accepted too.
 pub fn listed_images_are_accepted()
     ensures { (image : ImageView) (items : List Item) (end : ℕ) → IsListed image items → IsMap end → Accepts image end }
 {

@@ -217,7 +217,7 @@ all_kept image seen start done a Start = start
 all_kept image seen start done b (Then a to reached follows) =
     (done a.at (kept_of a.unit a.depth) (all_kept image seen start done a reached)).1 a.unset to follows
 
--- so each reached method is kept from its start on
+-- each reached method is kept from its start on
 start_kept : (image : ImageView) (seen : List (Option Kept)) → ((a : Arrival) → Reached image a → IsKept seen a) → (e : ℕ) (a : Arrival) → Reached image a → a.unit ≡ Some e → slice_get seen (e + 4) ≡ Some (Some (kept_of (Some e) 0))
 start_kept image seen all e a Start unit = cc
 start_kept image seen all e b (Then a to reached (On r need g)) unit = start_kept image seen all e a reached (sym g.unit_is ∙ unit)
@@ -236,7 +236,7 @@ one_kept image seen closed a b g h same =
     one : (j k : Kept) (o u : Option (Option Kept)) → o ≡ u → o ≡ Some (Some j) → u ≡ Some (Some k) → j ≡ k
     one j k o u e p q = cc
 
--- and so no such fact holds
+-- so no fact that this search decides holds
 pub decided : (image : ImageView) (z : ℕ) (seen : List (Option Kept)) → IsClosed image seen → (e : VerifyError) → IsDecided e → IsTrueOf image z e → ⊥
 decided image z seen closed e = by_fact e
   where
@@ -280,7 +280,7 @@ overlap image z old here at i g h differ code above =
     unit_of : Code old.unit at ≡ Code here.unit at → old.unit ≡ here.unit
     unit_of e = cc
 
--- what the derived test of two units tells
+-- what the derived test of two units shows
 pub units_differ : (a b : Option ℕ) → true ≡ not (option_eq eqb a b) → a ≢ b
 units_differ a b h e = same a (subst (λ (x : Option ℕ). true ≡ not (option_eq eqb a x)) (sym e) h)
   where
@@ -288,7 +288,7 @@ units_differ a b h e = same a (subst (λ (x : Option ℕ). true ≡ not (option_
     same None g = cc
     same (Some n) g = let t : eqb n n ≡ true = eq-eqb n n refl in let f : not (eqb n n) ≡ false = ap not t in cc
 
--- a checked call's constant and method are there
+-- a checked call's constant and method exist
 pub call_there : (image : ImageView) (a : Arrival) (r : Row) (need k : ℕ) → IsChecked image a r need → r.flow ≡ Call k → (e : ℕ) × (slice_get image.pool k ≡ Some e) × (e + 4 < length image.text)
 call_there image a r need k checked call = by_constant (slice_get image.pool k) refl (sym (ap (need_of image r.needs) call) ∙ checked.needs)
   where

@@ -112,7 +112,7 @@ impl Search {
         }
     }
 
-    /// Where the unit goes on behind a checked instruction is kept, with the changed depth.
+    /// Where the unit goes on after a checked instruction is kept, with the changed depth.
     fn spread(
         &mut self,
         image: &Image,

@@ -23,7 +23,7 @@ impl Calls {
         }
     }
 
-    /// Counts a call, and tells whether it is one of those that fail.
+    /// Counts a call, and returns whether it is one of those that fail.
     pub(crate) fn is_failing(&mut self) -> bool
         ensures failing { IsTrue result ↔ Contains self.old.failing.items (next_number self.old.made) }
         ensures counted { self.new ≡ record self.old { made = next_number self.old.made } }

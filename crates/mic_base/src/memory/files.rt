@@ -1,4 +1,4 @@
-//! Files in memory, whose calls fail where a test wants it.
+//! Files in memory, whose calls fail where a test asks for it.
 
 ghost use Rattle.std.specs.Prelude.{◌≡◌, ◌<◌, ◌↔◌, List, ℕ, Option, Some, option_map, length, IfOk, OnOk, OnErr, IsErrOf, Contains, ◌≢◌};
 ghost use Rattle.mic_base.specs.Files.{file_in, HasFileCause, KeepsAll, KeepsOthers, most_bytes, Reads, Writes};

@@ -1,4 +1,4 @@
-//! A sink that keeps its bytes in memory, whose calls fail where a test wants it.
+//! A sink that keeps its bytes in memory, whose calls fail where a test asks for it.
 
 ghost use Rattle.std.specs.Prelude.{◌≡◌, ◌≤◌, ◌<◌, ◌↔◌, [], Some, vec_len, vec_capacity, take, IsErr, OnOk, OnErr, IfOk, Contains};
 ghost use Rattle.mic_base.specs.Causes.{HasCause};
@@ -24,7 +24,7 @@ pub struct MemSink {
 impl MemSink {
     ghost use Rattle.mic_base.specs.Memory.{IsSameSink, sink_bytes, sink_failing, sink_faults, sink_number, sink_passed, sink_room};
 
-    /// Takes all the memory that it will use.
+    /// Allocates all the memory that it will use.
     pub fn new(alloc: Global, room: u32, failing: Vec<u64>) -> Result<MemSink, AllocError>
         ensures bytes { IfOk result (λ s. sink_bytes s ≡ []) }
         ensures passed { IfOk result (λ s. sink_passed s ≡ []) }

@@ -1,4 +1,4 @@
-//! A source over bytes in memory, whose calls fail where a test wants it.
+//! A source over bytes in memory, whose calls fail where a test asks for it.
 
 ghost use Rattle.std.specs.Prelude.{◌≡◌, ◌≤◌, ◌↔◌, Some, drop, vec_len, IsErr, Contains};
 ghost use Rattle.mic_base.specs.Causes.{HasCause};
@@ -33,7 +33,7 @@ impl MemSource {
         }
     }
 
-    /// The bytes that are not taken.
+    /// The bytes that have not been taken.
     pub fn left(&self) -> &[u8]
         ensures { result.now ≡ source_left self.now }
     {

@@ -4,7 +4,7 @@ ghost use Rattle.std.specs.Prelude.{IsOk, None};
 
 use crate::sink::{Sink, SinkFailed};
 
-/// Keeps nothing, tells nothing and never fails.
+/// Takes everything and never fails. What it was given is not known.
 #[derive(Clone, Copy, Debug, PartialEq, Eq)]
 pub struct PlainSink;
 

@@ -6,7 +6,7 @@ ghost use Rattle.mic_base.specs.Streams.{Takes};
 
 use crate::source::{Source, SourceFailed};
 
-/// Bytes in memory, which it tells. It never fails.
+/// Bytes in memory. Those that are left are known, and no call fails.
 #[derive(Drop)]
 pub struct PlainSource {
     bytes: Vec<u8>,

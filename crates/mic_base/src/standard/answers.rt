@@ -1,4 +1,4 @@
-//! What each answer of the runtime is told as, and which of them are counted as faults.
+//! What each answer of the runtime becomes, and which of them are counted as faults.
 
 ghost use Rattle.std.specs.Prelude.{◌≡◌, ◌≢◌, ◌≤◌, ◌<◌, ◌↔◌, length, Some, None, Ok, Err, IsOk, IsErr, IfOk, IfErr};
 ghost use Rattle.std.specs.IoError.{error_kind};
@@ -11,7 +11,7 @@ use crate::source::SourceFailed;
 use std::io;
 use std::io::ErrorKind;
 
-/// A byte that was asked for by `read_exact`. That no byte is left is told as an end in the midst of the buffer.
+/// The answer to a `read_exact` of one byte. At the end of input, the runtime reports an unexpected end of the file.
 pub(super) fn byte_read(
     answer: io::Result<()>,
     byte: u8,
@@ -46,7 +46,7 @@ pub(super) fn written(answer: io::Result<()>, faults: &mut u64) -> Result<(), Si
     }
 }
 
-/// The bytes of a file, of which the runtime reads no more than one too many.
+/// The bytes of a file, of which the runtime reads at most one byte beyond the limit.
 pub(super) fn file_read(answer: io::Result<Vec<u8>>) -> Result<Vec<u8>, FileError>
     ensures short { IfOk answer (λ bytes. length bytes.items ≤ most_bytes → result ≡ Ok bytes) }
     ensures long { IfOk answer (λ bytes. most_bytes < length bytes.items → result ≡ Err FileError.TooLong) }

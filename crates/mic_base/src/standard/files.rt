@@ -43,7 +43,7 @@ impl<R: rt::Files> Files for StdFiles<R> {
     }
 }
 
-/// A file's bytes, and no more than one too many.
+/// A file's bytes, up to one byte beyond the limit.
 fn read_front(rt: &impl rt::Files, alloc: Global, name: &str) -> io::Result<Vec<u8>> {
     let mut bytes = Vec::new(alloc);
     File::open(rt, name)?

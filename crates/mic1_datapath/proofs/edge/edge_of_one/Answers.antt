@@ -27,7 +27,7 @@ returns-then-is_quiet-clause-edge c =
     (led_same _ _ c.args.bus.now _ (λ w shows. record { its_word = refl; its_byte = refl; after = refl })) (refl, λ a other. refl) _
     (c.advance.ensures.micro ∙ ap (λ (x : ℕ). next_micro s.next x (settled s.part m) None None) its.value_is)
 
--- it fetches a byte of the memory, and nothing else
+-- a word that fetches a byte of the memory, and accesses nothing else
 
 pub returns-then-has-clause-edge : goal.returns-then-has-clause-edge
 returns-then-has-clause-edge c =
@@ -47,7 +47,7 @@ returns-then-has-clause-edge c =
     (c.advance-then-has.ensures.micro
     ∙ ap (λ (x : ℕ). next_micro s.next x (settled s.part m) c.fetch_alone-sampled.result.word c.fetch_alone-sampled.result.byte) its.value_is)
 
--- it reads a word of the memory, and nothing else
+-- a word that reads a word of the memory, and accesses nothing else
 
 pub returns-then-is_read-clause-edge : goal.returns-then-is_read-clause-edge
 returns-then-is_read-clause-edge c =
@@ -67,7 +67,7 @@ returns-then-is_read-clause-edge c =
     (c.advance-then-is_read.ensures.micro
     ∙ ap (λ (x : ℕ). next_micro s.next x (settled s.part m) c.read_alone-sampled.result.word c.read_alone-sampled.result.byte) its.value_is)
 
--- it writes a word of the memory, and accesses nothing else
+-- a word that writes a word of the memory, and accesses nothing else
 
 pub returns-clause-edge : goal.returns-clause-edge
 returns-clause-edge c =

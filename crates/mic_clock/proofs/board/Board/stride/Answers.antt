@@ -44,7 +44,7 @@ returns-then-is_some-clause-in_time g c =
     let late : new.end ≡ None → ⊥ = λ q. absurd (let still = subst IsSome q over in cc) in
     record { within = near; near = c.stop_at.ensures.in_time.1; ordered = c.stop_at.ensures.in_time.2; onward = λ _ q. absurd (late q); boundary = λ q. absurd (late q) }
 
--- it does not, and an instruction follows
+-- the bound does not end it, and an instruction follows
 
 pub returns-clause-run : goal.returns-clause-run
 returns-clause-run g c = λ plain.

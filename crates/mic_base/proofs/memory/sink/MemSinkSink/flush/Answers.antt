@@ -2,7 +2,7 @@ use Rattle.std.proofs.Common.{◌≡◌, ◌≤◌, ◌∙◌, ◌++◌, ap, ari
 use Rattle.std.proofs.lemmas.List.{take_all, take-append-drop}
 use Rattle.mic_base.proofs.memory.sink.MemSinkSink.flush.Goals as goal
 
--- what was passed on stays in front when all is
+-- all bytes begin with those that had been passed on
 grown : (n : ℕ) (all front more : List ℕ) → take n all ≡ front ++ more → all ≡ front ++ (more ++ drop n all)
 grown n all front more begins = sym (take-append-drop n all) ∙ (ap (λ (l : List ℕ). l ++ drop n all) begins ∙ append_assoc front more (drop n all))
 
