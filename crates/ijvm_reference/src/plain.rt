@@ -167,7 +167,7 @@ fn report(frames: &Frames, counts: Counts, end: PlainEnd) -> PlainReport
     }
 }
 
-/// Runs an image whose run never gets stuck, with so many locals of main, to the end of the run, or until the cycles reach the bound at a boundary.
+/// Runs an image whose run never gets stuck, to its end, or until its cycles reach the bound at a boundary.
 pub fn run_plain<S: Source, K: Sink>(
     alloc: Global,
     image: &Image,

@@ -29,7 +29,7 @@ where
     reset_board(alloc, I::machine(), store, I::entry(), image)
 }
 
-/// Runs a verified image on a machine, from its reset to its end. Want of memory is told before the first cycle.
+/// Runs a verified image on a machine, from its reset to its end. Memory can run out only before the first cycle.
 pub fn run_image<I: Interpreter, S: Source, K: Sink>(
     alloc: Global,
     image: &VerifiedImage,

@@ -66,7 +66,7 @@ impl Interpreter for Mic1Interpreter {
     }
 }
 
-/// Runs a verified image on a Mic-1, from its reset to its end. `AllocError` comes before the first cycle.
+/// Runs a verified image on a Mic-1, from its reset to its end. Memory can run out only before the first cycle.
 pub fn run_image1<S: Source, K: Sink>(
     alloc: Global,
     image: &VerifiedImage,

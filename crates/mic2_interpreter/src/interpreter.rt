@@ -63,7 +63,7 @@ impl Interpreter for Mic2Interpreter {
     }
 }
 
-/// Runs a verified image on a Mic-2, from its reset to its end. Want of memory is told before the first cycle.
+/// Runs a verified image on a Mic-2, from its reset to its end. Memory can run out only before the first cycle.
 pub fn run_image2<S: Source, K: Sink>(
     alloc: Global,
     image: &VerifiedImage,

@@ -68,7 +68,7 @@ impl Interpreter for Mic3Interpreter {
     }
 }
 
-/// Runs a verified image on a Mic-3, from its reset to its end. `AllocError` comes before the first cycle.
+/// Runs a verified image on a Mic-3, from its reset to its end. Memory can run out only before the first cycle.
 pub fn run_image3<S: Source, K: Sink>(
     alloc: Global,
     image: &VerifiedImage,
