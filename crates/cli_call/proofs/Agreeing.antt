@@ -60,16 +60,12 @@ of_limit p bound (suc points) at f e = by_test p bound points at (nat_le bound a
 
 cycles_by : (end : RunEnd) (cycles counted : ℕ) (last : Boundary) → (end ≡ defined.StackLimit → cycles ≡ last.cycles) → (end ≢ defined.StackLimit → counted ≡ cycles) →
     cycles_of (board_end end) counted (Some last) ≡ cycles
-cycles_by defined.Halt cycles counted last limit other = other (λ q. cc)
-cycles_by defined.Err cycles counted last limit other = other (λ q. cc)
-cycles_by defined.Bound cycles counted last limit other = other (λ q. cc)
 cycles_by defined.StackLimit cycles counted last limit other = sym (limit refl)
+cycles_by _ cycles counted last limit other = other (λ q. cc)
 
 ends_same : (end : RunEnd) → texts.clocked_end (plain.reported_end end) ≡ board_end end
 ends_same defined.Halt = refl
-ends_same defined.Err = refl
-ends_same defined.Bound = refl
-ends_same defined.StackLimit = refl
+ends_same _ = refl
 
 boundaries_same : (r : PlainReport) (cycles instructions : ℕ) (last : Point) → Reports r cycles instructions last → last_boundary r ≡ boundary_of last
 boundaries_same r cycles instructions last reports = rw (reports.boundary, reports.address, reports.sp, reports.lv) refl

@@ -88,20 +88,13 @@ IsStray end = ⊥
 -- the definition's run does not end so
 not_stray : (d : RunEnd) → IsStray (board_end d) → ⊥
 not_stray defined.Halt h = h
-not_stray defined.Err h = h
-not_stray defined.Bound h = h
-not_stray defined.StackLimit h = h
+not_stray _ h = h
 
 -- such an end is no fault
 not_fault : (end : End) → IsStray end → NoFault None (Some end)
-not_fault (ends.OutOfMap at) h = tt
-not_fault ends.Adrift h = tt
-not_fault ends.Halt h = tt
-not_fault ends.Err h = tt
-not_fault ends.Bound h = tt
-not_fault ends.StackLimit h = tt
 not_fault ends.ReadFault h = h
 not_fault ends.WriteFault h = h
+not_fault _ h = tt
 
 not_write_fault : (end : End) → IsStray end → end ≢ ends.WriteFault
 not_write_fault end h e = let s : IsStray ends.WriteFault = subst IsStray e h in s
@@ -218,9 +211,7 @@ module _ (asks : Option Asked) (old new : OutsideView) (status : ℕ) where
   -- the status of a run that came to an end of the definition's
   defined_end : (end : RunEnd) → Runs asks → IsFaultless old new → status ≡ status_of (board_end end) → Answer
   defined_end defined.Halt runs well is = Done well is
-  defined_end defined.Err runs well is = Ended runs (omega (arith, is)) (omega (arith, is))
-  defined_end defined.Bound runs well is = Ended runs (omega (arith, is)) (omega (arith, is))
-  defined_end defined.StackLimit runs well is = Ended runs (omega (arith, is)) (omega (arith, is))
+  defined_end _ runs well is = Ended runs (omega (arith, is)) (omega (arith, is))
 
   -- the status of a run that came to any end, or was cut
   run_end : (end : End) → Runs asks → (IsStray end → RunsOwn asks) →
@@ -228,13 +219,11 @@ module _ (asks : Option Asked) (old new : OutsideView) (status : ℕ) where
       new.err.faults ≡ old.err.faults → status ≡ status_of end → Answer
   run_end ends.Halt runs stray cause files err is =
       Done (record { files = ap (λ (f : FilesState). f.faults) files; console = cause.source_same (λ none q. cc); out = cause.sink_same (λ none q. cc); err = err }) is
-  run_end ends.Err runs stray cause files err is = Ended runs (omega (arith, is)) (omega (arith, is))
-  run_end ends.Bound runs stray cause files err is = Ended runs (omega (arith, is)) (omega (arith, is))
-  run_end ends.StackLimit runs stray cause files err is = Ended runs (omega (arith, is)) (omega (arith, is))
   run_end ends.ReadFault runs stray cause files err is = ConsoleFailed (cause.read refl refl) is
   run_end ends.WriteFault runs stray cause files err is = SinkFailed (inl (cause.write refl refl)) is
   run_end (ends.OutOfMap at) runs stray cause files err is = OutOfMap (stray tt) is
   run_end ends.Adrift runs stray cause files err is = Adrift (stray tt) is
+  run_end _ runs stray cause files err is = Ended runs (omega (arith, is)) (omega (arith, is))
 
   -- `run` and `soak` with the microprogram that ships
   module _ {M S : Type 0} (state : M → S) (m : Meaning S) (IsReady : ℕ → List ℕ → ℕ → S → Type 0) (IsShipped : List ℕ → Type 0) (entry : ℕ) (timing : Timing) (runs : Runs asks) where
@@ -337,9 +326,7 @@ module _ (asks : Option Asked) (old new : OutsideView) (status : ℕ) where
     where
       same_status : (end : RunEnd) → status_of (texts.clocked_end (plain.reported_end end)) ≡ status_of (board_end end)
       same_status defined.Halt = refl
-      same_status defined.Err = refl
-      same_status defined.Bound = refl
-      same_status defined.StackLimit = refl
+      same_status _ = refl
   reported machine bound program r runs (reference.CutByRead end cut rose same flushed) files err is = ConsoleFailed rose (is ∙ ap (λ e. status_of (texts.clocked_end e)) end)
   reported machine bound program r runs (reference.CutByWrite end cut same rose) files err is = SinkFailed (inl rose) (is ∙ ap (λ e. status_of (texts.clocked_end e)) end)
 
@@ -395,13 +382,7 @@ module _ (listed : IsListed) (old new : OutsideView) (status : ℕ) where
         over (Some (Tiny tiny machine bound)) old new status _ _ _ tiny refl h
         (clocked (Some (Tiny tiny machine bound)) old new status state m IsReady IsShipped entry timing tt bound)
     on_machine (RunPipeline file bound map) h = absurd h
-    on_machine (Cache file lines bound map) h = absurd h
-    on_machine (Assemble source image) h = absurd h
-    on_machine (Compile tiny image) h = absurd h
-    on_machine (ListOf file map) h = absurd h
-    on_machine (Verify file map) h = absurd h
-    on_machine (Micro mal store machine) h = absurd h
-    on_machine (PrintMicro file machine) h = absurd h
+    on_machine _ h = absurd h
 
 module _ (shipped : ShippedEnd) (old new : OutsideView) (status : ℕ) where
   by_machine : (machine : Machine) (asked : Asked) → EndsOnMachine machine asked old new status → IsAnswer (Some asked) old new status

@@ -14,8 +14,4 @@ call_ends same ends = record { names = ends.names; does = rw same (Done ends.doe
 pub job_ends : (job : Job) (mode : Mode) {old new : LentView} {status : ℕ} → Over (EndsOnMachine job.machine (asked_run job mode)) old new status →
     Over (EndsAs (Some (asked_run job mode))) old new status
 job_ends job modes.Shipped h = h
-job_ends job (modes.Own micro) h = h
-job_ends job (modes.Trace micro buses) h = h
-job_ends job (modes.Profile micro) h = h
-job_ends job (modes.Debug micro input) h = h
-job_ends job modes.Reference h = h
+job_ends job _ h = h

@@ -5,7 +5,7 @@ use Rattle.std.proofs.lemmas.Option.{same_Some}
 use Rattle.mic_words.specs.Arithmetic.{plus, minus, is_negative}
 use Rattle.console_port.specs.World.{next_byte}
 use Rattle.ijvm_instr.specs.declared.instr.Instr.{Instr}
-use Rattle.ijvm_instr.specs.declared.instr.Instr.TheVariants.{Nop, Bipush, LdcW, Iload, Istore, Pop, Dup, Swap, Iadd, Isub, Iand, Iinc, Ifeq, Iflt, IfIcmpeq, Goto, Ireturn, Ior, Invokevirtual, WideIload, WideIstore, WideIinc, In, Out, Err, Halt}
+use Rattle.ijvm_instr.specs.declared.instr.Instr.TheVariants.{Bipush, LdcW, Iload, Istore, Pop, Dup, Swap, Iadd, Isub, Iand, Iinc, Ifeq, Iflt, IfIcmpeq, Ireturn, Ior, Invokevirtual, WideIload, WideIstore, WideIinc, In, Out}
 use Rattle.ijvm_instr.specs.Instructions.{instr_at, word_of}
 use Rattle.ijvm_image.specs.declared.method.Method.{Method}
 use Rattle.ijvm_image.specs.Image.{ImageView, method_at}
@@ -15,11 +15,8 @@ use Rattle.ijvm_meaning.specs.Run.{TimedImage, Point, Finish, EndsBy, finish_fro
 
 -- where the stack's end was met, as much was given as before
 abbrev Keeps : List ℕ → StepOutcome → Type 0
-Keeps given (Goes to) = Unit {0}
-Keeps given Halts = Unit {0}
-Keeps given Errs = Unit {0}
 Keeps given (Limits left) = left.given ≡ given
-Keeps given Stuck = Unit {0}
+Keeps given _ = Unit {0}
 
 limited_by : (t : Bool) (left to : State) → Keeps left.given (if t then Goes to else Limits left)
 limited_by true left to = tt
@@ -101,7 +98,6 @@ given_at s [] = tt
 given_at s (y ∷ rest) = tt
 
 step_keeps : (image : ImageView) (n : ℕ) (i : Instr) (s : State) → Keeps s.given (step image n i s)
-step_keeps image n Nop s = tt
 step_keeps image n (Bipush b) s = limited_at n s (moved s (word_of b ∷ s.running.operands) (s.at + 2))
 step_keeps image n (LdcW k) s = constant_at n s (slice_get image.pool k)
 step_keeps image n (Iload k) s = loaded_at n s (slice_get s.running.locals k) (s.at + 2)
@@ -116,7 +112,6 @@ step_keeps image n (Iinc k b) s = increased_at s k b (slice_get s.running.locals
 step_keeps image n (Ifeq o) s = branched_at (λ y. y == 0) s o s.running.operands
 step_keeps image n (Iflt o) s = branched_at is_negative s o s.running.operands
 step_keeps image n (IfIcmpeq o) s = compared_at s o s.running.operands
-step_keeps image n (Goto o) s = tt
 step_keeps image n Ireturn s = returned_at s s.running.back s.callers s.running.operands
 step_keeps image n Ior s = combined_at bit_or s s.running.operands
 step_keeps image n (Invokevirtual k) s = called_keeps n s (method_at image.text (slice_get image.pool k))
@@ -125,8 +120,7 @@ step_keeps image n (WideIstore k) s = stored_at s k s.running.operands (s.at + 4
 step_keeps image n (WideIinc k b) s = increased_at s k b (slice_get s.running.locals k) (s.at + 6)
 step_keeps image n In s = limited_at n (taken s) (moved (taken s) (next_byte s.untaken ∷ s.running.operands) (s.at + 1))
 step_keeps image n Out s = given_at s s.running.operands
-step_keeps image n Err s = tt
-step_keeps image n Halt s = tt
+step_keeps image n _ s = tt
 
 keeps_by : (image : ImageView) (n : ℕ) (s : State) (i : Option Instr) → Keeps s.given (step_if_any image n s i)
 keeps_by image n s None = tt

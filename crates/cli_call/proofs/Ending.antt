@@ -53,8 +53,4 @@ module _ {M S : Type 0} (state : M → S) (m : Meaning S) (IsReady : ℕ → Lis
     ends_by ends.WriteFault status r e says =
         CutByWrite board (r.write e) r.files (r.cause.source_same (λ _ q. let c : Some ends.WriteFault ≡ Some ends.ReadFault = sym e ∙ q in cc)) (r.cause.write refl e) says
     ends_by ends.Halt status r e says = whole ends.Halt status r e tt (λ q. cc) (λ q. cc) says
-    ends_by ends.Err status r e says = whole ends.Err status r e tt (λ q. cc) (λ q. cc) says
-    ends_by ends.Bound status r e says = whole ends.Bound status r e tt (λ q. cc) (λ q. cc) says
-    ends_by ends.StackLimit status r e says = whole ends.StackLimit status r e tt (λ q. cc) (λ q. cc) says
-    ends_by (ends.OutOfMap at) status r e says = whole (ends.OutOfMap at) status r e tt (λ q. cc) (λ q. cc) says
-    ends_by ends.Adrift status r e says = whole ends.Adrift status r e tt (λ q. cc) (λ q. cc) says
+    ends_by x status r e says = whole x status r e tt (λ q. cc) (λ q. cc) says

@@ -41,8 +41,7 @@ written_gives stack_end mems.None p w = gives_none w
 
 sampled_gives : (stack_end : ℕ) (mem : Mem) (p : Ports) (w : World) → (sampled stack_end mem p w).given ≡ w.given
 sampled_gives stack_end mems.Write p w = refl
-sampled_gives stack_end mems.Read p w = refl
-sampled_gives stack_end mems.None p w = refl
+sampled_gives stack_end _ p w = refl
 
 memory_gives : (stack_end : ℕ) (mem : Mem) (p : Ports) (w : World) → Gives w (sampled stack_end mem p (written stack_end mem p w))
 memory_gives stack_end mem p w =

@@ -79,12 +79,7 @@ verb_quits end breaks watched memory verbs.Micro n = clocked_quits end breaks wa
 verb_quits end breaks watched memory verbs.Step n = clocked_quits end breaks watched memory until.Boundary n
 verb_quits end breaks watched memory verbs.Go n = clocked_quits end breaks watched memory (until.Cause (watched_now watched memory)) 1
 verb_quits end breaks watched memory verbs.Break n = full_quits (is_full_for breaks n)
-verb_quits end breaks watched memory verbs.Clear n = refl
-verb_quits end breaks watched memory verbs.Watch n = refl
-verb_quits end breaks watched memory verbs.Regs n = refl
-verb_quits end breaks watched memory verbs.Stack n = refl
-verb_quits end breaks watched memory verbs.Where n = refl
-verb_quits end breaks watched memory verbs.Quit n = refl
+verb_quits end breaks watched memory _ n = refl
 
 line_quits : (end : Option End) (breaks : List ℕ) (watched : Option ℕ) (memory : List ℕ) (read : Result (Option (Command Verb)) CommandError) →
     is_quit_reply (reply_of (plan_of end breaks watched memory read)) ≡ is_quit_in read

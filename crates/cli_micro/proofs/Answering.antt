@@ -25,17 +25,8 @@ use Rattle.cli_micro.proofs.Stores.{refused_file}
 
 -- what has a reason is a refusal
 pub is_refusal : (e : MalError) (reason : List ℕ) → Some reason ≡ mal_reason e → is_memory e ≡ false
-is_refusal (mal.BadToken line) reason h = refl
-is_refusal (mal.BadStatement line) reason h = refl
-is_refusal (mal.WrongMachine line) reason h = refl
-is_refusal (mal.NoSuchOperation line) reason h = refl
-is_refusal (mal.DuplicateLabel line) reason h = refl
-is_refusal (mal.BadFix line) reason h = refl
-is_refusal (mal.TooMany line) reason h = refl
-is_refusal (mal.UnknownLabel line) reason h = refl
-is_refusal (mal.LastFalls line) reason h = refl
-is_refusal mal.NoEntry reason h = refl
 is_refusal mal.OutOfMemory reason h = cc
+is_refusal _ reason h = refl
 
 -- each statement has its demand
 pub length_fixed : (program : MalView) → length (demands_of program).fixed ≡ length program.statements

@@ -40,16 +40,8 @@ not_accepted map bytes image e u of (inr holds) is =
 
 -- a refusal with a reason is not out of memory
 is_told : (e : AsmError) (said : List ℕ) → source_reason e ≡ Some said → is_memory e ≡ false
-is_told (sources.BadToken line) said h = refl
-is_told (sources.BadLine line) said h = refl
-is_told (sources.BadNumber line) said h = refl
-is_told (sources.OutOfRange line) said h = refl
-is_told (sources.DuplicateName line) said h = refl
-is_told (sources.TooManyNames line) said h = refl
-is_told (sources.MissingEnd line) said h = refl
-is_told (sources.UnknownName line) said h = refl
-is_told sources.NoMain said h = refl
 is_told sources.OutOfMemory said h = cc
+is_told _ said h = refl
 
 pub no_source : (text : List ℕ) (e : AsmError) (u : Refusal) → (is_memory e ≡ false → assembler.IsRefused text e) → u ≡ refusal_by (source_reason e) → IsRefusal IsNoSource text u
 no_source text e u refused is =

@@ -315,9 +315,7 @@ module _ {Seen Rules Stand : Type 0} {m : SessionMeaning Seen Rules Stand} where
   -- nothing waits for `out` where a session goes on
   pub kept_on : (most n : ℕ) (old new : Place Seen) (step : Step) → step ≡ steps.On → Goes m most n old new step → m.waiting new.session ≡ []
   kept_on most n old new step e (On lines done quiet told) = done.waiting
-  kept_on most n old new step e (Over lines done quiet told) = absurd (cc)
-  kept_on most n old new step e (ConsoleFailed lines done rose told) = absurd (cc)
-  kept_on most n old new step e (SinkFailed lines line at done quiet told cut) = absurd (cc)
+  kept_on most n old new step e _ = absurd (cc)
 
   -- where a session does not go on, it does not matter how many lines might have followed
   pub goes_over : (most n k : ℕ) {old new : Place Seen} (step : Step) → (step ≢ steps.On) → Goes m most n old new step → Goes m most k old new step

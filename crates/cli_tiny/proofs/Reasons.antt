@@ -11,20 +11,8 @@ use Rattle.cli_tiny.specs.Refusals.{IsRefusedTiny, tiny_reason}
 
 -- a refusal with a reason is not out of memory
 is_told : (e : TinyError) (said : List ℕ) → tiny_reason e ≡ Some said → is_memory e ≡ false
-is_told (errors.BadToken line) said h = refl
-is_told (errors.BadNumber line) said h = refl
-is_told (errors.BadSyntax line) said h = refl
-is_told (errors.TooDeep line) said h = refl
-is_told (errors.DuplicateName line) said h = refl
-is_told (errors.UnknownName line) said h = refl
-is_told (errors.BadCall line) said h = refl
-is_told (errors.ReturnInMain line) said h = refl
-is_told (errors.TooManyNames line) said h = refl
-is_told errors.NoMain said h = refl
-is_told (errors.PoolTooLong count) said h = refl
-is_told (errors.TextTooLong size) said h = refl
-is_told (errors.JumpTooFar line far) said h = refl
 is_told errors.OutOfMemory said h = cc
+is_told _ said h = refl
 
 pub no_code : (text : List ℕ) (e : TinyError) (u : Refusal) → (is_memory e ≡ false → HasNoCode text e) → u ≡ refusal_by (tiny_reason e) → IsRefusal IsRefusedTiny text u
 no_code text e u refused is =

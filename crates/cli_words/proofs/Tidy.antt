@@ -28,18 +28,5 @@ no_flags f options is = record {
 }
 
 pub tidy : (name : CommandName) → IsTidy (form_for name)
-tidy command.Assemble = no_flags _ refl refl
-tidy command.List = no_flags _ refl refl
-tidy command.Verify = no_flags _ refl refl
-tidy command.Run = no_flags _ refl refl
 tidy command.Trace = record { options = refl; flags = refl; apart = one (codes "buses") (form_for command.Trace).options refl }
-tidy command.Profile = no_flags _ refl refl
-tidy command.Debug = no_flags _ refl refl
-tidy command.Reference = no_flags _ refl refl
-tidy command.Micro = no_flags _ refl refl
-tidy command.PrintMicro = no_flags _ refl refl
-tidy command.Soak = no_flags _ refl refl
-tidy command.Cache = no_flags _ refl refl
-tidy command.Rewind = no_flags _ refl refl
-tidy command.Compile = no_flags _ refl refl
-tidy command.Tiny = no_flags _ refl refl
+tidy _ = no_flags _ refl refl

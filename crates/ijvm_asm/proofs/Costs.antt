@@ -35,11 +35,9 @@ use Rattle.ijvm_asm.proofs.Tokens.{behind_word, instr_size, some_size, spelled_s
 -- the most bytes that an instruction has, wherever its names stand
 abbrev pub instruction_size : Instruction → ℕ
 instruction_size (instructions.Plain instr) = instr_size instr
-instruction_size (instructions.Constant name) = 3
 instruction_size (instructions.Local access wide name) = 4
 instruction_size (instructions.Increment wide name by) = 6
-instruction_size (instructions.Jump jump label) = 3
-instruction_size (instructions.Call name) = 3
+instruction_size _ = 3
 
 -- main counts as one entry; a method has an entry and a header of four bytes
 abbrev pub cost_of : Content → ℕ

@@ -59,9 +59,7 @@ module _ (constants methods : List (List ℕ)) (u : DraftView) (d : Drafted u) w
 
   jump_size : (jump : Jump) (target : ℕ) → line_size (record { line = 0; operation = operations.To jump target }) ≤ 3
   jump_size jumps.Ifeq target = omega arith
-  jump_size jumps.Iflt target = omega arith
-  jump_size jumps.IfIcmpeq target = omega arith
-  jump_size jumps.Goto target = omega arith
+  jump_size _ target = omega arith
 
   operation_fits : (i : Instruction) (o : Operation) → StandsFor constants methods u i o → Fits (instruction_size i) o
   operation_fits (instructions.Plain instr) o q = subst (Fits (instruction_size (instructions.Plain instr))) (sym q) (tt, omega arith)

@@ -15,7 +15,7 @@ use Rattle.ijvm_line.specs.Parameters.{parameters}
 use Rattle.ijvm_line.specs.Places.{mark_place}
 use Rattle.ijvm_line.specs.Ranges.{instruction_of, made, word}
 use Rattle.ijvm_line.specs.Reading.{line_from}
-use Rattle.ijvm_asm.specs.Said.{BlankAt, Codes, Declares, Defines, Dotted, Heads, line_meant, Lists, place_of, Said, said_at, Says}
+use Rattle.ijvm_asm.specs.Said.{BlankAt, Heads, line_meant, Lists, place_of, Said, said_at, Says}
 use Rattle.ijvm_asm.specs.Sections.{lines_of, Section, section_lines}
 use Rattle.ijvm_asm.specs.Source.{declarations_of, empty, Source}
 use Rattle.ijvm_asm.specs.Making.{Declarations}
@@ -68,11 +68,8 @@ module _ (laws : ReadsLines) (s : Source) (ts : List Token) where
 
   said_again : (x : Said) → Lists ts x → s.place ≡ place_of x → said_at s.place (parameters ts) (line_meant x) ≡ x
   said_again (BlankAt p) w e = ap (λ p. BlankAt p) e
-  said_again (Dotted m) w e = refl
   said_again (Heads n ps) w e = ap (λ qs. Heads n qs) w
-  said_again (Defines n v) w e = refl
-  said_again (Declares n) w e = refl
-  said_again (Codes l i) w e = refl
+  said_again _ w e = refl
 
   pub next_says : (x : Said) → said_next s ts ≡ Ok x → Says ts x × (s.place ≡ place_of x)
   next_says x h =

@@ -45,9 +45,7 @@ ends_outside s h = go s.place h
   where
     go : (q : Place) → missing_at q s ≡ None → q ≡ places.Outside
     go places.Outside h = refl
-    go places.Constants h = absurd (cc)
-    go places.Locals h = absurd (cc)
-    go places.Code h = absurd (cc)
+    go _ h = absurd (cc)
 
 module _ (s : Source) where
   pub is_program_of : (p : ProgramView) (u : DraftView) (v : UnitView) (vs : List UnitView) → s.main ≡ Some u → unit_of s.constants s.methods u ≡ Some v
@@ -78,9 +76,7 @@ module _ (s : Source) where
 
       at_place : (q : Place) → s.place ≡ q → by_missing s (missing_at q s) ≡ Ok p → (s.place ≡ places.Outside) × IsProgramOf (declarations_of s) p
       at_place places.Outside e h = (e, by_line (unknown s) h)
-      at_place places.Constants e h = absurd (cc)
-      at_place places.Locals e h = absurd (cc)
-      at_place places.Code e h = absurd (cc)
+      at_place _ e h = absurd (cc)
 
   outside : s.place ≡ places.Outside → whole_program s ≡ by_unknown s (unknown s)
   unfolding whole_program

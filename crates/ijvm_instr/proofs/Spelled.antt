@@ -216,59 +216,11 @@ stand_fits text at (x ∷ bytes) h = let rest : at + 1 + length bytes ≤ length
 
 size_least : (i : Instr) → 1 ≤ size_of (row_of i)
 size_least Nop = omega arith
-size_least (Bipush z) = omega arith
-size_least (LdcW k) = omega arith
-size_least (Iload k) = omega arith
-size_least (Istore k) = omega arith
-size_least Pop = omega arith
-size_least Dup = omega arith
-size_least Swap = omega arith
-size_least Iadd = omega arith
-size_least Isub = omega arith
-size_least Iand = omega arith
-size_least (Iinc k z) = omega arith
-size_least (Ifeq z) = omega arith
-size_least (Iflt z) = omega arith
-size_least (IfIcmpeq z) = omega arith
-size_least (Goto z) = omega arith
-size_least Ireturn = omega arith
-size_least Ior = omega arith
-size_least (Invokevirtual k) = omega arith
-size_least (WideIload k) = omega arith
-size_least (WideIstore k) = omega arith
-size_least (WideIinc k z) = omega arith
-size_least In = omega arith
-size_least Out = omega arith
-size_least Err = omega arith
-size_least Halt = omega arith
+size_least _ = omega arith
 
 size_most : (i : Instr) → size_of (row_of i) ≤ 6
 size_most Nop = omega arith
-size_most (Bipush z) = omega arith
-size_most (LdcW k) = omega arith
-size_most (Iload k) = omega arith
-size_most (Istore k) = omega arith
-size_most Pop = omega arith
-size_most Dup = omega arith
-size_most Swap = omega arith
-size_most Iadd = omega arith
-size_most Isub = omega arith
-size_most Iand = omega arith
-size_most (Iinc k z) = omega arith
-size_most (Ifeq z) = omega arith
-size_most (Iflt z) = omega arith
-size_most (IfIcmpeq z) = omega arith
-size_most (Goto z) = omega arith
-size_most Ireturn = omega arith
-size_most Ior = omega arith
-size_most (Invokevirtual k) = omega arith
-size_most (WideIload k) = omega arith
-size_most (WideIstore k) = omega arith
-size_most (WideIinc k z) = omega arith
-size_most In = omega arith
-size_most Out = omega arith
-size_most Err = omega arith
-size_most Halt = omega arith
+size_most _ = omega arith
 
 pub byte_below : (text : List ℕ) (k : ℕ) → All (λ (b : ℕ). b < 256) text → slice_index text k < 256
 byte_below [] k h = omega arith

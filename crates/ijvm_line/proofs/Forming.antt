@@ -100,12 +100,7 @@ form_is p (tokens.Number v ∷ rest) f h = absurd (cc)
 mark_again : (m : Mark) → form_of (mark_place m) (tokens.Sign (mark_sign m) ∷ []) ≡ Some (forms.Mark m)
 mark_again m = elim m as (λ m. form_of (mark_place m) (tokens.Sign (mark_sign m) ∷ []) ≡ Some (forms.Mark m)) [
   | marks.BeginConstants ↦ refl
-  | marks.EndConstants ↦ refl
-  | marks.BeginMain ↦ refl
-  | marks.EndMain ↦ refl
-  | marks.EndMethod ↦ refl
-  | marks.BeginLocals ↦ refl
-  | marks.EndLocals ↦ refl
+  | _ ↦ refl
 ]
 
 method_again : (n : List ℕ) (ps : List (List ℕ)) → form_of places.Outside (method_tokens n ps) ≡ Some (forms.Method n)

@@ -109,13 +109,7 @@ no_sign n s rest = go (find_kind n)
   where
     by_kind : (k : Kind) → statement_by k (tokens.Sign s ∷ rest) ≡ None
     by_kind (kinds.Alone i) = refl
-    by_kind kinds.Push = refl
-    by_kind kinds.Constant = refl
-    by_kind (kinds.Local access) = refl
-    by_kind kinds.Increment = refl
-    by_kind (kinds.Jump j) = refl
-    by_kind kinds.Call = refl
-    by_kind kinds.Wide = refl
+    by_kind _ = refl
 
     go : (r : Option Kind) → option_and_then (λ kind. statement_by kind (tokens.Sign s ∷ rest)) r ≡ None
     go None = refl

@@ -3,16 +3,13 @@ use Rattle.std.proofs.Common.{◌≡◌, ◌<◌, ℕ, zero, suc, Bool, true, fa
 use Rattle.std.proofs.lemmas.Bool.{lt-leb, leb-false}
 use Rattle.ijvm_image.specs.Image.{ImageView}
 use Rattle.ijvm_meaning.specs.Frames.{State}
-use Rattle.ijvm_meaning.specs.Step.{StepOutcome, Goes, Halts, Errs, Limits, Stuck, step_outcome}
+use Rattle.ijvm_meaning.specs.Step.{StepOutcome, Goes, Stuck, step_outcome}
 use Rattle.ijvm_meaning.specs.Run.{TimedImage, Point, Finish, point_after, after_outcome, after_test, finish_from, EndsBy, Passes, Start, More, after, state_after}
 
 one_by_outcome : (p : TimedImage) (at : Point) (o : StepOutcome) (more less : Point → Option Finish) (f g : Finish) → ((a : Point) → more a ≡ Some f → less a ≡ Some g → f ≡ g) →
     after_outcome more p at o ≡ Some f → after_outcome less p at o ≡ Some g → f ≡ g
 one_by_outcome p at (Goes to) more less f g same e k = same (point_after p at to) e k
-one_by_outcome p at Halts more less f g same e k = cc
-one_by_outcome p at Errs more less f g same e k = cc
-one_by_outcome p at (Limits left) more less f g same e k = cc
-one_by_outcome p at Stuck more less f g same e k = cc
+one_by_outcome p at _ more less f g same e k = cc
 
 one_by_test : (p : TimedImage) (at : Point) (t : Bool) (more less : Point → Option Finish) (f g : Finish) → ((a : Point) → more a ≡ Some f → less a ≡ Some g → f ≡ g) →
     after_test more p at t ≡ Some f → after_test less p at t ≡ Some g → f ≡ g
@@ -34,10 +31,8 @@ ends_once p bound at f g e k = one_end p bound e.0 k.0 at f g e.1 k.1
 last_by_outcome : (p : TimedImage) (bound n : ℕ) (from at : Point) (o : StepOutcome) (f : Finish) → ((next : Point) → Passes p bound from next → finish_from p bound n next ≡ Some f → Passes p bound from f.last) →
     Passes p bound from at → at.cycles < bound → step_outcome p.image p.stack_end at.state ≡ o → after_outcome (finish_from p bound n) p at o ≡ Some f → Passes p bound from f.last
 last_by_outcome p bound n from at (Goes to) f more passed less goes e = more (point_after p at to) (More at (point_after p at to) to passed less goes refl) e
-last_by_outcome p bound n from at Halts f more passed less goes e = let last : at ≡ f.last = cc in subst (Passes p bound from) last passed
-last_by_outcome p bound n from at Errs f more passed less goes e = let last : at ≡ f.last = cc in subst (Passes p bound from) last passed
-last_by_outcome p bound n from at (Limits left) f more passed less goes e = let last : at ≡ f.last = cc in subst (Passes p bound from) last passed
 last_by_outcome p bound n from at Stuck f more passed less goes e = absurd (cc)
+last_by_outcome p bound n from at _ f more passed less goes e = let last : at ≡ f.last = cc in subst (Passes p bound from) last passed
 
 last_by_test : (p : TimedImage) (bound n : ℕ) (from at : Point) (t : Bool) (f : Finish) → ((next : Point) → Passes p bound from next → finish_from p bound n next ≡ Some f → Passes p bound from f.last) →
     Passes p bound from at → nat_le bound at.cycles ≡ t → after_test (finish_from p bound n) p at t ≡ Some f → Passes p bound from f.last
@@ -82,10 +77,7 @@ ends_at p bound from at f (More b next to first less goes is) e =
 one_more_by : (image : ImageView) (n k : ℕ) (o : StepOutcome) (t to : State) → ((s : State) → state_after image n k s ≡ Some t → state_after image n (suc k) s ≡ Some to) →
     after (state_after image n k) o ≡ Some t → after (state_after image n (suc k)) o ≡ Some to
 one_more_by image n k (Goes s) t to more e = more s e
-one_more_by image n k Halts t to more e = absurd (cc)
-one_more_by image n k Errs t to more e = absurd (cc)
-one_more_by image n k (Limits left) t to more e = absurd (cc)
-one_more_by image n k Stuck t to more e = absurd (cc)
+one_more_by image n k _ t to more e = absurd (cc)
 
 one_more : (image : ImageView) (n k : ℕ) (s t to : State) → state_after image n k s ≡ Some t → step_outcome image n t ≡ Goes to → state_after image n (suc k) s ≡ Some to
 one_more image n zero s t to e goes =

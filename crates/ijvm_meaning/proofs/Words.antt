@@ -14,7 +14,7 @@ use Rattle.ijvm_instr.specs.Instructions.{IsInstr, instr_at, word_of, target}
 use Rattle.ijvm_image.specs.declared.method.Method.{Method}
 use Rattle.ijvm_image.specs.Image.{ImageView, IsImage, method_at, params, others}
 use Rattle.ijvm_meaning.specs.Frames.{Frame, State, frames_of, base, start_of, IsWord, HasWords, AreWords}
-use Rattle.ijvm_meaning.specs.Step.{StepOutcome, Goes, Halts, Errs, Limits, Stuck, moved, pushed, pushed_constant, loaded, is_own, with_local, stored, increased, popped, doubled, swapped, combined, way, branched, compared, returned, onto, called, in_method, entered, called_at, taken, given_out, step, step_if_any, step_outcome}
+use Rattle.ijvm_meaning.specs.Step.{StepOutcome, Goes, Limits, Stuck, moved, pushed, pushed_constant, loaded, is_own, with_local, stored, increased, popped, doubled, swapped, combined, way, branched, compared, returned, onto, called, in_method, entered, called_at, taken, given_out, step, step_if_any, step_outcome}
 use Rattle.ijvm_meaning.specs.Run.{TimedImage, Point, Passes, Start, More}
 
 found : {X : Type 0} (P : X → Type 0) (xs : List X) (i : ℕ) → All P xs → IfSome (slice_get xs i) P
@@ -28,10 +28,8 @@ IsSet v = IfSome v IsWord
 -- the state that an outcome leads to, or leaves, has words
 abbrev pub Keeps : StepOutcome → Type 0
 Keeps (Goes to) = AreWords to
-Keeps Halts = Unit {0}
-Keeps Errs = Unit {0}
 Keeps (Limits left) = AreWords left
-Keeps Stuck = Unit {0}
+Keeps _ = Unit {0}
 
 wrapped : (x : ℕ) → IsWord (wrap x)
 unfolding wrap

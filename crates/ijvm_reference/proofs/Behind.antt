@@ -6,7 +6,7 @@ use Rattle.mic_words.specs.Arithmetic.{plus, minus, is_negative}
 use Rattle.console_port.specs.View.{ConsoleView}
 use Rattle.console_port.specs.World.{next_byte}
 use Rattle.ijvm_instr.specs.declared.instr.Instr.{Instr}
-use Rattle.ijvm_instr.specs.declared.instr.Instr.TheVariants.{Nop, Bipush, LdcW, Iload, Istore, Pop, Dup, Swap, Iadd, Isub, Iand, Iinc, Ifeq, Iflt, IfIcmpeq, Goto, Ireturn, Ior, Invokevirtual, WideIload, WideIstore, WideIinc, In, Out, Err, Halt}
+use Rattle.ijvm_instr.specs.declared.instr.Instr.TheVariants.{Bipush, LdcW, Iload, Istore, Pop, Dup, Swap, Iadd, Isub, Iand, Iinc, Ifeq, Iflt, IfIcmpeq, Ireturn, Ior, Invokevirtual, WideIload, WideIstore, WideIinc, In, Out, Err, Halt}
 use Rattle.ijvm_image.specs.declared.method.Method.{Method}
 use Rattle.ijvm_meaning.specs.declared.run.RunEnd.TheVariants as ends
 use Rattle.ijvm_instr.specs.Instructions.{instr_at}
@@ -112,7 +112,6 @@ given_at g s [] = refl
 given_at g s (y ∷ rest) = ap (λ (xs : List ℕ). Goes (record (moved s rest (s.at + 1)) { given = xs })) (append_assoc g s.given ((y % 256) ∷ []))
 
 step_at : (image : ImageView) (n : ℕ) (i : Instr) (g : List ℕ) (s : State) → step image n i (behind g s) ≡ lifted g (step image n i s)
-step_at image n Nop g s = refl
 step_at image n (Bipush b) g s = pushed_at g n s (word_of b) (s.at + 2)
 step_at image n (LdcW k) g s = constant_at g n s (slice_get image.pool k)
 step_at image n (Iload k) g s = loaded_at g n s (slice_get s.running.locals k) (s.at + 2)
@@ -127,7 +126,6 @@ step_at image n (Iinc k b) g s = increased_at g s k b (slice_get s.running.local
 step_at image n (Ifeq o) g s = branched_at g (λ y. y == 0) s o s.running.operands
 step_at image n (Iflt o) g s = branched_at g is_negative s o s.running.operands
 step_at image n (IfIcmpeq o) g s = compared_at g s o s.running.operands
-step_at image n (Goto o) g s = refl
 step_at image n Ireturn g s = returned_at g s s.running.back s.callers s.running.operands
 step_at image n Ior g s = combined_at g bit_or s s.running.operands
 step_at image n (Invokevirtual k) g s = called_to g n s (method_at image.text (slice_get image.pool k))
@@ -136,8 +134,7 @@ step_at image n (WideIstore k) g s = stored_at g s k s.running.operands (s.at + 
 step_at image n (WideIinc k z) g s = increased_at g s k z (slice_get s.running.locals k) (s.at + 6)
 step_at image n In g s = pushed_at g n (taken s) (next_byte s.untaken) (s.at + 1)
 step_at image n Out g s = given_at g s s.running.operands
-step_at image n Err g s = refl
-step_at image n Halt g s = refl
+step_at image n _ g s = refl
 
 stepped_at : (image : ImageView) (n : ℕ) (g : List ℕ) (s : State) (i : Option Instr) → step_if_any image n (behind g s) i ≡ lifted g (step_if_any image n s i)
 stepped_at image n g s None = refl
@@ -197,10 +194,7 @@ ended_behind p bound g at f e =
 
 goes_behind : (g : List ℕ) (o : StepOutcome) (to : State) → lifted g o ≡ Goes to → (first : State) × (o ≡ Goes first) × (to ≡ behind g first)
 goes_behind g (Goes first) to e = (first, refl, cc)
-goes_behind g Halts to e = absurd (cc)
-goes_behind g Errs to e = absurd (cc)
-goes_behind g (Limits left) to e = absurd (cc)
-goes_behind g Stuck to e = absurd (cc)
+goes_behind g _ to e = absurd (cc)
 
 on_behind : (told : Bool) (p : TimedImage) (bound : ℕ) (g : List ℕ) (b next : Point) (c c' : ConsoleView) → GoesOn told p bound (point_behind g b) next c c' →
     (first : Point) × GoesOn told p bound b first c c' × (next ≡ point_behind g first)

@@ -6,7 +6,7 @@ use Rattle.std.proofs.lemmas.Bool.{and_parts}
 use Rattle.mic_words.specs.declared.machine.Machine.{Machine}
 use Rattle.mic_words.specs.declared.machine.Machine.TheVariants.{Mic1, Mic2}
 use Rattle.ijvm_instr.specs.declared.instr.Instr.{Instr}
-use Rattle.ijvm_instr.specs.declared.instr.Instr.TheVariants.{Nop, Bipush, LdcW, Iload, Istore, Pop, Dup, Swap, Iadd, Isub, Iand, Iinc, Ifeq, Iflt, IfIcmpeq, Goto, Ireturn, Ior, Invokevirtual, WideIload, WideIstore, WideIinc, In, Out, Err, Halt}
+use Rattle.ijvm_instr.specs.declared.instr.Instr.TheVariants.{Nop, Err, Halt}
 use Rattle.ijvm_instr.specs.declared.row.Cost.{Cost}
 use Rattle.ijvm_instr.specs.declared.row.Cost.TheVariants.{Always, IfTaken, ByEntry}
 use Rattle.ijvm_instr.specs.declared.row.Row.{Row}
@@ -65,61 +65,14 @@ both P i = P (row_of i).mic1 && P (row_of i).mic2
 
 -- every instruction that goes on costs at least a cycle
 paid : (image : ImageView) (n : ℕ) (i : Instr) (s to : State) → step image n i s ≡ Goes to → both (at_least 1) i ≡ true
-paid image n Nop s to e = refl
-paid image n (Bipush b) s to e = refl
-paid image n (LdcW k) s to e = refl
-paid image n (Iload k) s to e = refl
-paid image n (Istore k) s to e = refl
-paid image n Pop s to e = refl
-paid image n Dup s to e = refl
-paid image n Swap s to e = refl
-paid image n Iadd s to e = refl
-paid image n Isub s to e = refl
-paid image n Iand s to e = refl
-paid image n (Iinc k b) s to e = refl
-paid image n (Ifeq o) s to e = refl
-paid image n (Iflt o) s to e = refl
-paid image n (IfIcmpeq o) s to e = refl
-paid image n (Goto o) s to e = refl
-paid image n Ireturn s to e = refl
-paid image n Ior s to e = refl
-paid image n (Invokevirtual k) s to e = refl
-paid image n (WideIload k) s to e = refl
-paid image n (WideIstore k) s to e = refl
-paid image n (WideIinc k z) s to e = refl
-paid image n In s to e = refl
-paid image n Out s to e = refl
 paid image n Err s to e = absurd (cc)
 paid image n Halt s to e = absurd (cc)
+paid image n _ s to e = refl
 
 -- no instruction costs more than 23 cycles
 cheap : (i : Instr) → both (at_most 23) i ≡ true
 cheap Nop = refl
-cheap (Bipush b) = refl
-cheap (LdcW k) = refl
-cheap (Iload k) = refl
-cheap (Istore k) = refl
-cheap Pop = refl
-cheap Dup = refl
-cheap Swap = refl
-cheap Iadd = refl
-cheap Isub = refl
-cheap Iand = refl
-cheap (Iinc k b) = refl
-cheap (Ifeq o) = refl
-cheap (Iflt o) = refl
-cheap (IfIcmpeq o) = refl
-cheap (Goto o) = refl
-cheap Ireturn = refl
-cheap Ior = refl
-cheap (Invokevirtual k) = refl
-cheap (WideIload k) = refl
-cheap (WideIstore k) = refl
-cheap (WideIinc k z) = refl
-cheap In = refl
-cheap Out = refl
-cheap Err = refl
-cheap Halt = refl
+cheap _ = refl
 
 least_at : (image : ImageView) (n : ℕ) (machine : Machine) (i : Option Instr) (s to : State) → step_if_any image n s i ≡ Goes to → 1 ≤ cost_at image (timing_of machine) s i
 least_at image n machine None s to e = absurd (cc)

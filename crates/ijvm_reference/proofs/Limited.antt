@@ -4,7 +4,7 @@ use Rattle.std.specs.Prelude.{slice_get, bit_and, bit_or}
 use Rattle.mic_words.specs.Arithmetic.{plus, minus, is_negative}
 use Rattle.console_port.specs.World.{next_byte}
 use Rattle.ijvm_instr.specs.declared.instr.Instr.{Instr}
-use Rattle.ijvm_instr.specs.declared.instr.Instr.TheVariants.{Nop, Bipush, LdcW, Iload, Istore, Pop, Dup, Swap, Iadd, Isub, Iand, Iinc, Ifeq, Iflt, IfIcmpeq, Goto, Ireturn, Ior, Invokevirtual, WideIload, WideIstore, WideIinc, In, Out, Err, Halt}
+use Rattle.ijvm_instr.specs.declared.instr.Instr.TheVariants.{Bipush, LdcW, Iload, Istore, Pop, Dup, Swap, Iadd, Isub, Iand, Iinc, Ifeq, Iflt, IfIcmpeq, Ireturn, Ior, Invokevirtual, WideIload, WideIstore, WideIinc, In, Out}
 use Rattle.ijvm_image.specs.declared.method.Method.{Method}
 use Rattle.ijvm_instr.specs.Instructions.{instr_at}
 use Rattle.ijvm_image.specs.Image.{ImageView, method_at}
@@ -104,7 +104,6 @@ read_at stack_end s out e =
     record { running = h.running; callers = h.callers; at = h.at }
 
 step_at : (image : ImageView) (stack_end : ℕ) (i : Instr) (s out : State) → step image stack_end i s ≡ Limits out → SameFrames s out
-step_at image n Nop s out e = absurd (cc)
 step_at image n (Bipush b) s out e = pushed_at n s (word_of b) (s.at + 2) out e
 step_at image n (LdcW k) s out e = constant_at n s (slice_get image.pool k) out e
 step_at image n (Iload k) s out e = loaded_at n s (slice_get s.running.locals k) (s.at + 2) out e
@@ -119,7 +118,6 @@ step_at image n (Iinc k b) s out e = increased_at s k b (slice_get s.running.loc
 step_at image n (Ifeq o) s out e = branched_at _ s o s.running.operands out e
 step_at image n (Iflt o) s out e = branched_at is_negative s o s.running.operands out e
 step_at image n (IfIcmpeq o) s out e = compared_at s o s.running.operands out e
-step_at image n (Goto o) s out e = absurd (cc)
 step_at image n Ireturn s out e = returned_at s s.running.back s.callers s.running.operands out e
 step_at image n Ior s out e = combined_at bit_or s s.running.operands out e
 step_at image n (Invokevirtual k) s out e = called_to n s (method_at image.text (slice_get image.pool k)) out e
@@ -128,8 +126,7 @@ step_at image n (WideIstore k) s out e = stored_at s k s.running.operands (s.at 
 step_at image n (WideIinc k z) s out e = increased_at s k z (slice_get s.running.locals k) (s.at + 6) out e
 step_at image n In s out e = read_at n s out e
 step_at image n Out s out e = given_at s s.running.operands out e
-step_at image n Err s out e = absurd (cc)
-step_at image n Halt s out e = absurd (cc)
+step_at image n _ s out e = absurd (cc)
 
 stepped_at : (image : ImageView) (stack_end : ℕ) (s : State) (i : Option Instr) (out : State) → step_if_any image stack_end s i ≡ Limits out → SameFrames s out
 stepped_at image stack_end s None out e = absurd (cc)

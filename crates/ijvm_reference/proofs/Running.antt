@@ -148,8 +148,7 @@ cut_here e told c held bound machine old new cycles instructions r u g same unde
 cut_reported : (e : StepError) (told : Bool) (c : ConsoleView) (held : Option (List ℕ)) (p : TimedImage) (bound : ℕ) (from : Point) (r : Counts) (new : MachineView) (u g : List ℕ) →
     IsCut e told c held p bound from r new u g → StoppedBy told c held (cut_by e) p bound from r new u g
 cut_reported errors.ReadFault told c held p bound from r new u g cut = cut
-cut_reported errors.WriteFault told c held p bound from r new u g cut = cut
-cut_reported errors.OutOfMemory told c held p bound from r new u g cut = cut
+cut_reported _ told c held p bound from r new u g cut = cut
 
 -- after a write that failed the sink holds all but the last of what was kept
 all_but : (held held' : Option (List ℕ)) (kept kept' given : List ℕ) → IsLost held kept held' kept' → Given held kept given → IsAllBut held' kept given
@@ -210,8 +209,7 @@ step_further steps.Went left held c left' held' c' bound machine old new counts 
     let some : 1 ≤ cost = subst (λ (k : ℕ). 1 ≤ k) (sym is) (went_cost left held c left' held' c' machine old new led) in
     record { under = under; more = omega arith; next = record { boundary = refl; few = omega (arith, at.few) } }
 step_further steps.Halt left held c left' held' c' bound machine old new counts cost under at is led = tt
-step_further steps.Err left held c left' held' c' bound machine old new counts cost under at is led = tt
-step_further steps.StackLimit left held c left' held' c' bound machine old new counts cost under at is led = tt
+step_further _ left held c left' held' c' bound machine old new counts cost under at is led = tt
 
 -- Whole runs.
 

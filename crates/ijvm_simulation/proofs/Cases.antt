@@ -5,7 +5,7 @@ use Rattle.std.proofs.lemmas.Bool.Decides.{nat_tests}
 use Rattle.mic_words.specs.Arithmetic.{plus, minus, is_negative}
 use Rattle.console_port.specs.World.{next_byte}
 use Rattle.ijvm_instr.specs.declared.instr.Instr.{Instr}
-use Rattle.ijvm_instr.specs.declared.instr.Instr.TheVariants.{Nop, Bipush, LdcW, Iload, Istore, Pop, Dup, Swap, Iadd, Isub, Iand, Iinc, Ifeq, Iflt, IfIcmpeq, Goto, Ireturn, Ior, Invokevirtual, WideIload, WideIstore, WideIinc, In, Out, Err, Halt}
+use Rattle.ijvm_instr.specs.declared.instr.Instr.TheVariants.{Bipush, LdcW, Iload, Istore, Pop, Dup, Swap, Iadd, Isub, Iand, Iinc, Ifeq, Iflt, IfIcmpeq, Ireturn, Ior, Invokevirtual, WideIload, WideIstore, WideIinc, In, Out}
 use Rattle.ijvm_instr.specs.Instructions.{word_of}
 use Rattle.ijvm_image.specs.declared.method.Method.{Method}
 use Rattle.ijvm_image.specs.Image.{ImageView, method_at}
@@ -135,7 +135,6 @@ module _ (image : ImageView) (stack_end : ℕ) (s : State) where
   give (y ∷ rest) e = record { top = y; rest = rest; are = e; leads = refl }
 
   pub says : (i : Instr) → IsOutcome image stack_end s i (step image stack_end i s)
-  says Nop = refl
   says (Bipush b) = room (Bipush b) s (push s (word_of b) (s.at + 2)) (λ l. record { fits = l; goes = refl }) (λ l. record { over = l; leaves = refl })
   says (LdcW k) = constant k (slice_get image.pool k) refl
   says (Iload k) = load k (slice_get s.running.locals k) refl
@@ -150,7 +149,6 @@ module _ (image : ImageView) (stack_end : ℕ) (s : State) where
   says (Ifeq o) = branch (Ifeq o) (λ y. y == 0) o (λ y rest e. record { top = y; rest = rest; are = e; leads = refl }) s.running.operands refl
   says (Iflt o) = branch (Iflt o) is_negative o (λ y rest e. record { top = y; rest = rest; are = e; leads = refl }) s.running.operands refl
   says (IfIcmpeq o) = compare o s.running.operands refl
-  says (Goto o) = refl
   says Ireturn = return s.running.back s.callers s.running.operands refl refl refl
   says Ior = combine Ior bit_or (λ y x rest e. record { top = y; second = x; rest = rest; are = e; leads = refl }) s.running.operands refl
   says (Invokevirtual k) = call k (method_at image.text (slice_get image.pool k)) refl
@@ -159,5 +157,4 @@ module _ (image : ImageView) (stack_end : ℕ) (s : State) where
   says (WideIinc k n) = wide_increase k n (slice_get s.running.locals k) refl
   says In = room In (taken s) (push (taken s) (next_byte s.untaken) (s.at + 1)) (λ l. record { fits = l; goes = refl }) (λ l. record { over = l; leaves = refl })
   says Out = give s.running.operands refl
-  says Err = refl
-  says Halt = refl
+  says _ = refl

@@ -2,7 +2,7 @@
 use Rattle.std.proofs.Common.{◌≡◌, ◌<◌, ℕ, zero, suc, Bool, true, false, nat_le, Option, Some, refl, sym, ◌∙◌, ap, subst}
 use Rattle.std.proofs.lemmas.Bool.{lt-leb, leb-false}
 use Rattle.ijvm_meaning.specs.Frames.{State}
-use Rattle.ijvm_meaning.specs.Step.{StepOutcome, Goes, Halts, Errs, Limits, Stuck, step_outcome}
+use Rattle.ijvm_meaning.specs.Step.{StepOutcome, Goes, step_outcome}
 use Rattle.ijvm_meaning.specs.Run.{TimedImage, Point, point_after, Passes, Start, More}
 use Rattle.ijvm_simulation.specs.Simulates.{below, going_on, point_behind}
 
@@ -16,10 +16,7 @@ module _ (p : TimedImage) (bound : ℕ) where
   module _ (more : Point → Option Point) (from at : Point) (on : (next : Point) → more next ≡ Some at → Passes p bound next at) where
     passed_by : (o : StepOutcome) → from.cycles < bound → step_outcome p.image p.stack_end from.state ≡ o → going_on more p from o ≡ Some at → Passes p bound from at
     passed_by (Goes to) under goes e = passes_on from (point_after p from to) at to under goes refl (on (point_after p from to) e)
-    passed_by Halts under goes e = absurd (cc)
-    passed_by Errs under goes e = absurd (cc)
-    passed_by (Limits left) under goes e = absurd (cc)
-    passed_by Stuck under goes e = absurd (cc)
+    passed_by _ under goes e = absurd (cc)
 
     passed_under : (t : Bool) → nat_le bound from.cycles ≡ t → below more p from t ≡ Some at → Passes p bound from at
     passed_under true is e = absurd (cc)
@@ -41,10 +38,7 @@ module _ (p : TimedImage) (bound : ℕ) where
       more_by : (o : StepOutcome) → from.cycles < bound → step_outcome p.image p.stack_end from.state ≡ o → going_on (point_behind p bound i) p from o ≡ Some at →
           point_behind p bound (suc (suc i)) from ≡ Some next
       more_by (Goes mid) less here e = goes_on (suc i) from mid less here ∙ on (point_after p from mid) e
-      more_by Halts less here e = absurd (cc)
-      more_by Errs less here e = absurd (cc)
-      more_by (Limits left) less here e = absurd (cc)
-      more_by Stuck less here e = absurd (cc)
+      more_by _ less here e = absurd (cc)
 
       more_under : (t : Bool) → nat_le bound from.cycles ≡ t → below (point_behind p bound i) p from t ≡ Some at → point_behind p bound (suc (suc i)) from ≡ Some next
       more_under true test e = absurd (cc)

@@ -3,7 +3,7 @@ use Rattle.std.proofs.Common.{ℕ, List}
 use Rattle.console_port.specs.World.{World}
 use Rattle.mic_clock.specs.Meaning.{Meaning}
 use Rattle.ijvm_instr.specs.declared.instr.Instr.{Instr}
-use Rattle.ijvm_instr.specs.declared.instr.Instr.TheVariants.{Nop, Bipush, LdcW, Iload, Istore, Pop, Dup, Swap, Iadd, Isub, Iand, Iinc, Ifeq, Iflt, IfIcmpeq, Goto, Ireturn, Ior, Invokevirtual, WideIload, WideIstore, WideIinc, In, Out, Err, Halt}
+use Rattle.ijvm_instr.specs.declared.instr.Instr.TheVariants.{LdcW, Iload, Istore, Iinc, Ifeq, Iflt, IfIcmpeq, Goto, Ireturn, Invokevirtual, WideIload, WideIstore, WideIinc, In, Out, Err, Halt}
 use Rattle.ijvm_image.specs.Image.{ImageView}
 use Rattle.ijvm_meaning.specs.Frames.{State}
 use Rattle.ijvm_meaning.specs.Cost.{Timing, cost}
@@ -19,24 +19,15 @@ use Rattle.ijvm_simulation.specs.Stalls.{MovesWithStalls, OverrunsWithStalls, Ta
 module _ (P : Instr → Type 0) (operands : (i : Instr) → IsOfOperands i → P i) (locals : (i : Instr) → IsOfLocals i → P i) (jumps : (i : Instr) → IsJump i → P i)
     (calls : (i : Instr) → IsCall i → P i) (consoles : (i : Instr) → IsOfConsole i → P i) (err : P Err) (halt : P Halt) where
   each : (i : Instr) → P i
-  each Nop = operands Nop tt
-  each (Bipush b) = operands (Bipush b) tt
   each (LdcW k) = locals (LdcW k) tt
   each (Iload k) = locals (Iload k) tt
   each (Istore k) = locals (Istore k) tt
-  each Pop = operands Pop tt
-  each Dup = operands Dup tt
-  each Swap = operands Swap tt
-  each Iadd = operands Iadd tt
-  each Isub = operands Isub tt
-  each Iand = operands Iand tt
   each (Iinc k b) = locals (Iinc k b) tt
   each (Ifeq z) = jumps (Ifeq z) tt
   each (Iflt z) = jumps (Iflt z) tt
   each (IfIcmpeq z) = jumps (IfIcmpeq z) tt
   each (Goto z) = jumps (Goto z) tt
   each Ireturn = calls Ireturn tt
-  each Ior = operands Ior tt
   each (Invokevirtual k) = calls (Invokevirtual k) tt
   each (WideIload k) = locals (WideIload k) tt
   each (WideIstore k) = locals (WideIstore k) tt
@@ -45,6 +36,7 @@ module _ (P : Instr → Type 0) (operands : (i : Instr) → IsOfOperands i → P
   each Out = consoles Out tt
   each Err = err
   each Halt = halt
+  each e = operands e tt
 
 module _ {S : Type 0} (m : Meaning S) (words : List ℕ) (IsAt : State → S → World → Type 0) (before : List ℕ) (timing : Timing) (v : VerifiedView) (o : Origin) where
   -- what an instruction takes where it goes on, and where the stack has no room

@@ -4,7 +4,7 @@ use Rattle.mic_words.specs.Arithmetic.{signed_byte, signed_pair}
 use Rattle.console_port.specs.World.{World, byte_in}
 use Rattle.mic_clock.specs.Meaning.{Meaning}
 use Rattle.ijvm_instr.specs.declared.instr.Instr.{Instr}
-use Rattle.ijvm_instr.specs.declared.instr.Instr.TheVariants.{Nop, Bipush, LdcW, Iload, Istore, Pop, Dup, Swap, Iadd, Isub, Iand, Iinc, Ifeq, Iflt, IfIcmpeq, Goto, Ireturn, Ior, Invokevirtual, WideIload, WideIstore, WideIinc, In, Out, Err, Halt}
+use Rattle.ijvm_instr.specs.declared.instr.Instr.TheVariants.{Nop, Bipush, LdcW, Iload, Istore, Pop, Dup, Swap, Iadd, Isub, Iand, Iinc, Ifeq, Iflt, IfIcmpeq, Goto, Ireturn, Ior, Invokevirtual, WideIload, WideIstore, WideIinc, In, Err, Halt}
 use Rattle.ijvm_instr.specs.Instructions.{row_of, size_of, prefix, operand_bytes, instr_at}
 use Rattle.ijvm_meaning.specs.Frames.{State, AreWords, start_of}
 use Rattle.ijvm_meaning.specs.Step.{StepOutcome, Goes, Halts, Errs, Limits, step_outcome, step_if_any}
@@ -52,9 +52,7 @@ module _ (a b c d e f a' b' c' d' e' f' : ℕ) where
   reads_along (WideIinc k z) p q r s t u h =
       (p (omega arith) ∙ h.0, q (omega arith) ∙ h.1, h.2 ∙ two (r (omega arith)) (s (omega arith)), h.3 ∙ ap₂ signed_pair (sym (t (omega arith))) (sym (u (omega arith))))
   reads_along In p q r s t u h = p (omega arith) ∙ h
-  reads_along Out p q r s t u h = p (omega arith) ∙ h
-  reads_along Err p q r s t u h = p (omega arith) ∙ h
-  reads_along Halt p q r s t u h = p (omega arith) ∙ h
+  reads_along _ p q r s t u h = p (omega arith) ∙ h
 
 -- what is known of a verified image's runs
 pub record Known (v : VerifiedView) : Type 0 where

@@ -24,49 +24,19 @@ use Rattle.ijvm_tokens.specs.Reading.{extent, lexer, name_token, quote_len, sign
 sign_again : (s : Sign) → find_sign (sign_text s) ≡ Some s
 sign_again s = elim s as (λ s. find_sign (sign_text s) ≡ Some s) [
   | signs.Open ↦ refl
-  | signs.Close ↦ refl
-  | signs.Comma ↦ refl
-  | signs.Colon ↦ refl
-  | signs.Constant ↦ refl
-  | signs.EndConstant ↦ refl
-  | signs.Main ↦ refl
-  | signs.EndMain ↦ refl
-  | signs.Method ↦ refl
-  | signs.EndMethod ↦ refl
-  | signs.Var ↦ refl
-  | signs.EndVar ↦ refl
+  | _ ↦ refl
 ]
 
 sign_dark : (s : Sign) → begins_with is_name_byte (sign_text s) ≡ false
 sign_dark s = elim s as (λ s. begins_with is_name_byte (sign_text s) ≡ false) [
   | signs.Open ↦ refl
-  | signs.Close ↦ refl
-  | signs.Comma ↦ refl
-  | signs.Colon ↦ refl
-  | signs.Constant ↦ refl
-  | signs.EndConstant ↦ refl
-  | signs.Main ↦ refl
-  | signs.EndMain ↦ refl
-  | signs.Method ↦ refl
-  | signs.EndMethod ↦ refl
-  | signs.Var ↦ refl
-  | signs.EndVar ↦ refl
+  | _ ↦ refl
 ]
 
 sign_number : (s : Sign) → begins_number (sign_text s) ≡ false
 sign_number s = elim s as (λ s. begins_number (sign_text s) ≡ false) [
   | signs.Open ↦ refl
-  | signs.Close ↦ refl
-  | signs.Comma ↦ refl
-  | signs.Colon ↦ refl
-  | signs.Constant ↦ refl
-  | signs.EndConstant ↦ refl
-  | signs.Main ↦ refl
-  | signs.EndMain ↦ refl
-  | signs.Method ↦ refl
-  | signs.EndMethod ↦ refl
-  | signs.Var ↦ refl
-  | signs.EndVar ↦ refl
+  | _ ↦ refl
 ]
 
 chosen : {A : Type 0} (b : Bool) (x y z : Option A) → cond b x y ≡ z → ((b ≡ true) × (x ≡ z)) ⊎ ((b ≡ false) × (y ≡ z))
@@ -148,10 +118,6 @@ far_word text rest all e = let r = run_all is_word_byte text rest all (e.word re
 
 far_sign : (s : Sign) (rest : List ℕ) → EndsLexeme (sign_text s) rest → extent (sign_text s ++ rest) ≡ length (sign_text s)
 far_sign s rest = elim s as (λ s. EndsLexeme (sign_text s) rest → extent (sign_text s ++ rest) ≡ length (sign_text s)) [
-  | signs.Open ↦ λ _. refl
-  | signs.Close ↦ λ _. refl
-  | signs.Comma ↦ λ _. refl
-  | signs.Colon ↦ λ _. refl
   | signs.Constant ↦ far_word (codes "constant") rest refl
   | signs.EndConstant ↦ far_word (codes "end-constant") rest refl
   | signs.Main ↦ far_word (codes "main") rest refl
@@ -160,6 +126,7 @@ far_sign s rest = elim s as (λ s. EndsLexeme (sign_text s) rest → extent (sig
   | signs.EndMethod ↦ far_word (codes "end-method") rest refl
   | signs.Var ↦ far_word (codes "var") rest refl
   | signs.EndVar ↦ far_word (codes "end-var") rest refl
+  | _ ↦ λ _. refl
 ]
 
 -- after a quote stand two bytes, or fewer at the end of the line

@@ -10,7 +10,7 @@ use Rattle.ijvm_image.specs.Image.{ImageView}
 use Rattle.verifier_reach.specs.declared.kept.Kept.{Kept}
 use Rattle.verifier_locals.specs.declared.graph.Node.{Node}
 use Rattle.verifier_facts.specs.declared.error.VerifyError.{VerifyError}
-use Rattle.verifier_facts.specs.declared.error.VerifyError.TheVariants.{BadCode, FallsOff, BadTarget, Overlap, BadConstant, BadEntry, BadHeader, LinkSlot, BadLocal, UnsetLocal, TooFewArguments, Underflow, DepthDiffers, ReturnInMain, MainFrame, OutOfMemory}
+use Rattle.verifier_facts.specs.declared.error.VerifyError.TheVariants.{Overlap, UnsetLocal, MainFrame, OutOfMemory}
 use Rattle.verifier_facts.specs.Paths.{Arrival, HasRow, Reached}
 use Rattle.verifier_facts.specs.declared.kind.Kind.{Kind}
 use Rattle.verifier_facts.specs.Facts.{Names, IsMainCount, IsTrueOf, Accepts}
@@ -75,22 +75,10 @@ one_count image c d h g = elim h.least [ inl zero_is ↦ omega arith | inr w ↦
 -- accepted, by the two searches, the sweep and the count
 pub accepted : (image : ImageView) (z count : ℕ) → ((e : VerifyError) → IsDecided e → IsTrueOf image z e → ⊥) → ((at k : ℕ) → IsTrueOf image z (UnsetLocal at k) → ⊥) → ((b : ℕ) → IsTrueOf image z (Overlap b) → ⊥) → IsMainCount image count →
     0x8000 + count ≤ z → Accepts image z
-accepted image z count s u o m fits (BadCode p) h = s (BadCode p) tt h
-accepted image z count s u o m fits (FallsOff p) h = s (FallsOff p) tt h
-accepted image z count s u o m fits (BadTarget p) h = s (BadTarget p) tt h
-accepted image z count s u o m fits (BadConstant p k) h = s (BadConstant p k) tt h
-accepted image z count s u o m fits (BadEntry k) h = s (BadEntry k) tt h
-accepted image z count s u o m fits (BadHeader p) h = s (BadHeader p) tt h
-accepted image z count s u o m fits (LinkSlot p) h = s (LinkSlot p) tt h
-accepted image z count s u o m fits (BadLocal p k) h = s (BadLocal p k) tt h
 accepted image z count s u o m fits (UnsetLocal p k) h = u p k h
-accepted image z count s u o m fits (TooFewArguments p x y) h = s (TooFewArguments p x y) tt h
-accepted image z count s u o m fits (Underflow p) h = s (Underflow p) tt h
-accepted image z count s u o m fits (ReturnInMain p) h = s (ReturnInMain p) tt h
-accepted image z count s u o m fits (DepthDiffers p x y) h = s (DepthDiffers p x y) tt h
 accepted image z count s u o m fits (Overlap p) h = o p h
 accepted image z count s u o m fits (MainFrame n) h = let le : n ≤ count = one_count image n count h.0 m in omega (arith, h.1)
-accepted image z count s u o m fits OutOfMemory h = s OutOfMemory tt h
+accepted image z count s u o m fits e h = s e tt h
 
 -- what is verified, by a survey and the size of main's frame
 pub verified : (image : ImageView) (main_locals : ℕ) (map : MemoryMap) (methods : ℕ) (kinds : List Kind) → IsSurvey image main_locals methods kinds →

@@ -68,14 +68,12 @@ tail_is (s ∷ n ∷ u ∷ ts) t h = absurd (cc)
 
 tail_again : (t : Tail) → tail_of (tail_tokens t) ≡ Some t
 tail_again tails.Nothing = refl
-tail_again (tails.Left v) = refl
-tail_again (tails.Right v) = refl
+tail_again _ = refl
 
 tail_begins : (t : Tail) → begins_with is_expr (tail_tokens t) ≡ false
 unfolding begins_with
 tail_begins tails.Nothing = refl
-tail_begins (tails.Left v) = refl
-tail_begins (tails.Right v) = refl
+tail_begins _ = refl
 
 -- ---- the expression
 

@@ -28,38 +28,14 @@ use Rattle.mal_line.proofs.Options.{bound, chosen, mapped}
 source_again : (x : BusSource) → source_of (source_word x) ≡ Some x
 source_again x = elim x as (λ x. source_of (source_word x) ≡ Some x) [
   | bus.Mdr ↦ refl
-  | bus.Pc ↦ refl
-  | bus.Mbr ↦ refl
-  | bus.Mbru ↦ refl
-  | bus.Sp ↦ refl
-  | bus.Lv ↦ refl
-  | bus.Cpp ↦ refl
-  | bus.Tos ↦ refl
-  | bus.Opc ↦ refl
-  | bus.Mbr1 ↦ refl
-  | bus.Mbr1u ↦ refl
-  | bus.Mbr2 ↦ refl
-  | bus.Mbr2u ↦ refl
-  | bus.H ↦ refl
+  | _ ↦ refl
 ]
 
 -- H is on no B side of Mic-1
 b_is_not_h : (x : BusSource) → may_be_b Mic1 x ≡ true → is_h x ≡ false
 b_is_not_h x = elim x as (λ x. may_be_b Mic1 x ≡ true → is_h x ≡ false) [
-  | bus.Mdr ↦ λ h. refl
-  | bus.Pc ↦ λ h. refl
-  | bus.Mbr ↦ λ h. refl
-  | bus.Mbru ↦ λ h. refl
-  | bus.Sp ↦ λ h. refl
-  | bus.Lv ↦ λ h. refl
-  | bus.Cpp ↦ λ h. refl
-  | bus.Tos ↦ λ h. refl
-  | bus.Opc ↦ λ h. refl
-  | bus.Mbr1 ↦ λ h. refl
-  | bus.Mbr1u ↦ λ h. refl
-  | bus.Mbr2 ↦ λ h. refl
-  | bus.Mbr2u ↦ λ h. refl
   | bus.H ↦ λ h. absurd (cc)
+  | _ ↦ λ h. refl
 ]
 
 source : BusSource → Token
@@ -197,8 +173,7 @@ form_again m body o h s =
 
 shift_again : (s : Shift) → shift_of (tail_with s) ≡ Some s
 shift_again shifts.None = refl
-shift_again shifts.Left8 = refl
-shift_again shifts.Right1 = refl
+shift_again _ = refl
 
 pub number_is : (v : ℤ) (n : ℕ) → is_number v n ≡ true → v ≡ pos n
 number_is (pos k) n h = ap pos (eqb-true k n h)

@@ -28,26 +28,12 @@ place registers.Mar = 0
 loads_at : (c : ℕ) (r : Destination) → IsTrue (loads c r) → bit_at c (place r) ≡ 1
 unfolding place
 loads_at c registers.H h = grind (arith, nat_tests)
-loads_at c registers.Opc h = grind (arith, nat_tests)
-loads_at c registers.Tos h = grind (arith, nat_tests)
-loads_at c registers.Cpp h = grind (arith, nat_tests)
-loads_at c registers.Lv h = grind (arith, nat_tests)
-loads_at c registers.Sp h = grind (arith, nat_tests)
-loads_at c registers.Pc h = grind (arith, nat_tests)
-loads_at c registers.Mdr h = grind (arith, nat_tests)
-loads_at c registers.Mar h = grind (arith, nat_tests)
+loads_at c _ h = grind (arith, nat_tests)
 
 at_loads : (c : ℕ) (r : Destination) → bit_at c (place r) ≡ 1 → IsTrue (loads c r)
 unfolding place
 at_loads c registers.H h = grind (arith, nat_tests)
-at_loads c registers.Opc h = grind (arith, nat_tests)
-at_loads c registers.Tos h = grind (arith, nat_tests)
-at_loads c registers.Cpp h = grind (arith, nat_tests)
-at_loads c registers.Lv h = grind (arith, nat_tests)
-at_loads c registers.Sp h = grind (arith, nat_tests)
-at_loads c registers.Pc h = grind (arith, nat_tests)
-at_loads c registers.Mdr h = grind (arith, nat_tests)
-at_loads c registers.Mar h = grind (arith, nat_tests)
+at_loads c _ h = grind (arith, nat_tests)
 
 one_of : (x y : ℕ) → x < 2 → y < 2 → max x y ≡ 1 → (x ≡ 1) ⊎ (y ≡ 1)
 one_of zero zero p q h = absurd (cc)
@@ -94,25 +80,11 @@ same_register _ _ h = absurd (cc)
 
 own_bit : (r : Destination) → IsTrue (loads (bit (register_word r)) r)
 own_bit registers.H = refl
-own_bit registers.Opc = refl
-own_bit registers.Tos = refl
-own_bit registers.Cpp = refl
-own_bit registers.Lv = refl
-own_bit registers.Sp = refl
-own_bit registers.Pc = refl
-own_bit registers.Mdr = refl
-own_bit registers.Mar = refl
+own_bit _ = refl
 
 no_bit : (r : Destination) → IsTrue (loads 0 r) → ⊥
 no_bit registers.H h = cc
-no_bit registers.Opc h = cc
-no_bit registers.Tos h = cc
-no_bit registers.Cpp h = cc
-no_bit registers.Lv h = cc
-no_bit registers.Sp h = cc
-no_bit registers.Pc h = cc
-no_bit registers.Mdr h = cc
-no_bit registers.Mar h = cc
+no_bit _ h = cc
 
 -- the word whose bit loads a register is the register's
 loading_word : (w : Word) (r : Destination) → IsTrue (loads (bit w) r) → w ≡ register_word r

@@ -279,32 +279,13 @@ piece_is m (t ∷ rest) p h = go (head_of t) (heads_is t) h
 
 dest_head : (w : Word) → is_dest w ≡ true → head_of (tokens.Word w) ≡ heads.Other
 dest_head w = elim w as (λ w. is_dest w ≡ true → head_of (tokens.Word w) ≡ heads.Other) [
-  | words.Mar ↦ λ h. refl
-  | words.Mdr ↦ λ h. refl
-  | words.Pc ↦ λ h. refl
-  | words.Sp ↦ λ h. refl
-  | words.Lv ↦ λ h. refl
-  | words.Cpp ↦ λ h. refl
-  | words.Tos ↦ λ h. refl
-  | words.Opc ↦ λ h. refl
-  | words.H ↦ λ h. refl
-  | words.Mbr ↦ λ h. refl
-  | words.Mbru ↦ λ h. refl
-  | words.Mbr1 ↦ λ h. refl
-  | words.Mbr1u ↦ λ h. refl
-  | words.Mbr2 ↦ λ h. refl
-  | words.Mbr2u ↦ λ h. refl
-  | words.N ↦ λ h. refl
-  | words.Z ↦ λ h. refl
-  | words.And ↦ λ h. refl
-  | words.Or ↦ λ h. refl
-  | words.Not ↦ λ h. refl
   | words.Rd ↦ λ h. absurd (cc)
   | words.Wr ↦ λ h. absurd (cc)
   | words.Fetch ↦ λ h. absurd (cc)
   | words.Goto ↦ λ h. absurd (cc)
   | words.If ↦ λ h. absurd (cc)
   | words.Else ↦ λ h. absurd (cc)
+  | _ ↦ λ h. refl
 ]
 
 assign_again : (m : Machine) (ts : List Token) (a : Assignment) → IsAssignment m ts a → piece_of m ts ≡ Some (found.Assign a)
@@ -334,11 +315,8 @@ if_again m ts tests.N n is = ap (piece_of m) is
 if_again m ts tests.Z n is = ap (piece_of m) is
 
 pub piece_again : (m : Machine) (ts : List Token) (p : Piece) → IsPiece m p ts → piece_of m ts ≡ Some p
-piece_again m ts found.Nothing is = ap (piece_of m) is
 piece_again m ts (found.Assign a) is = assign_again m ts a is
 piece_again m ts (found.Mem x) is = mem_again m ts x is
-piece_again m ts found.Fetch is = ap (piece_of m) is
-piece_again m ts (found.Goto n) is = ap (piece_of m) is
 piece_again m ts (found.Dispatch high) is = dispatch_again m ts high is
 piece_again m ts (found.If t n) is = if_again m ts t n is
-piece_again m ts (found.Else n) is = ap (piece_of m) is
+piece_again m ts _ is = ap (piece_of m) is

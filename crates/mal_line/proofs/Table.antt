@@ -31,20 +31,6 @@ stands_word : (w : Word) → Stands (operand_by (source_of w)) (tokens.Word w)
 unfolding Stands
 stands_word w = elim w as (λ w. Stands (operand_by (source_of w)) (tokens.Word w)) [
   | words.Mar ↦ tt
-  | words.Mdr ↦ refl
-  | words.Pc ↦ refl
-  | words.Sp ↦ refl
-  | words.Lv ↦ refl
-  | words.Cpp ↦ refl
-  | words.Tos ↦ refl
-  | words.Opc ↦ refl
-  | words.H ↦ refl
-  | words.Mbr ↦ refl
-  | words.Mbru ↦ refl
-  | words.Mbr1 ↦ refl
-  | words.Mbr1u ↦ refl
-  | words.Mbr2 ↦ refl
-  | words.Mbr2u ↦ refl
   | words.N ↦ tt
   | words.Z ↦ tt
   | words.And ↦ tt
@@ -56,6 +42,7 @@ stands_word w = elim w as (λ w. Stands (operand_by (source_of w)) (tokens.Word 
   | words.Goto ↦ tt
   | words.If ↦ tt
   | words.Else ↦ tt
+  | _ ↦ refl
 ]
 
 stands : (t : Token) → Stands (operand_of t) t

@@ -199,10 +199,8 @@ address_adds k s (said.Fallback parts) u cs a h = h
 address_adds k s (said.Statement label parts) u cs a h = h
 
 address_behind : (c : Content) (cs : List Content) → AreAddresses (c ∷ cs) → AreAddresses cs
-address_behind said.Nothing cs h = h
 address_behind (said.Fix label number) cs h = h.1
-address_behind (said.Fallback parts) cs h = h
-address_behind (said.Statement label parts) cs h = h
+address_behind _ cs h = h
 
 back : (k : ℕ) (s : Sketch) (c : Content) (u : Sketch) (cs : List Content) → AddsTo k s c u → IsFineFrom u (k + 1) cs → IsFineFrom s k (c ∷ cs)
 back k s c u cs a h =

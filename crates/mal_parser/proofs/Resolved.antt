@@ -183,9 +183,7 @@ not_falling d h = go (falls d.parts.next) h
 
 falls_of : (ds : List Draft) (next : Next (List ℕ)) → resolved_next ds next ≡ nexts.Following → falls next ≡ true
 falls_of ds nexts.Following h = refl
-falls_of ds (nexts.Goto label) h = absurd (cc)
-falls_of ds (nexts.Dispatch high) h = absurd (cc)
-falls_of ds (nexts.Branch test high low) h = absurd (cc)
+falls_of ds _ h = absurd (cc)
 
 -- ---- the program
 

@@ -52,9 +52,7 @@ content_of p = filter_map fix_content p.statements ++ (option_to_list (option_ma
 
 same_next : (ss : List Statement) (next : Next ℕ) → labelled (named_next ss next) ≡ by_labels ss next
 same_next ss nexts.Following = refl
-same_next ss (nexts.Goto to) = refl
-same_next ss (nexts.Dispatch high) = refl
-same_next ss (nexts.Branch test high low) = refl
+same_next ss _ = refl
 
 -- lines that say this and are plain
 record AreSaid (m : Machine) (ls : List (List ℕ)) (cs : List Content) : Type 0 where

@@ -136,30 +136,15 @@ expression_tokens ops.DecB a b = between b (sign signs.Minus ∷ number (pos 1) 
 expression_tokens ops.NegA a b = ap (λ ts. table.minus ∷ ts) (side_tokens a)
 expression_tokens ops.And a b = between a (spaced (word words.And) ∷ behind_space (side b)) (tokens.Word words.And ∷ table.side b) (ap (λ ts. tokens.Word words.And ∷ ts) (spaced_side_tokens b))
 expression_tokens ops.Or a b = between a (spaced (word words.Or) ∷ behind_space (side b)) (tokens.Word words.Or ∷ table.side b) (ap (λ ts. tokens.Word words.Or ∷ ts) (spaced_side_tokens b))
-expression_tokens ops.Zero a b = refl
-expression_tokens ops.One a b = refl
-expression_tokens ops.MinusOne a b = refl
+expression_tokens _ a b = refl
 
 shift_tokens : (s : Shift) → tokens_of (shifted s) ≡ tail_tokens (tail_with s)
 shift_tokens shifts.None = refl
-shift_tokens shifts.Left8 = refl
-shift_tokens shifts.Right1 = refl
+shift_tokens _ = refl
 
 source_expr : (x : BusSource) → is_expr_word (source_word x) ≡ true
 source_expr bus.Mdr = refl
-source_expr bus.Pc = refl
-source_expr bus.Mbr = refl
-source_expr bus.Mbru = refl
-source_expr bus.Sp = refl
-source_expr bus.Lv = refl
-source_expr bus.Cpp = refl
-source_expr bus.Tos = refl
-source_expr bus.Opc = refl
-source_expr bus.Mbr1 = refl
-source_expr bus.Mbr1u = refl
-source_expr bus.Mbr2 = refl
-source_expr bus.Mbr2u = refl
-source_expr bus.H = refl
+source_expr _ = refl
 
 side_expr : (o : Option BusSource) (ts : List Token) → list_all is_expr ts ≡ true → list_all is_expr (table.side o ++ ts) ≡ true
 side_expr None ts h = h
@@ -170,9 +155,7 @@ one_side None = refl
 one_side (Some x) = ap (λ b. b && true) (source_expr x)
 
 pub spelling_expr : (op : AluOp) (a b : Option BusSource) → list_all is_expr (spelling op (table.side a) (table.side b)) ≡ true
-spelling_expr ops.A a b = one_side a
 spelling_expr ops.B a b = one_side b
-spelling_expr ops.NotA a b = one_side a
 spelling_expr ops.NotB a b = one_side b
 spelling_expr ops.Sum a b = side_expr a (table.plus ∷ table.side b) (one_side b)
 spelling_expr ops.SumInc a b = side_expr a (table.plus ∷ (table.side b ++ table.plus ∷ table.one_token ∷ [])) (side_expr b (table.plus ∷ table.one_token ∷ []) refl)
@@ -180,12 +163,12 @@ spelling_expr ops.IncA a b = side_expr a (table.plus ∷ table.one_token ∷ [])
 spelling_expr ops.IncB a b = side_expr b (table.plus ∷ table.one_token ∷ []) refl
 spelling_expr ops.Sub a b = side_expr b (table.minus ∷ table.side a) (one_side a)
 spelling_expr ops.DecB a b = side_expr b (table.minus ∷ table.one_token ∷ []) refl
-spelling_expr ops.NegA a b = one_side a
 spelling_expr ops.And a b = side_expr a (tokens.Word words.And ∷ table.side b) (one_side b)
 spelling_expr ops.Or a b = side_expr a (tokens.Word words.Or ∷ table.side b) (one_side b)
 spelling_expr ops.Zero a b = refl
 spelling_expr ops.One a b = refl
 spelling_expr ops.MinusOne a b = refl
+spelling_expr _ a b = one_side a
 
 -- ---- what stands in a word
 
@@ -247,9 +230,7 @@ filled_spelling m ops.DecB a b f g = filled_behind b table.minus (table.one_toke
 filled_spelling m ops.NegA a b f g = filled_more table.minus (table.side a)
 filled_spelling m ops.And a b f g = filled_behind a (tokens.Word words.And) (table.side b)
 filled_spelling m ops.Or a b f g = filled_behind a (tokens.Word words.Or) (table.side b)
-filled_spelling m ops.Zero a b f g = refl
-filled_spelling m ops.One a b f g = refl
-filled_spelling m ops.MinusOne a b f g = refl
+filled_spelling m _ a b f g = refl
 
 value_tokens : (part : Part) → tokens_of (value part) ≡ spelling part.op (table.side part.a) (table.side part.b) ++ tail_tokens (tail_with part.shift)
 value_tokens part =

@@ -123,14 +123,11 @@ own_signs m ops.DecB a b h g = own_append m b (table.minus ∷ table.one_token �
 own_signs m ops.NegA a b h g = h
 own_signs m ops.And a b h g = own_append m a (tokens.Word words.And ∷ b) h (own_more m (tokens.Word words.And) b (own_and m) g)
 own_signs m ops.Or a b h g = own_append m a (tokens.Word words.Or ∷ b) h (own_more m (tokens.Word words.Or) b (own_or m) g)
-own_signs m ops.Zero a b h g = refl
-own_signs m ops.One a b h g = refl
-own_signs m ops.MinusOne a b h g = refl
+own_signs m _ a b h g = refl
 
 own_tail : (m : Machine) (s : Shift) → are_own m (tail_tokens (tail_with s))
 own_tail m shifts.None = refl
-own_tail m shifts.Left8 = refl
-own_tail m shifts.Right1 = refl
+own_tail m _ = refl
 
 own_chain : (m : Machine) (part : Part) (next : Next Target) → Fits m part → are_own m (tokens_of (chain part next))
 own_chain m part next h =

@@ -38,11 +38,8 @@ abbrev pub is_whole : List Token → Bool
 is_whole ts = list_all (λ t. not (is_semicolon t)) ts
 
 expr_token : (t : Token) → is_expr t ≡ true → not (is_semicolon t) ≡ true
-expr_token (tokens.Word w) h = refl
-expr_token (tokens.Name n) h = refl
-expr_token (tokens.Number v) h = refl
 expr_token (tokens.Sign signs.Semicolon) h = absurd (cc)
-expr_token (tokens.Sign _) h = refl
+expr_token _ h = refl
 
 whole_expr : (ts : List Token) → list_all is_expr ts ≡ true → is_whole ts ≡ true
 whole_expr [] h = refl
@@ -54,8 +51,7 @@ whole_dests (w ∷ ws) ts h = whole_dests ws ts h
 
 whole_tail : (s : Shift) → is_whole (tail_tokens (tail_with s)) ≡ true
 whole_tail shifts.None = refl
-whole_tail shifts.Left8 = refl
-whole_tail shifts.Right1 = refl
+whole_tail _ = refl
 
 whole_chain : (part : Part) (next : Next Target) → is_whole (tokens_of (chain part next)) ≡ true
 whole_chain part next =

@@ -28,44 +28,11 @@ plain_bytes (b ∷ text) h = let p = and_parts (is_name_byte b) (list_all is_nam
 
 plain_word : (w : Word) → list_all is_plain (word_text w) ≡ true
 plain_word words.Mar = refl
-plain_word words.Mdr = refl
-plain_word words.Pc = refl
-plain_word words.Sp = refl
-plain_word words.Lv = refl
-plain_word words.Cpp = refl
-plain_word words.Tos = refl
-plain_word words.Opc = refl
-plain_word words.H = refl
-plain_word words.Mbr = refl
-plain_word words.Mbru = refl
-plain_word words.Mbr1 = refl
-plain_word words.Mbr1u = refl
-plain_word words.Mbr2 = refl
-plain_word words.Mbr2u = refl
-plain_word words.N = refl
-plain_word words.Z = refl
-plain_word words.And = refl
-plain_word words.Or = refl
-plain_word words.Not = refl
-plain_word words.Rd = refl
-plain_word words.Wr = refl
-plain_word words.Fetch = refl
-plain_word words.Goto = refl
-plain_word words.If = refl
-plain_word words.Else = refl
+plain_word _ = refl
 
 plain_sign : (s : Sign) → list_all is_plain (sign_text s) ≡ true
 plain_sign signs.Equals = refl
-plain_sign signs.Plus = refl
-plain_sign signs.Minus = refl
-plain_sign signs.Semicolon = refl
-plain_sign signs.Colon = refl
-plain_sign signs.Open = refl
-plain_sign signs.Close = refl
-plain_sign signs.Left = refl
-plain_sign signs.Right = refl
-plain_sign signs.Label = refl
-plain_sign signs.Default = refl
+plain_sign _ = refl
 
 plain_lexeme : (t : Token) (text : List ℕ) → IsLexeme t text → list_all is_plain text ≡ true
 plain_lexeme (tokens.Word w) text l = ap (list_all is_plain) l ∙ plain_word w

@@ -35,41 +35,20 @@ AreLexemes (p ∷ ps) = IsLexeme p.token p.text × AreLexemes ps
 
 sign_begins : (s : Sign) (rest : List ℕ) → is_wordy (tokens.Sign s) ≡ false → begins_with is_name_byte (sign_text s ++ rest) ≡ false
 sign_begins signs.Equals rest h = refl
-sign_begins signs.Plus rest h = refl
-sign_begins signs.Minus rest h = refl
-sign_begins signs.Semicolon rest h = refl
-sign_begins signs.Colon rest h = refl
-sign_begins signs.Open rest h = refl
-sign_begins signs.Close rest h = refl
-sign_begins signs.Left rest h = refl
-sign_begins signs.Right rest h = refl
-sign_begins signs.Label rest h = refl
-sign_begins signs.Default rest h = refl
+sign_begins _ rest h = refl
 
 sign_ends : (s : Sign) → is_wordy (tokens.Sign s) ≡ false → ends_with is_name_byte (sign_text s) ≡ false
-sign_ends signs.Equals h = refl
-sign_ends signs.Plus h = refl
-sign_ends signs.Minus h = refl
-sign_ends signs.Semicolon h = refl
-sign_ends signs.Colon h = refl
-sign_ends signs.Open h = refl
-sign_ends signs.Close h = refl
-sign_ends signs.Left h = refl
-sign_ends signs.Right h = refl
 sign_ends signs.Label h = absurd (cc)
 sign_ends signs.Default h = absurd (cc)
+sign_ends _ h = refl
 
 bare_begins : (t : Token) (text rest : List ℕ) → is_wordy t ≡ false → IsLexeme t text → begins_with is_name_byte (text ++ rest) ≡ false
-bare_begins (tokens.Word w) text rest h is = absurd (cc)
-bare_begins (tokens.Name n) text rest h is = absurd (cc)
-bare_begins (tokens.Number v) text rest h is = absurd (cc)
 bare_begins (tokens.Sign s) text rest h is = ap (λ x. begins_with is_name_byte (x ++ rest)) is ∙ sign_begins s rest h
+bare_begins _ text rest h is = absurd (cc)
 
 bare_ends : (t : Token) (text : List ℕ) → is_wordy t ≡ false → IsLexeme t text → ends_with is_name_byte text ≡ false
-bare_ends (tokens.Word w) text h is = absurd (cc)
-bare_ends (tokens.Name n) text h is = absurd (cc)
-bare_ends (tokens.Number v) text h is = absurd (cc)
 bare_ends (tokens.Sign s) text h is = ap (ends_with is_name_byte) is ∙ sign_ends s h
+bare_ends _ text h is = absurd (cc)
 
 -- ---- what is printed spells its tokens
 

@@ -36,9 +36,7 @@ part_again m part next h = go (is_absent part) refl
 
 next_again : (next : Next (List ℕ)) → next_by_jump (jump_of next) ≡ Some next
 next_again nexts.Following = refl
-next_again (nexts.Goto label) = refl
-next_again (nexts.Dispatch high) = refl
-next_again (nexts.Branch test high low) = refl
+next_again _ = refl
 
 parts_again : (m : Machine) (p : Parts) → Fits m p.part → parts_of (tree_for p.part p.next) ≡ Some p
 parts_again m p h = ap (λ o. parts_by o (next_by_jump (jump_of p.next))) (part_again m p.part p.next h) ∙ ap (parts_by (Some p.part)) (next_again p.next)

@@ -26,9 +26,7 @@ leads p (nexts.Branch test high low) = is_some (label_at p.statements high) && i
 
 follows : ℕ → ℕ → Next ℕ → Bool
 follows count number nexts.Following = nat_lt (number + 1) count
-follows count number (nexts.Goto to) = true
-follows count number (nexts.Dispatch high) = true
-follows count number (nexts.Branch test high low) = true
+follows count number _ = true
 
 is_label : Option (List ℕ) → Bool
 is_label None = true
@@ -56,9 +54,7 @@ leads_is p (nexts.Branch test high low) h = and_parts _ _ h
 follows_is : (count number : ℕ) (next : Next ℕ) → follows count number next ≡ true → next ≡ nexts.Following → number + 1 < count
 unfolding follows
 follows_is count number nexts.Following h e = ltb-true (number + 1) count h
-follows_is count number (nexts.Goto to) h e = absurd (cc)
-follows_is count number (nexts.Dispatch high) h e = absurd (cc)
-follows_is count number (nexts.Branch test high low) h e = absurd (cc)
+follows_is count number _ h e = absurd (cc)
 
 is_label_is : (label : Option (List ℕ)) → is_label label ≡ true → IfSome label IsLabelText
 unfolding is_label

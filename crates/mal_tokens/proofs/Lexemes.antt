@@ -28,107 +28,32 @@ use Rattle.mal_tokens.specs.Reading.{begins, extent, lexer, number_token, sign_o
 word_again : (w : Word) → find_word (word_text w) ≡ Some w
 word_again w = elim w as (λ w. find_word (word_text w) ≡ Some w) [
   | words.Mar ↦ refl
-  | words.Mdr ↦ refl
-  | words.Pc ↦ refl
-  | words.Sp ↦ refl
-  | words.Lv ↦ refl
-  | words.Cpp ↦ refl
-  | words.Tos ↦ refl
-  | words.Opc ↦ refl
-  | words.H ↦ refl
-  | words.Mbr ↦ refl
-  | words.Mbru ↦ refl
-  | words.Mbr1 ↦ refl
-  | words.Mbr1u ↦ refl
-  | words.Mbr2 ↦ refl
-  | words.Mbr2u ↦ refl
-  | words.N ↦ refl
-  | words.Z ↦ refl
-  | words.And ↦ refl
-  | words.Or ↦ refl
-  | words.Not ↦ refl
-  | words.Rd ↦ refl
-  | words.Wr ↦ refl
-  | words.Fetch ↦ refl
-  | words.Goto ↦ refl
-  | words.If ↦ refl
-  | words.Else ↦ refl
+  | _ ↦ refl
 ]
 
 sign_again : (s : Sign) → find_sign (sign_text s) ≡ Some s
 sign_again s = elim s as (λ s. find_sign (sign_text s) ≡ Some s) [
   | signs.Equals ↦ refl
-  | signs.Plus ↦ refl
-  | signs.Minus ↦ refl
-  | signs.Semicolon ↦ refl
-  | signs.Colon ↦ refl
-  | signs.Open ↦ refl
-  | signs.Close ↦ refl
-  | signs.Left ↦ refl
-  | signs.Right ↦ refl
-  | signs.Label ↦ refl
-  | signs.Default ↦ refl
+  | _ ↦ refl
 ]
 
 -- a reserved word has the form of a name
 word_named : (w : Word) → is_name (word_text w) ≡ true
 word_named w = elim w as (λ w. is_name (word_text w) ≡ true) [
   | words.Mar ↦ refl
-  | words.Mdr ↦ refl
-  | words.Pc ↦ refl
-  | words.Sp ↦ refl
-  | words.Lv ↦ refl
-  | words.Cpp ↦ refl
-  | words.Tos ↦ refl
-  | words.Opc ↦ refl
-  | words.H ↦ refl
-  | words.Mbr ↦ refl
-  | words.Mbru ↦ refl
-  | words.Mbr1 ↦ refl
-  | words.Mbr1u ↦ refl
-  | words.Mbr2 ↦ refl
-  | words.Mbr2u ↦ refl
-  | words.N ↦ refl
-  | words.Z ↦ refl
-  | words.And ↦ refl
-  | words.Or ↦ refl
-  | words.Not ↦ refl
-  | words.Rd ↦ refl
-  | words.Wr ↦ refl
-  | words.Fetch ↦ refl
-  | words.Goto ↦ refl
-  | words.If ↦ refl
-  | words.Else ↦ refl
+  | _ ↦ refl
 ]
 
 sign_dark : (s : Sign) → begins_with is_name_byte (sign_text s) ≡ false
 sign_dark s = elim s as (λ s. begins_with is_name_byte (sign_text s) ≡ false) [
   | signs.Equals ↦ refl
-  | signs.Plus ↦ refl
-  | signs.Minus ↦ refl
-  | signs.Semicolon ↦ refl
-  | signs.Colon ↦ refl
-  | signs.Open ↦ refl
-  | signs.Close ↦ refl
-  | signs.Left ↦ refl
-  | signs.Right ↦ refl
-  | signs.Label ↦ refl
-  | signs.Default ↦ refl
+  | _ ↦ refl
 ]
 
 sign_digit : (s : Sign) → begins_digit (sign_text s) ≡ false
 sign_digit s = elim s as (λ s. begins_digit (sign_text s) ≡ false) [
   | signs.Equals ↦ refl
-  | signs.Plus ↦ refl
-  | signs.Minus ↦ refl
-  | signs.Semicolon ↦ refl
-  | signs.Colon ↦ refl
-  | signs.Open ↦ refl
-  | signs.Close ↦ refl
-  | signs.Left ↦ refl
-  | signs.Right ↦ refl
-  | signs.Label ↦ refl
-  | signs.Default ↦ refl
+  | _ ↦ refl
 ]
 
 chosen : {A : Type 0} (b : Bool) (x y z : Option A) → cond b x y ≡ z → ((b ≡ true) × (x ≡ z)) ⊎ ((b ≡ false) × (y ≡ z))
@@ -190,31 +115,7 @@ found_capital text h = sym (in_front text capital_words small_words (none_among 
 word_short : (w : Word) → nat_le (length (word_text w)) 5 ≡ true
 word_short w = elim w as (λ w. nat_le (length (word_text w)) 5 ≡ true) [
   | words.Mar ↦ refl
-  | words.Mdr ↦ refl
-  | words.Pc ↦ refl
-  | words.Sp ↦ refl
-  | words.Lv ↦ refl
-  | words.Cpp ↦ refl
-  | words.Tos ↦ refl
-  | words.Opc ↦ refl
-  | words.H ↦ refl
-  | words.Mbr ↦ refl
-  | words.Mbru ↦ refl
-  | words.Mbr1 ↦ refl
-  | words.Mbr1u ↦ refl
-  | words.Mbr2 ↦ refl
-  | words.Mbr2u ↦ refl
-  | words.N ↦ refl
-  | words.Z ↦ refl
-  | words.And ↦ refl
-  | words.Or ↦ refl
-  | words.Not ↦ refl
-  | words.Rd ↦ refl
-  | words.Wr ↦ refl
-  | words.Fetch ↦ refl
-  | words.Goto ↦ refl
-  | words.If ↦ refl
-  | words.Else ↦ refl
+  | _ ↦ refl
 ]
 
 pub no_long_word : (text : List ℕ) → 5 < length text → find_word text ≡ None
@@ -270,17 +171,9 @@ far_name (b ∷ text) rest s h e = extent_all (b ∷ text) rest s h (e (ends_all
 
 far_sign : (s : Sign) (rest : List ℕ) → EndsLexeme (sign_text s) rest → extent (sign_text s ++ rest) ≡ length (sign_text s)
 far_sign s rest = elim s as (λ s. EndsLexeme (sign_text s) rest → extent (sign_text s ++ rest) ≡ length (sign_text s)) [
-  | signs.Equals ↦ λ _. refl
-  | signs.Plus ↦ λ _. refl
-  | signs.Minus ↦ λ _. refl
-  | signs.Semicolon ↦ λ _. refl
-  | signs.Colon ↦ λ _. refl
-  | signs.Open ↦ λ _. refl
-  | signs.Close ↦ λ _. refl
-  | signs.Left ↦ λ _. refl
-  | signs.Right ↦ λ _. refl
   | signs.Label ↦ λ e. ap (λ n. n + 1) (run_all is_name_byte (codes "label") rest refl (e refl))
   | signs.Default ↦ λ e. ap (λ n. n + 1) (run_all is_name_byte (codes "default") rest refl (e refl))
+  | _ ↦ λ _. refl
 ]
 
 digit_name : (text : List ℕ) → begins_digit text ≡ true → begins_with is_name_byte text ≡ true

@@ -10,7 +10,7 @@ use Rattle.ijvm_instr.specs.Instructions.{spelling}
 use Rattle.ijvm_program.specs.declared.line.CodeLine.{CodeLine}
 use Rattle.ijvm_program.specs.Layout.{instr_of}
 use Rattle.method_linker.specs.declared.error.LinkError.{LinkError}
-use Rattle.method_linker.specs.declared.error.LinkError.TheVariants.{PoolTooLong, TextTooLong, JumpTooFar, OutOfMemory}
+use Rattle.method_linker.specs.declared.error.LinkError.TheVariants.{JumpTooFar}
 use Rattle.method_linker.specs.Linked.{distance, line_bytes, code_bytes, code_distances, first_far, is_far}
 use Rattle.method_linker.specs.Steps.{IsStopped, IsPushedUpTo, line_jump}
 use Rattle.method_linker.proofs.Texts.{bytes_of_lines, distances_of_lines}
@@ -24,16 +24,12 @@ pub far_before : (xs ys : List (ℕ × ℤ)) (line : ℕ × ℤ) → first_far x
 far_before xs ys line some = find-append (λ line. is_far line.1) xs ys ∙ ap (λ o. option_or o (first_far ys)) some
 
 pub stopped_before : (xs ys : List (ℕ × ℤ)) (e : LinkError) → IsStopped xs e → IsStopped (xs ++ ys) e
-stopped_before xs ys (PoolTooLong count) h = h
-stopped_before xs ys (TextTooLong size) h = h
 stopped_before xs ys (JumpTooFar line far) h = far_before xs ys (line, far) h
-stopped_before xs ys OutOfMemory h = h
+stopped_before xs ys _ h = h
 
 pub stopped_behind : (xs ys : List (ℕ × ℤ)) (e : LinkError) → first_far xs ≡ None → IsStopped ys e → IsStopped (xs ++ ys) e
-stopped_behind xs ys (PoolTooLong count) none h = h
-stopped_behind xs ys (TextTooLong size) none h = h
 stopped_behind xs ys (JumpTooFar line far) none h = far_behind xs ys none ∙ h
-stopped_behind xs ys OutOfMemory none h = h
+stopped_behind xs ys _ none h = h
 
 -- ---- a loop over elements
 

@@ -10,9 +10,9 @@ use Rattle.ijvm_instr.specs.Instructions.{spelling}
 use Rattle.ijvm_program.specs.declared.line.Constant.{Constant as ConstantLine}
 use Rattle.ijvm_program.specs.declared.line.CodeLine.{CodeLine}
 use Rattle.ijvm_program.specs.declared.line.Jump.{Jump}
-use Rattle.ijvm_program.specs.declared.line.Jump.TheVariants.{Ifeq, Iflt, IfIcmpeq, Goto}
+use Rattle.ijvm_program.specs.declared.line.Jump.TheVariants.{Ifeq}
 use Rattle.ijvm_program.specs.declared.line.Operation.{Operation}
-use Rattle.ijvm_program.specs.declared.line.Operation.TheVariants.{Plain, Constant, Call, To}
+use Rattle.ijvm_program.specs.declared.line.Operation.TheVariants.{To}
 use Rattle.ijvm_program.specs.Layout.{instr_of, line_size, code_size, method_size, text_size, entry_of}
 use Rattle.ijvm_program.specs.Unit.{UnitView}
 use Rattle.ijvm_program.specs.Program.{ProgramView}
@@ -48,10 +48,8 @@ apart : (begin a b : ℕ) → pos (begin + a) -ℤ pos (begin + b) ≡ pos (0 + 
 apart begin a b = omega (arith, ints)
 
 distance_from : (begin : ℕ) (lines : List CodeLine) (k : ℕ) (o : Operation) → distance begin lines k o ≡ distance 0 lines k o
-distance_from begin lines k (Plain instr) = refl
-distance_from begin lines k (Constant index) = refl
-distance_from begin lines k (Call index) = refl
 distance_from begin lines k (To jump target) = apart begin (code_size (take target lines)) (code_size (take k lines))
+distance_from begin lines k _ = refl
 
 code_bytes_from : (first begin : ℕ) (lines : List CodeLine) → code_bytes first begin lines ≡ code_bytes first 0 lines
 unfolding code_bytes
@@ -92,15 +90,11 @@ distances_of_lines lines = flat_map_single (line_distance 0 lines) (enumerate_fr
 
 length_jump : (j : Jump) (d : ℤ) → length (spelling (instr_of 0 d (To j 0))) ≡ 3
 length_jump Ifeq d = refl
-length_jump Iflt d = refl
-length_jump IfIcmpeq d = refl
-length_jump Goto d = refl
+length_jump _ d = refl
 
 length-spelling : (first : ℕ) (d : ℤ) (o : Operation) → length (spelling (instr_of first d o)) ≡ length (spelling (instr_of 0 (pos 0) o))
-length-spelling first d (Plain instr) = refl
-length-spelling first d (Constant index) = refl
-length-spelling first d (Call index) = refl
 length-spelling first d (To jump target) = length_jump jump d ∙ sym (length_jump jump (pos 0))
+length-spelling first d _ = refl
 
 pub length-code_bytes : (first begin : ℕ) (lines : List CodeLine) → length (code_bytes first begin lines) ≡ code_size lines
 unfolding code_bytes

@@ -38,21 +38,7 @@ at_place l a used (Some sources.H) h = absurd (not_here used h)
 -- ENB is on for the operations that use side B
 enb : (op : AluOp) → ((row op).gates / 4 % 2 == 1) ≡ (row op).uses_b
 enb ops.A = refl
-enb ops.B = refl
-enb ops.NotA = refl
-enb ops.NotB = refl
-enb ops.Sum = refl
-enb ops.SumInc = refl
-enb ops.IncA = refl
-enb ops.IncB = refl
-enb ops.Sub = refl
-enb ops.DecB = refl
-enb ops.NegA = refl
-enb ops.And = refl
-enb ops.Or = refl
-enb ops.Zero = refl
-enb ops.One = refl
-enb ops.MinusOne = refl
+enb _ = refl
 
 by_use : (l : Latches) (used : Bool) (b : Option BusSource) → IsTrue (fits_side used (may_be_b Mic1) b) → enabled used (source b (micro_in l)) ≡ source b (micro_in l)
 by_use l true b h = refl

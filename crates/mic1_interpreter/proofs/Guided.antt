@@ -63,8 +63,7 @@ module _ (top : ℕ) where
 
   sampled-long : (mem : Mem) (p : Ports) (w : World) → length (sampled top mem p w).words ≡ length w.words
   sampled-long Write p w = refl
-  sampled-long Read p w = refl
-  sampled-long Idle p w = refl
+  sampled-long _ p w = refl
 
   guided-long : (s : Placed) (gs : List ℕ) (p : Moment Micro) → length (guided s gs p).world.words ≡ length p.world.words
   guided-long s gs p =

@@ -230,8 +230,7 @@ module _ (origin : List ℕ) where
 
     sampled-memory : (mem : Mem) (p : Ports) (w : World) → IsMemory origin w.words → IsMemory origin (sampled top mem p w).words
     sampled-memory Write p w h = h
-    sampled-memory Read p w h = h
-    sampled-memory Idle p w h = h
+    sampled-memory _ p w h = h
 
     step-clear : (s : Placed) (gs : List ℕ) (t : Short) (have : ℕ) → 0x8000 ≤ top → IsMemory origin t.world.words → IsHeld t.queue t.state.pc have → IsClear s gs t →
         microstep s (standing origin t.state have) t.world ≡ Done (there_of s gs t have).state (there_of s gs t have).world

@@ -255,8 +255,7 @@ module _ (origin : List ℕ) where
 
     sampled-memory : (mem : Mem) (p : Ports) (w : World) → IsMemory origin w.words → IsMemory origin (sampled top mem p w).words
     sampled-memory Write p w h = h
-    sampled-memory Read p w h = h
-    sampled-memory Idle p w h = h
+    sampled-memory _ p w h = h
 
     -- What issues.
 

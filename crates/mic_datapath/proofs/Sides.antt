@@ -10,21 +10,7 @@ use Rattle.mic1_alu.specs.Gates.{enabled}
 -- ENB is on for the operations that use side B
 enb : (op : AluOp) → ((row op).gates / 4 % 2 == 1) ≡ (row op).uses_b
 enb ops.A = refl
-enb ops.B = refl
-enb ops.NotA = refl
-enb ops.NotB = refl
-enb ops.Sum = refl
-enb ops.SumInc = refl
-enb ops.IncA = refl
-enb ops.IncB = refl
-enb ops.Sub = refl
-enb ops.DecB = refl
-enb ops.NegA = refl
-enb ops.And = refl
-enb ops.Or = refl
-enb ops.Zero = refl
-enb ops.One = refl
-enb ops.MinusOne = refl
+enb _ = refl
 
 by_use : (used : Bool) (may : BusSource → Bool) (b : Option BusSource) (x : ℕ) → IsTrue (fits_side used may b) → (b ≡ None → x ≡ 0) → enabled used x ≡ x
 by_use true may b x h zero = refl

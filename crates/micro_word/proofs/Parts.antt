@@ -27,21 +27,7 @@ pub record RowBack (op : AluOp) : Type 0 where
 
 pub row_back : (op : AluOp) → RowBack op
 row_back ops.A = record { is_found = refl; fits = omega arith }
-row_back ops.B = record { is_found = refl; fits = omega arith }
-row_back ops.NotA = record { is_found = refl; fits = omega arith }
-row_back ops.NotB = record { is_found = refl; fits = omega arith }
-row_back ops.Sum = record { is_found = refl; fits = omega arith }
-row_back ops.SumInc = record { is_found = refl; fits = omega arith }
-row_back ops.IncA = record { is_found = refl; fits = omega arith }
-row_back ops.IncB = record { is_found = refl; fits = omega arith }
-row_back ops.Sub = record { is_found = refl; fits = omega arith }
-row_back ops.DecB = record { is_found = refl; fits = omega arith }
-row_back ops.NegA = record { is_found = refl; fits = omega arith }
-row_back ops.And = record { is_found = refl; fits = omega arith }
-row_back ops.Or = record { is_found = refl; fits = omega arith }
-row_back ops.Zero = record { is_found = refl; fits = omega arith }
-row_back ops.One = record { is_found = refl; fits = omega arith }
-row_back ops.MinusOne = record { is_found = refl; fits = omega arith }
+row_back _ = record { is_found = refl; fits = omega arith }
 
 gates_by : (gates : ℕ) (o : Option AluOp) → operation_of_gates gates ≡ o → IsTrue (is_some o) → (row (op_of gates)).gates ≡ gates
 gates_by gates None e h = cc
@@ -61,8 +47,7 @@ pub record ShiftBack (s : Shift) : Type 0 where
 
 pub shift_back : (s : Shift) → ShiftBack s
 shift_back shifts.None = record { is_back = refl; fits = omega arith; one = refl }
-shift_back shifts.Left8 = record { is_back = refl; fits = omega arith; one = refl }
-shift_back shifts.Right1 = record { is_back = refl; fits = omega arith; one = refl }
+shift_back _ = record { is_back = refl; fits = omega arith; one = refl }
 
 pub shift_bits-shift_of : (bits : ℕ) → bits < 4 → IsTrue (is_one_at_most bits) → shift_bits (shift_of bits) ≡ bits
 shift_bits-shift_of zero h k = refl
@@ -78,8 +63,7 @@ pub record MemBack (m : Mem) : Type 0 where
 
 pub mem_back : (m : Mem) → MemBack m
 mem_back mems.None = record { is_back = refl; fits = omega arith; one = refl }
-mem_back mems.Read = record { is_back = refl; fits = omega arith; one = refl }
-mem_back mems.Write = record { is_back = refl; fits = omega arith; one = refl }
+mem_back _ = record { is_back = refl; fits = omega arith; one = refl }
 
 pub mem_bits-mem_of : (bits : ℕ) → bits < 4 → IsTrue (is_one_at_most bits) → mem_bits (mem_of bits) ≡ bits
 mem_bits-mem_of zero h k = refl
@@ -235,20 +219,8 @@ bus_code-back machine false code h =
 -- The side A
 
 h_is : (source : BusSource) → IsTrue (is_h source) → Some bus.H ≡ Some source
-h_is bus.Mdr h = cc
-h_is bus.Pc h = cc
-h_is bus.Mbr h = cc
-h_is bus.Mbru h = cc
-h_is bus.Sp h = cc
-h_is bus.Lv h = cc
-h_is bus.Cpp h = cc
-h_is bus.Tos h = cc
-h_is bus.Opc h = cc
-h_is bus.Mbr1 h = cc
-h_is bus.Mbr1u h = cc
-h_is bus.Mbr2 h = cc
-h_is bus.Mbr2u h = cc
 h_is bus.H h = refl
+h_is _ h = cc
 
 h_back : (used : Bool) (a : Option BusSource) → IsTrue (fits_side used is_h a) → (if used then Some bus.H else None) ≡ a
 h_back true None h = cc

@@ -10,7 +10,7 @@ use Rattle.ijvm_instr.specs.declared.instr.Instr.{Instr}
 use Rattle.ijvm_instr.specs.declared.instr.Instr.TheVariants.{Bipush, LdcW, Iload, Istore, Pop, Isub, Iflt, IfIcmpeq, Goto, Ireturn, Invokevirtual, In, Out, Halt as HaltCode}
 use Rattle.ijvm_instr.specs.Instructions.{IsInstr}
 use Rattle.tiny_tree.specs.declared.tree.Operator.{Operator}
-use Rattle.tiny_tree.specs.declared.tree.Operator.TheVariants.{Plus, Minus, And, Or}
+use Rattle.tiny_tree.specs.declared.tree.Operator.TheVariants.{Plus}
 use Rattle.tiny_tree.specs.Tree.{Term, Number, Variable, Called, Get, Group, Expr, Sum, Steps, no_steps, step, Arguments, no_arguments, argument, Cond, Equal, Different, Less, Statement, Var, Assign, Calls, If, While, Return, Put, Halt, Else, no_else, else_block, Statements, no_statements, statement, Function, Program}
 use Rattle.tiny_tree.specs.Named.{Seen, seen_after, IsCallable, IsNamedTerm, IsNamedExpr, AreNamedSteps, AreNamedArguments, IsNamedCond, IsNamedStatement, AreNamed, IsNamedElse, arguments_count}
 use Rattle.tiny_code.specs.Code.{Places, code_size, choice, loop, operator_code, number_code, term_code, expr_code, steps_code, arguments_code, test_code, if_code, leave_code, statement_code, statements_code, else_code}
@@ -74,9 +74,7 @@ all_near (j ∷ js) h = near_by j js (is_far j.1) refl h (all_near js)
 
 operator_fits : (op : Operator) → IsInstr (operator_code op)
 operator_fits Plus = tt
-operator_fits Minus = tt
-operator_fits And = tt
-operator_fits Or = tt
+operator_fits _ = tt
 
 module _ (program : Program) (p : Places) (local names : ℕ) (few : local + names ≤ 256)
     (constants : (n : ℕ) → p.constant n < 65536)

@@ -54,16 +54,7 @@ fits program image main (JumpTooFar line far) is at exceeds =
     let same = some_is is.main main (sym is.main_is ∙ at) in
     some_apart (line, far) (sym is.jumps_fit ∙ ap (λ (g : Function). first_far (jumps program g)) same ∙ exceeds.2)
 fits program image main (BadToken line) is at exceeds = exceeds
-fits program image main (BadNumber line) is at exceeds = exceeds
-fits program image main (BadSyntax line) is at exceeds = exceeds
-fits program image main (TooDeep line) is at exceeds = exceeds
-fits program image main (DuplicateName line) is at exceeds = exceeds
-fits program image main (UnknownName line) is at exceeds = exceeds
-fits program image main (BadCall line) is at exceeds = exceeds
-fits program image main (ReturnInMain line) is at exceeds = exceeds
-fits program image main (TooManyNames line) is at exceeds = exceeds
-fits program image main NoMain is at exceeds = exceeds
-fits program image main OutOfMemory is at exceeds = exceeds
+fits program image main _ is at exceeds = exceeds
 
 -- ---- the first limit
 

@@ -11,7 +11,7 @@ use Rattle.tiny_code.specs.Image.{Jump, first_far, is_far}
 use Rattle.tiny_emit.specs.declared.part.Jump as declared
 use Rattle.tiny_emit.specs.declared.part.Part.{Part}
 use Rattle.tiny_emit.specs.declared.part.Way.{Way}
-use Rattle.tiny_emit.specs.declared.part.Way.TheVariants.{IfEqual, IfNegative, Always}
+use Rattle.tiny_emit.specs.declared.part.Way.TheVariants.{IfEqual}
 use Rattle.tiny_emit.specs.Adds.{Adds, IsPart, far_of, jump_code}
 use Rattle.tiny_emit.specs.Bytes.{code_bytes}
 use Rattle.tiny_emit.proofs.Bytes.{none}
@@ -95,8 +95,7 @@ empty_part a empty near = is_part a a (code_bytes []) [] empty near (no_code a)
 
 jump_size : (w : Way) (o z : ℤ) → code_size (jump_code w o ∷ []) ≡ code_size (jump_code w z ∷ [])
 jump_size IfEqual o z = refl
-jump_size IfNegative o z = refl
-jump_size Always o z = refl
+jump_size _ o z = refl
 
 not_far : (b : Bool) (j : Jump) → cond b (Some j) None ≡ None → b ≡ false
 not_far true j h = cc

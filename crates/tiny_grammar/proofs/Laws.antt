@@ -24,43 +24,11 @@ use Rattle.tiny_grammar.proofs.Texts.{start, taken_begins, taken_whole}
 
 begins_bad : (p : Part) → begins p kinds.Bad ≡ None
 begins_bad (m.Want s) = refl
-begins_bad m.AName = refl
-begins_bad m.ATerm = refl
-begins_bad m.AnExpr = refl
-begins_bad m.Steps = refl
-begins_bad m.MaybeCall = refl
-begins_bad m.Arguments = refl
-begins_bad m.MoreArguments = refl
-begins_bad m.ACond = refl
-begins_bad m.Compare = refl
-begins_bad m.AStatement = refl
-begins_bad m.AfterName = refl
-begins_bad m.MaybeElse = refl
-begins_bad m.Statements = refl
-begins_bad m.ABlock = refl
-begins_bad m.Parameters = refl
-begins_bad m.MoreParameters = refl
-begins_bad m.Functions = refl
+begins_bad _ = refl
 
 begins_unread : (p : Part) → begins p kinds.Unread ≡ None
 begins_unread (m.Want s) = refl
-begins_unread m.AName = refl
-begins_unread m.ATerm = refl
-begins_unread m.AnExpr = refl
-begins_unread m.Steps = refl
-begins_unread m.MaybeCall = refl
-begins_unread m.Arguments = refl
-begins_unread m.MoreArguments = refl
-begins_unread m.ACond = refl
-begins_unread m.Compare = refl
-begins_unread m.AStatement = refl
-begins_unread m.AfterName = refl
-begins_unread m.MaybeElse = refl
-begins_unread m.Statements = refl
-begins_unread m.ABlock = refl
-begins_unread m.Parameters = refl
-begins_unread m.MoreParameters = refl
-begins_unread m.Functions = refl
+begins_unread _ = refl
 
 follow_none : (k : Kind) → ((p : Part) → begins p k ≡ None) → (ps : List Part) → follow ps k ≡ None
 follow_none k never [] = refl
@@ -99,9 +67,7 @@ fault_reason levels front t never = go t.kind refl
     go : (k : Kind) → t.kind ≡ k → IsReason levels front t (fault_by k t.line)
     go kinds.Bad h = (h, refl)
     go kinds.Unread h = (h, refl)
-    go (kinds.Name n) h = (λ x. absurd (cc), λ x. absurd (cc), never, refl)
-    go (kinds.Number n) h = (λ x. absurd (cc), λ x. absurd (cc), never, refl)
-    go (kinds.Of s) h = (λ x. absurd (cc), λ x. absurd (cc), never, refl)
+    go _ h = (λ x. absurd (cc), λ x. absurd (cc), never, refl)
 
 reason : (levels : ℕ) (front : List Token) (t : Token) (qs : List Part) (e : Refusal) → steps start front ≡ Some qs → Why levels qs t e → IsReason levels front t e
 reason levels front t qs e h (astray f is) =
@@ -109,20 +75,13 @@ reason levels front t qs e h (astray f is) =
 reason levels front t qs e h (deep rs f u z is) = subst (IsReason levels front t) (sym is) (goes_well front t qs rs h f, u, z, refl)
 
 refused_as : (levels : ℕ) (ts : List Token) (e : Refusal) → e ≢ refusals.Unfinished → IsRefusedAt levels ts e → IsRefused levels ts e
-refused_as levels ts (refusals.BadToken l) n r = r
-refused_as levels ts (refusals.BadNumber l) n r = r
-refused_as levels ts (refusals.BadSyntax l) n r = r
-refused_as levels ts (refusals.TooDeep l) n r = r
 refused_as levels ts refusals.Unfinished n r = absurd (n refl)
-refused_as levels ts refusals.OutOfMemory n r = r
+refused_as levels ts _ n r = r
 
 finished : (levels : ℕ) (front : List Token) (t : Token) (e : Refusal) → IsReason levels front t e → e ≢ refusals.Unfinished
-finished levels front t (refusals.BadToken l) r h = absurd (cc)
-finished levels front t (refusals.BadNumber l) r h = absurd (cc)
-finished levels front t (refusals.BadSyntax l) r h = absurd (cc)
-finished levels front t (refusals.TooDeep l) r h = absurd (cc)
 finished levels front t refusals.Unfinished r h = r
 finished levels front t refusals.OutOfMemory r h = r
+finished levels front t _ r h = absurd (cc)
 
 stuck_refused : (levels : ℕ) (ts : List Token) (e : Refusal) → Stuck levels start ts e → IsRefused levels ts e
 stuck_refused levels ts e (at_token front token others qs split reach shallow why) =
@@ -167,9 +126,7 @@ walk_end l qs w s = rw s refl
 syntax : (k : Kind) (line : ℕ) → k ≢ kinds.Bad → k ≢ kinds.Unread → fault_by k line ≡ refusals.BadSyntax line
 syntax kinds.Bad line a b = absurd (a refl)
 syntax kinds.Unread line a b = absurd (b refl)
-syntax (kinds.Name n) line a b = refl
-syntax (kinds.Number n) line a b = refl
-syntax (kinds.Of s) line a b = refl
+syntax _ line a b = refl
 
 stops : (l : ℕ) (front : List Token) (t : Token) (others : List Token) (qs : List Part) (e : Refusal) → steps start front ≡ Some qs → IsReason l front t e → walk l qs (t ∷ others) ≡ Err e
 stops l front t others qs (refusals.BadToken line) h (k, i) =
@@ -206,12 +163,8 @@ cut_walk levels ts r = go (begun ts r.begun)
     go (qs, h) = ended qs h (spent qs) refl
 
 pub refused_walk : (levels : ℕ) (ts : List Token) (e : Refusal) → IsRefused levels ts e → walk levels start ts ≡ Err e
-refused_walk levels ts (refusals.BadToken l) r = at_walk levels ts (refusals.BadToken l) r
-refused_walk levels ts (refusals.BadNumber l) r = at_walk levels ts (refusals.BadNumber l) r
-refused_walk levels ts (refusals.BadSyntax l) r = at_walk levels ts (refusals.BadSyntax l) r
-refused_walk levels ts (refusals.TooDeep l) r = at_walk levels ts (refusals.TooDeep l) r
 refused_walk levels ts refusals.Unfinished r = cut_walk levels ts r
-refused_walk levels ts refusals.OutOfMemory r = at_walk levels ts refusals.OutOfMemory r
+refused_walk levels ts e r = at_walk levels ts e r
 
 pub spelled_walk : (levels : ℕ) (ts : List Token) (fs : List Function) → SpellsProgram ts fs → IsShallow levels ts → walk levels start ts ≡ done
 spelled_walk levels ts fs s h = whole_walk levels ts start (spelled ts fs s) h ∙ walk_end (left levels ts) start true refl

@@ -19,28 +19,7 @@ high n = if n == 12 then signs.And else (if n == 13 then signs.Or else (if n == 
 of_rank : (s : Sign) → high (rank s) ≡ s
 unfolding low high
 of_rank signs.Open = refl
-of_rank signs.Close = refl
-of_rank signs.Begin = refl
-of_rank signs.End = refl
-of_rank signs.Comma = refl
-of_rank signs.Semicolon = refl
-of_rank signs.Assign = refl
-of_rank signs.Equal = refl
-of_rank signs.Different = refl
-of_rank signs.Less = refl
-of_rank signs.Plus = refl
-of_rank signs.Minus = refl
-of_rank signs.And = refl
-of_rank signs.Or = refl
-of_rank signs.Fn = refl
-of_rank signs.Var = refl
-of_rank signs.If = refl
-of_rank signs.Else = refl
-of_rank signs.While = refl
-of_rank signs.Return = refl
-of_rank signs.Put = refl
-of_rank signs.Get = refl
-of_rank signs.Halt = refl
+of_rank _ = refl
 
 pub same_sign : (s t : Sign) → (rank t == rank s) ≡ true → t ≡ s
 same_sign s t h = sym (of_rank t) ∙ (ap high (eqb-true (rank t) (rank s) h) ∙ of_rank s)

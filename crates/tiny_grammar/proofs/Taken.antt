@@ -21,33 +21,22 @@ skip_part p ps k ts o b = rw (b, o) refl
 
 expr_first : (t : Term) (ps : List Part) (x : List Token) → steps (AnExpr ∷ ps) (spell_term t ++ x) ≡ steps (ATerm ∷ Steps ∷ ps) (spell_term t ++ x)
 expr_first (Number n) ps x = refl
-expr_first (Variable w) ps x = refl
-expr_first (Called w es) ps x = refl
-expr_first Get ps x = refl
-expr_first (Group e) ps x = refl
+expr_first _ ps x = refl
 
 arguments_first : (t : Term) (ps : List Part) (x : List Token) → steps (Arguments ∷ ps) (spell_term t ++ x) ≡ steps (ATerm ∷ Steps ∷ MoreArguments ∷ ps) (spell_term t ++ x)
 arguments_first (Number n) ps x = refl
-arguments_first (Variable w) ps x = refl
-arguments_first (Called w es) ps x = refl
-arguments_first Get ps x = refl
-arguments_first (Group e) ps x = refl
+arguments_first _ ps x = refl
 
 cond_first : (t : Term) (ps : List Part) (x : List Token) → steps (ACond ∷ ps) (spell_term t ++ x) ≡ steps (ATerm ∷ Steps ∷ Compare ∷ ps) (spell_term t ++ x)
 cond_first (Number n) ps x = refl
-cond_first (Variable w) ps x = refl
-cond_first (Called w es) ps x = refl
-cond_first Get ps x = refl
-cond_first (Group e) ps x = refl
+cond_first _ ps x = refl
 
 abbrev TakesTerm : Term → Type 0
 TakesTerm t = (ps : List Part) (k : Token) (ts : List Token) → begins_call k.kind ≡ None → steps (ATerm ∷ ps) (spell_term t ++ (k ∷ ts)) ≡ steps ps (k ∷ ts)
 
 operator_calls : (o : Operator) → begins_call (operator o).kind ≡ None
 operator_calls operators.Plus = refl
-operator_calls operators.Minus = refl
-operator_calls operators.And = refl
-operator_calls operators.Or = refl
+operator_calls _ = refl
 
 before_steps : (t : Term) → TakesTerm t → (ss : tree.Steps) (ps : List Part) (k : Token) (ts : List Token) → begins_call k.kind ≡ None
     → steps (ATerm ∷ ps) (spell_term t ++ (spell_steps ss ++ (k ∷ ts))) ≡ steps ps (spell_steps ss ++ (k ∷ ts))
@@ -56,9 +45,7 @@ before_steps t rec (step o u ss) ps k ts q = rec ps (operator o) ((spell_term u 
 
 operator_first : (o : Operator) (ps : List Part) (x : List Token) → steps (Steps ∷ ps) (operator o ∷ x) ≡ steps (ATerm ∷ Steps ∷ ps) x
 operator_first operators.Plus ps x = refl
-operator_first operators.Minus ps x = refl
-operator_first operators.And ps x = refl
-operator_first operators.Or ps x = refl
+operator_first _ ps x = refl
 
 abbrev TakesSteps : tree.Steps → Type 0
 TakesSteps ss = (ps : List Part) (k : Token) (ts : List Token) → begins_call k.kind ≡ None → begins_steps k.kind ≡ None → steps (Steps ∷ ps) (spell_steps ss ++ (k ∷ ts)) ≡ steps ps (k ∷ ts)
@@ -123,13 +110,11 @@ take_left (Sum t ss) ps k ts q r =
 
 comparison_calls : (c : Comparison) → (begins_call (comparison c).kind ≡ None) × (begins_steps (comparison c).kind ≡ None)
 comparison_calls comparisons.Equal = (refl, refl)
-comparison_calls comparisons.Different = (refl, refl)
-comparison_calls comparisons.Less = (refl, refl)
+comparison_calls _ = (refl, refl)
 
 comparison_first : (c : Comparison) (ps : List Part) (x : List Token) → steps (Compare ∷ ps) (comparison c ∷ x) ≡ steps (AnExpr ∷ ps) x
 comparison_first comparisons.Equal ps x = refl
-comparison_first comparisons.Different ps x = refl
-comparison_first comparisons.Less ps x = refl
+comparison_first _ ps x = refl
 
 take_cond : (c : Cond) (ps : List Part) (k : Token) (ts : List Token) → begins_call k.kind ≡ None → begins_steps k.kind ≡ None → steps (ACond ∷ ps) (spell_cond c ++ (k ∷ ts)) ≡ steps ps (k ∷ ts)
 take_cond (tree.Compare c a b) ps k ts q r =
@@ -156,13 +141,7 @@ TakesStatements b = (ps : List Part) (k : Token) (ts : List Token) → begins_st
 before_one : (s : Statement) → TakesStatement s → (r : Statement) (ps : List Part) (x : List Token)
     → steps (Statements ∷ ps) (spell_statement s ++ (spell_statement r ++ x)) ≡ steps (Statements ∷ ps) (spell_statement r ++ x)
 before_one s f (Var w e) ps x = f ps _ _ refl
-before_one s f (Assign w e) ps x = f ps _ _ refl
-before_one s f (Calls w es) ps x = f ps _ _ refl
-before_one s f (If l c b other) ps x = f ps _ _ refl
-before_one s f (While l c b) ps x = f ps _ _ refl
-before_one s f (Return l e) ps x = f ps _ _ refl
-before_one s f (Put e) ps x = f ps _ _ refl
-before_one s f Halt ps x = f ps _ _ refl
+before_one s f _ ps x = f ps _ _ refl
 
 before_all : (s : Statement) → TakesStatement s → (ss : tree.Statements) (ps : List Part) (k : Token) (ts : List Token) → begins_else k.kind ≡ None
     → steps (Statements ∷ ps) (spell_statement s ++ (spell_statements ss ++ (k ∷ ts))) ≡ steps (Statements ∷ ps) (spell_statements ss ++ (k ∷ ts))

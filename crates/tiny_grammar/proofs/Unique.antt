@@ -50,9 +50,7 @@ no_call x r p e = let z = sym p ∙ ap (λ a. begins_call (first_kind a)) e in a
 
 operator_back : (o : Operator) → operator_of (operator o).kind ≡ Some o
 operator_back operators.Plus = refl
-operator_back operators.Minus = refl
-operator_back operators.And = refl
-operator_back operators.Or = refl
+operator_back _ = refl
 
 same_operator : (o p : Operator) → operator o ≡ operator p → o ≡ p
 same_operator o p h = let z : Some o ≡ Some p = sym (operator_back o) ∙ (ap (λ t. operator_of t.kind) h ∙ operator_back p) in cc
@@ -65,16 +63,14 @@ no_step o x r p e =
 
 comparison_back : (c : Comparison) → comparison_of (comparison c).kind ≡ Some c
 comparison_back comparisons.Equal = refl
-comparison_back comparisons.Different = refl
-comparison_back comparisons.Less = refl
+comparison_back _ = refl
 
 same_comparison : (c d : Comparison) → comparison c ≡ comparison d → c ≡ d
 same_comparison c d h = let z : Some c ≡ Some d = sym (comparison_back c) ∙ (ap (λ t. comparison_of t.kind) h ∙ comparison_back d) in cc
 
 after_comparison : (c : Comparison) (x : List Token) → AfterTerm (comparison c ∷ x) × AfterExpr (comparison c ∷ x)
 after_comparison comparisons.Equal x = (refl, refl)
-after_comparison comparisons.Different x = (refl, refl)
-after_comparison comparisons.Less x = (refl, refl)
+after_comparison _ x = (refl, refl)
 
 no_else_here : (x r : List Token) → AfterStatement x → x ≡ sign signs.Else ∷ r → ⊥
 no_else_here x r p e = let z = sym p ∙ ap (λ a. begins_else (first_kind a)) e in absurd (cc)
@@ -84,9 +80,7 @@ same_word v w h = let k : kinds.Name v.name ≡ kinds.Name w.name = ap (λ t. t.
 
 after_operator : (o : Operator) (x : List Token) → AfterTerm (operator o ∷ x)
 after_operator operators.Plus x = refl
-after_operator operators.Minus x = refl
-after_operator operators.And x = refl
-after_operator operators.Or x = refl
+after_operator _ x = refl
 
 after_step : (ss : tree.Steps) (x : List Token) → AfterTerm x → AfterTerm (spell_steps ss ++ x)
 after_step no_steps x q = q

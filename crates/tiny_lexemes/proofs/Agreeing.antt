@@ -25,55 +25,13 @@ use Rattle.tiny_lexemes.proofs.Fronts.{run_all, run_passes, run_stops}
 sign_again : (s : Sign) → find_sign (sign_text s) ≡ Some s
 sign_again s = elim s as (λ s. find_sign (sign_text s) ≡ Some s) [
   | signs.Open ↦ refl
-  | signs.Close ↦ refl
-  | signs.Begin ↦ refl
-  | signs.End ↦ refl
-  | signs.Comma ↦ refl
-  | signs.Semicolon ↦ refl
-  | signs.Assign ↦ refl
-  | signs.Equal ↦ refl
-  | signs.Different ↦ refl
-  | signs.Less ↦ refl
-  | signs.Plus ↦ refl
-  | signs.Minus ↦ refl
-  | signs.And ↦ refl
-  | signs.Or ↦ refl
-  | signs.Fn ↦ refl
-  | signs.Var ↦ refl
-  | signs.If ↦ refl
-  | signs.Else ↦ refl
-  | signs.While ↦ refl
-  | signs.Return ↦ refl
-  | signs.Put ↦ refl
-  | signs.Get ↦ refl
-  | signs.Halt ↦ refl
+  | _ ↦ refl
 ]
 
 sign_number : (s : Sign) → begins_number (sign_text s) ≡ false
 sign_number s = elim s as (λ s. begins_number (sign_text s) ≡ false) [
   | signs.Open ↦ refl
-  | signs.Close ↦ refl
-  | signs.Begin ↦ refl
-  | signs.End ↦ refl
-  | signs.Comma ↦ refl
-  | signs.Semicolon ↦ refl
-  | signs.Assign ↦ refl
-  | signs.Equal ↦ refl
-  | signs.Different ↦ refl
-  | signs.Less ↦ refl
-  | signs.Plus ↦ refl
-  | signs.Minus ↦ refl
-  | signs.And ↦ refl
-  | signs.Or ↦ refl
-  | signs.Fn ↦ refl
-  | signs.Var ↦ refl
-  | signs.If ↦ refl
-  | signs.Else ↦ refl
-  | signs.While ↦ refl
-  | signs.Return ↦ refl
-  | signs.Put ↦ refl
-  | signs.Get ↦ refl
-  | signs.Halt ↦ refl
+  | _ ↦ refl
 ]
 
 chosen : {A : Type 0} (b : Bool) (x y z : Option A) → cond b x y ≡ z → ((b ≡ true) × (x ≡ z)) ⊎ ((b ≡ false) × (y ≡ z))
@@ -147,20 +105,7 @@ alone first rest h e = elim (e.pair h) [
 
 far_sign : (s : Sign) (rest : List ℕ) → EndsLexeme (sign_text s) rest → extent (sign_text s ++ rest) ≡ length (sign_text s)
 far_sign s rest = elim s as (λ s. EndsLexeme (sign_text s) rest → extent (sign_text s ++ rest) ≡ length (sign_text s)) [
-  | signs.Open ↦ λ _. refl
-  | signs.Close ↦ λ _. refl
-  | signs.Begin ↦ λ _. refl
-  | signs.End ↦ λ _. refl
-  | signs.Comma ↦ λ _. refl
-  | signs.Semicolon ↦ λ _. refl
   | signs.Assign ↦ λ e. rw (alone 61 rest refl e) refl
-  | signs.Equal ↦ λ _. refl
-  | signs.Different ↦ λ _. refl
-  | signs.Less ↦ λ _. refl
-  | signs.Plus ↦ λ _. refl
-  | signs.Minus ↦ λ _. refl
-  | signs.And ↦ λ _. refl
-  | signs.Or ↦ λ _. refl
   | signs.Fn ↦ far_run 102 (codes "n") rest refl refl
   | signs.Var ↦ far_run 118 (codes "ar") rest refl refl
   | signs.If ↦ far_run 105 (codes "f") rest refl refl
@@ -170,6 +115,7 @@ far_sign s rest = elim s as (λ s. EndsLexeme (sign_text s) rest → extent (sig
   | signs.Put ↦ far_run 112 (codes "ut") rest refl refl
   | signs.Get ↦ far_run 103 (codes "et") rest refl refl
   | signs.Halt ↦ far_run 104 (codes "alt") rest refl refl
+  | _ ↦ λ _. refl
 ]
 
 -- after a quote stand two bytes, or fewer at the end of the line

@@ -247,8 +247,7 @@ module _ (u : Scene) where
 
     leave_first : (c : Cond) (size mid : ℕ) (m : Note) → At mid (leave_items u.frame seen c size) m → note_at u.whole mid ≡ Some (note (test_depth c))
     leave_first (Equal a b) size mid m h = h.1
-    leave_first (Different a b) size mid m h = h.1
-    leave_first (Less a b) size mid m h = h.1
+    leave_first _ size mid m h = h.1
 
     pub loop_part : (c : Cond) (body : List Item) → Runs u seen (test_code u.frame.places u.frame.local c) 0 (test_depth c) → Part seen seen body
         → Part seen seen (loop_items u.frame seen c body)

@@ -13,7 +13,7 @@ use Rattle.verifier_facts.specs.Paths.{HasConstant, ways_of}
 use Rattle.verifier_notes.specs.Noted.{Note, FindsMethod}
 use Rattle.verifier_notes.specs.Listed.{note_at, AllMet, items_size}
 use Rattle.tiny_tree.specs.declared.tree.Operator.{Operator}
-use Rattle.tiny_tree.specs.declared.tree.Operator.TheVariants.{Plus, Minus, And, Or}
+use Rattle.tiny_tree.specs.declared.tree.Operator.TheVariants.{Plus}
 use Rattle.tiny_tree.specs.Tree.{Term, Number, Variable, Called, Get, Group, Expr, Sum, Steps, no_steps, step, Arguments, no_arguments, argument}
 use Rattle.tiny_tree.specs.Named.{Seen, arguments_count, IsNamedTerm, IsNamedExpr, AreNamedSteps, AreNamedArguments}
 use Rattle.tiny_code.specs.Code.{code_size, operator_code, term_code, expr_code, steps_code, arguments_code, term_numbers, expr_numbers, steps_numbers, arguments_numbers}
@@ -119,16 +119,12 @@ module _ (u : Scene) (seen : Seen) where
 
   pub operator_plain : (op : Operator) → IsPlain u (operator_code op)
   operator_plain Plus = record { needs = refl; no_call = λ j e. cc; no_read = refl; no_store = refl }
-  operator_plain Minus = record { needs = refl; no_call = λ j e. cc; no_read = refl; no_store = refl }
-  operator_plain And = record { needs = refl; no_call = λ j e. cc; no_read = refl; no_store = refl }
-  operator_plain Or = record { needs = refl; no_call = λ j e. cc; no_read = refl; no_store = refl }
+  operator_plain _ = record { needs = refl; no_call = λ j e. cc; no_read = refl; no_store = refl }
 
   -- two operands become one
   operator_simple : (op : Operator) (d : ℕ) → IsSimple u seen (operator_code op) (d + 1 + 1) × (next_depth u.frame.image (operator_code op) (d + 1 + 1) ≡ d + 1)
   operator_simple Plus d = (plain_simple (operator_code Plus) (d + 1 + 1) (operator_plain Plus) refl tt (omega arith), omega arith)
-  operator_simple Minus d = (plain_simple (operator_code Minus) (d + 1 + 1) (operator_plain Minus) refl tt (omega arith), omega arith)
-  operator_simple And d = (plain_simple (operator_code And) (d + 1 + 1) (operator_plain And) refl tt (omega arith), omega arith)
-  operator_simple Or d = (plain_simple (operator_code Or) (d + 1 + 1) (operator_plain Or) refl tt (omega arith), omega arith)
+  operator_simple e d = (plain_simple (operator_code e) (d + 1 + 1) (operator_plain e) refl tt (omega arith), omega arith)
 
   operator_runs : (op : Operator) (is : List Instr) (d e : ℕ) → Runs is (d + 1) e → Runs (operator_code op ∷ is) (d + 1 + 1) e
   operator_runs op is d e k = begun (operator_code op) is (d + 1 + 1) (d + 1) e (operator_simple op d).0 (operator_simple op d).1 k

@@ -192,13 +192,7 @@ module _ (p : Program) (known : ℕ → Option Signature)
   shown : (st : draft.Statement) (seen : List ℕ) (s : Seen) → IsSeen names seen s → Within (declares st)
       → IsSeen names (seen ++ shows st) (seen_after (statement known names st) s)
   shown (draft.Var w e) seen s inv inside = var_shown w seen s inv inside
-  shown (draft.Assign w e) seen s inv inside = nothing_more seen s inv
-  shown (draft.Calls w es) seen s inv inside = nothing_more seen s inv
-  shown (draft.If l c b other) seen s inv inside = nothing_more seen s inv
-  shown (draft.While l c b) seen s inv inside = nothing_more seen s inv
-  shown (draft.Return l e) seen s inv inside = nothing_more seen s inv
-  shown (draft.Put e) seen s inv inside = nothing_more seen s inv
-  shown draft.Halt seen s inv inside = nothing_more seen s inv
+  shown _ seen s inv inside = nothing_more seen s inv
 
   no_return : (main : Bool) (line : ℕ) → return_faults main line ≡ [] → main ≡ false
   no_return true line h = absurd (cc)
@@ -260,14 +254,9 @@ module _ (p : Program) (known : ℕ → Option Signature)
 module _ (known : ℕ → Option Signature) (names : List ℕ) where
   mutual
     vars_in_is : (st : draft.Statement) → vars_in (statement known names st) ≡ length (declares st)
-    vars_in_is (draft.Var w e) = refl
-    vars_in_is (draft.Assign w e) = refl
-    vars_in_is (draft.Calls w es) = refl
     vars_in_is (draft.If l c b other) = let x = vars_of_is b in let y = vars_of_else_is other in omega (arith, x, y, length-append (all_names b) (else_names other))
     vars_in_is (draft.While l c b) = vars_of_is b
-    vars_in_is (draft.Return l e) = refl
-    vars_in_is (draft.Put e) = refl
-    vars_in_is draft.Halt = refl
+    vars_in_is _ = refl
 
     pub vars_of_is : (ss : draft.Statements) → vars_of (statements known names ss) ≡ length (all_names ss)
     vars_of_is draft.no_statements = refl
@@ -304,8 +293,7 @@ module _ (known : ℕ → Option Signature) (main : Bool) where
     statement_few (draft.While l c b) declared seen h few =
         block_few b declared seen (empty_right (cond_faults known seen c) (block_faults known main declared seen b) h) few
     statement_few (draft.Return l e) declared seen h few = same_few declared few
-    statement_few (draft.Put e) declared seen h few = same_few declared few
-    statement_few draft.Halt declared seen h few = same_few declared few
+    statement_few _ declared seen h few = same_few declared few
 
     pub block_few : (ss : draft.Statements) (declared seen : List ℕ) → block_faults known main declared seen ss ≡ [] → length declared ≤ 255
         → length (declared ++ all_names ss) ≤ 255

@@ -76,11 +76,8 @@ AreWordLexemes [] = Unit {0}
 AreWordLexemes (t ∷ ts) = IsWordLexeme t.0 × AreWordLexemes ts
 
 kind_word : (names : List (List ℕ)) (x : Lexeme) → IsWordLexeme x → IsWord (kind_of names x).0
-kind_word names (lexemes.Of s) w = tt
-kind_word names (lexemes.Name n) w = tt
 kind_word names (lexemes.Number v) w = w
-kind_word names lexemes.Bad w = tt
-kind_word names lexemes.Unread w = tt
+kind_word names _ w = tt
 
 numbered_words : (names : List (List ℕ)) (ts : List (Lexeme × ℕ)) → AreWordLexemes ts → AreWords (number_all names ts)
 numbered_words names [] w = tt
@@ -99,11 +96,8 @@ value_word (Ok (negsuc n)) v h = absurd (cc)
 value_word (Err e) v h = absurd (cc)
 
 lexeme_word : (x : Lexeme) (text : List ℕ) → IsLexeme x text → IsWordLexeme x
-lexeme_word (lexemes.Of s) text h = tt
-lexeme_word (lexemes.Name n) text h = tt
 lexeme_word (lexemes.Number v) text h = value_word (number_of text) v h.1
-lexeme_word lexemes.Bad text h = tt
-lexeme_word lexemes.Unread text h = tt
+lexeme_word _ text h = tt
 
 line_words : (k : ℕ) (line : List ℕ) (here : List Lexeme) (later : List (Lexeme × ℕ)) → SpellsLexemes line here → AreWordLexemes later
     → AreWordLexemes (map (λ x. (x, k)) here ++ later)

@@ -33,8 +33,7 @@ pub record Does (image : ImageView) (stack_end d : ℕ) {A : Type 0} (r : Result
 after_then : {A B : Type 0} (r : Result A) (f : A → TinyWorld → Result B) (go : B → TinyWorld → Meaning) →
     ending (and_then r f) go ≡ ending r (λ a w. ending (f a w) go)
 after_then (Gives a w) f go = refl
-after_then (Halts w) f go = refl
-after_then (Cuts w) f go = refl
+after_then _ f go = refl
 
 module _ {image : ImageView} {stack_end : ℕ} where
   pub does_then : {d : ℕ} {A B : Type 0} {r : Result A} {w : TinyWorld} {s : State} {K : A → Type 0} {to : (a : A) → K a → TinyWorld → State}

@@ -49,10 +49,8 @@ machines_advance machine image stack_end s to e = positive image stack_end machi
 
 -- the cycles of the last boundary to which this leads
 abbrev pub last : (p : TimedImage) {m : Meaning} {k : ℕ} {s : State} → Led p.image p.stack_end m k s → Point → ℕ
-last p (Finishes k s e is) at = at.cycles
-last p (Stops s is) at = at.cycles
-last p (Limited k s left e q) at = at.cycles
 last p (Leads k j s t e le q l) at = last p l (point_after p at t)
+last p _ at = at.cycles
 
 pub data Tale (p : TimedImage) (bound : ℕ) (at : Point) (m : Meaning) (k : ℕ) (last : ℕ) : Type 0 where
   IsLimited : (f : Finish) → EndsBy p bound at f → f.end ≡ ends.StackLimit → Tale p bound at m k last

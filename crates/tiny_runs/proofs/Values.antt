@@ -60,9 +60,7 @@ pub record Running : Type 0 where
 
 operator_size : (op : Operator) → size_of (row_of (operator_code op)) ≡ 1
 operator_size Plus = refl
-operator_size Minus = refl
-operator_size And = refl
-operator_size Or = refl
+operator_size _ = refl
 
 module _ (c : Setting) (f : Running) (seen : Seen) (locals : List (Option ℕ)) (vars : Variables) (agrees : Agrees f.local locals vars) where
   abbrev place : ℕ → List ℕ → TinyWorld → State

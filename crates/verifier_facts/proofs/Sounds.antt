@@ -7,13 +7,13 @@ use Rattle.std.proofs.lemmas.Option.{slice_get_within, slice_get-get_or}
 use Rattle.std.proofs.lemmas.List.{length-replicate}
 use Rattle.console_port.specs.World.{next_byte}
 use Rattle.ijvm_instr.specs.declared.instr.Instr.{Instr}
-use Rattle.ijvm_instr.specs.declared.instr.Instr.TheVariants.{Nop, Bipush, LdcW, Iload, Istore, Pop, Dup, Swap, Iadd, Isub, Iand, Iinc, Ifeq, Iflt, IfIcmpeq, Goto, Ireturn, Ior, Invokevirtual, WideIload, WideIstore, WideIinc, In, Out, Err, Halt}
+use Rattle.ijvm_instr.specs.declared.instr.Instr.TheVariants.{Nop, Bipush, LdcW, Iload, Istore, Pop, Dup, Swap, Iinc, Ifeq, Iflt, IfIcmpeq, Goto, Ireturn, Invokevirtual, WideIload, WideIstore, WideIinc, In, Out, Err, Halt}
 use Rattle.ijvm_instr.specs.Instructions.{row_of, size_of, instr_at}
 use Rattle.ijvm_image.specs.declared.method.Method.{Method}
 use Rattle.ijvm_image.specs.Image.{ImageView}
 use Rattle.ijvm_meaning.specs.Frames.{Frame, State, base, frames_of, start_of}
 use Rattle.ijvm_instr.specs.Instructions.{target, word_of}
-use Rattle.ijvm_meaning.specs.Step.{StepOutcome, Goes, Halts, Errs, Limits, Stuck, limited, moved, pushed, pushed_constant, loaded, is_own, with_local, stored, increased, popped, doubled, swapped, combined, way, branched, compared, returned, onto, in_method, entered, called_at, taken, given_out, step, step_if_any, step_outcome}
+use Rattle.ijvm_meaning.specs.Step.{StepOutcome, Goes, Limits, Stuck, limited, moved, pushed, pushed_constant, loaded, is_own, with_local, stored, increased, popped, doubled, swapped, combined, way, branched, compared, returned, onto, in_method, entered, called_at, taken, given_out, step, step_if_any, step_outcome}
 use Rattle.ijvm_meaning.specs.Run.{after, state_after}
 use Rattle.ijvm_meaning.specs.Safe.{SameFrames, ComesTo, Here, On as Onward}
 use Rattle.verifier_facts.specs.declared.error.VerifyError.TheVariants.{LinkSlot, BadLocal, UnsetLocal}
@@ -113,10 +113,8 @@ finds image z count s i h = record {
 -- an outcome that is sound
 abbrev pub IsGood : ImageView → ℕ → StepOutcome → Type 0
 IsGood image count (Goes to) = IsSound image count to
-IsGood image count Halts = Unit {0}
-IsGood image count Errs = Unit {0}
-IsGood image count (Limits left) = Unit {0}
 IsGood image count Stuck = ⊥
+IsGood image count _ = Unit {0}
 
 good_limited : (image : ImageView) (count z : ℕ) (left to : State) → IsSound image count to → IsGood image count (limited z left to)
 good_limited image count z left to h = by_test (nat_le (base (frames_of to)) z)
@@ -407,16 +405,12 @@ good image z count s (Istore k) h = good_store image z count s (Istore k) k (s.a
 good image z count s Pop h = good_pop image z count s h
 good image z count s Dup h = good_double image z count s h
 good image z count s Swap h = good_swap image z count s h
-good image z count s Iadd h = good_combine image z count s Iadd _ h refl refl refl (inl (refl, refl))
-good image z count s Isub h = good_combine image z count s Isub _ h refl refl refl (inl (refl, refl))
-good image z count s Iand h = good_combine image z count s Iand _ h refl refl refl (inl (refl, refl))
 good image z count s (Iinc k b) h = good_increase image z count s (Iinc k b) k b (s.at + 3) h refl refl refl refl (inl (refl, refl))
 good image z count s (Ifeq o) h = good_branch image z count s (Ifeq o) _ o h refl refl refl (λ t. elim t as (λ t. GoesOn (row_of (Ifeq o)).flow s.at (s.at + 3) (way s.at o t)) [ true ↦ inr (o, refl, refl) | false ↦ inl (refl, refl) ])
 good image z count s (Iflt o) h = good_branch image z count s (Iflt o) _ o h refl refl refl (λ t. elim t as (λ t. GoesOn (row_of (Iflt o)).flow s.at (s.at + 3) (way s.at o t)) [ true ↦ inr (o, refl, refl) | false ↦ inl (refl, refl) ])
 good image z count s (IfIcmpeq o) h = good_compare image z count s o h
 good image z count s (Goto o) h = sound_on image z count s (Goto o) h 0 (target s.at o) s.running.operands refl (inr (o, refl, refl)) refl refl
 good image z count s Ireturn h = good_return image z count s h
-good image z count s Ior h = good_combine image z count s Ior _ h refl refl refl (inl (refl, refl))
 good image z count s (Invokevirtual k) h = good_call image z count s k h
 good image z count s (WideIload k) h = good_load image z count s (WideIload k) k (s.at + 4) h refl refl refl refl (inl (refl, refl))
 good image z count s (WideIstore k) h = good_store image z count s (WideIstore k) k (s.at + 4) h refl refl refl (inl (refl, refl))
@@ -425,6 +419,7 @@ good image z count s In h = good_in image z count s h
 good image z count s Out h = good_out image z count s h
 good image z count s Err h = tt
 good image z count s Halt h = tt
+good image z count s e h = good_combine image z count s e _ h refl refl refl (inl (refl, refl))
 
 -- an instruction stands in a sound state's place
 pub steps_there : (image : ImageView) (z count : ℕ) (s : State) → Accepts image z → IsMainCount image count → IsSound image count s → (i : Instr) × Steps image z count s i
@@ -470,10 +465,7 @@ sound_after image z count accepts main (suc k) s to sound is =
     by_outcome : ((t : State) → IsSound image count t → state_after image z k t ≡ Some to → IsSound image count to) →
         (o : StepOutcome) → IsGood image count o → after (state_after image z k) o ≡ Some to → IsSound image count to
     by_outcome later (Goes t) g e = later t g e
-    by_outcome later Halts g e = cc
-    by_outcome later Errs g e = cc
-    by_outcome later (Limits left) g e = cc
-    by_outcome later Stuck g e = cc
+    by_outcome later _ g e = cc
 
 -- the runs of an accepted image
 pub keeps_sound : (image : ImageView) (z count : ℕ) → Accepts image z → IsMainCount image count → KeepsSound image z count

@@ -179,9 +179,7 @@ module _ (image : ImageView) (note : ℕ → Option Note) (noted : IsNoted image
       let m : Meets image note a.at s.n = meets a s in
       m.returns (ap (λ (q : Row). q.flow) (row_there a s w.1 w.2) ∙ w.4) (sym s.unit ∙ w.3)
   right a s (errors.DepthDiffers at d e) w = w
-  right a s (errors.Overlap byte) w = w
-  right a s (errors.MainFrame count) w = w
-  right a s errors.OutOfMemory w = w
+  right a s _ w = w
 
   unit_at : (at to : ℕ) (n m : Note) → note at ≡ Some n → note to ≡ Some m → at ≡ to → n ≡ m
   unit_at at to n m h k e = same_Some n m (sym h ∙ ap note e ∙ k)
@@ -252,16 +250,4 @@ module _ (image : ImageView) (note : ℕ → Option Note) (noted : IsNoted image
       let same : s.n ≡ t.n = unit_at h.0.at h.1.at s.n t.n s.there t.there (h.4 ∙ sym h.5) in
       omega (arith, ap (λ (n : Note). n.depth) same, s.depth, t.depth, h.6, h.7, h.8)
   accepted end map (errors.MainFrame count) h = omega (arith, map_large end map, few_locals count h.0, h.1)
-  accepted end map (errors.BadCode at) h = right h.0 (stands h.0 h.1) (errors.BadCode at) h.2
-  accepted end map (errors.FallsOff at) h = right h.0 (stands h.0 h.1) (errors.FallsOff at) h.2
-  accepted end map (errors.BadTarget at) h = right h.0 (stands h.0 h.1) (errors.BadTarget at) h.2
-  accepted end map (errors.BadConstant at k) h = right h.0 (stands h.0 h.1) (errors.BadConstant at k) h.2
-  accepted end map (errors.BadEntry k) h = right h.0 (stands h.0 h.1) (errors.BadEntry k) h.2
-  accepted end map (errors.BadHeader e) h = right h.0 (stands h.0 h.1) (errors.BadHeader e) h.2
-  accepted end map (errors.LinkSlot at) h = right h.0 (stands h.0 h.1) (errors.LinkSlot at) h.2
-  accepted end map (errors.BadLocal at k) h = right h.0 (stands h.0 h.1) (errors.BadLocal at k) h.2
-  accepted end map (errors.UnsetLocal at k) h = right h.0 (stands h.0 h.1) (errors.UnsetLocal at k) h.2
-  accepted end map (errors.TooFewArguments at have need) h = right h.0 (stands h.0 h.1) (errors.TooFewArguments at have need) h.2
-  accepted end map (errors.Underflow at) h = right h.0 (stands h.0 h.1) (errors.Underflow at) h.2
-  accepted end map (errors.ReturnInMain at) h = right h.0 (stands h.0 h.1) (errors.ReturnInMain at) h.2
-  accepted end map errors.OutOfMemory h = right h.0 (stands h.0 h.1) errors.OutOfMemory h.2
+  accepted end map e h = right h.0 (stands h.0 h.1) e h.2

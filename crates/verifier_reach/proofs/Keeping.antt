@@ -206,9 +206,7 @@ clear image here at c r need h (ReturnInMain p) w =
     let same : w.1 ≡ r = h.alone w.1 w.2 in
     absurd (h.returns w.3 (subst (λ (x : Row). x.flow ≡ Return) same w.4))
 clear image here at c r need h (DepthDiffers p d e) w = w
-clear image here at c r need h (Overlap p) w = w
-clear image here at c r need h (MainFrame n) w = w
-clear image here at c r need h OutOfMemory w = w
+clear image here at c r need h _ w = w
 
 -- at the end each path's arrival is kept
 all_kept : (image : ImageView) (seen : List (Option Kept)) → slice_get seen 0 ≡ Some (Some (kept_of None 0)) → ((at : ℕ) (k : Kept) → slice_get seen at ≡ Some (Some k) → IsDone image seen k at) →
@@ -318,22 +316,11 @@ taken_kept seen todo rest at waiting is = waiting at (subst (λ (xs : List ℕ).
 
 -- what is wrong at an arrival of a path is a fact of the image
 pub wrong_holds : (image : ImageView) (z : ℕ) (a : Arrival) (e : VerifyError) → Reached image a → IsWrongAt image a e → IsTrueOf image z e
-wrong_holds image z a (BadCode p) h w = (a, h, w)
-wrong_holds image z a (FallsOff p) h w = (a, h, w)
-wrong_holds image z a (BadTarget p) h w = (a, h, w)
-wrong_holds image z a (BadConstant p k) h w = (a, h, w)
-wrong_holds image z a (BadEntry k) h w = (a, h, w)
-wrong_holds image z a (BadHeader p) h w = (a, h, w)
-wrong_holds image z a (LinkSlot p) h w = (a, h, w)
-wrong_holds image z a (BadLocal p k) h w = (a, h, w)
-wrong_holds image z a (UnsetLocal p k) h w = (a, h, w)
-wrong_holds image z a (TooFewArguments p x y) h w = (a, h, w)
-wrong_holds image z a (Underflow p) h w = (a, h, w)
-wrong_holds image z a (ReturnInMain p) h w = (a, h, w)
 wrong_holds image z a (DepthDiffers p d e) h w = elim w [ ]
 wrong_holds image z a (Overlap p) h w = elim w [ ]
 wrong_holds image z a (MainFrame n) h w = elim w [ ]
 wrong_holds image z a OutOfMemory h w = elim w [ ]
+wrong_holds image z a _ h w = (a, h, w)
 
 -- what was done stays done
 done_on : (image : ImageView) (seen new : List (Option Kept)) (todo later : List ℕ) (k : Kept) (at : ℕ) → Grows seen new todo later → IsDone image seen k at → IsDone image new k at
