@@ -1,6 +1,5 @@
 -- A memory of either map is whole blocks, and the line of a run with a cache has the counts of its accesses.
 use Rattle.std.proofs.Common.{◌≡◌, ◌∙◌, ℕ, ◌+◌, ◌%◌, ◌^◌, ◌<◌, ◌≤◌, max, List, ◌++◌, length, Some, ap, subst, arith, inl, inr}
-use Rattle.mic_base.specs.Causes.{Rose}
 use Rattle.mic_words.specs.declared.machine.Machine.{Machine}
 use Rattle.console_port.specs.Map.{IsMap}
 use Rattle.mem_cache.specs.declared.counts.CacheCounts.{CacheCounts}
@@ -22,10 +21,6 @@ use Rattle.cli_boards.proofs.Clocked.{clocked_through}
 pub whole_blocks : (size stack_end : ℕ) → size ≡ stack_end → IsMap stack_end → size % 4 ≡ 0
 whole_blocks size stack_end is (inl standard) = ap (λ (n : ℕ). n % 4) (is ∙ standard)
 whole_blocks size stack_end is (inr large) = ap (λ (n : ℕ). n % 4) (is ∙ large)
-
--- a count that stays 0 has not risen
-pub never_rose : Rose 0 0 → ⊥
-never_rose h = omega arith
 
 -- what was printed has this code
 pub says_code : {old new : SinkState} {text : List ℕ} {code code' status : ℕ} → code ≡ code' → Says old new text code status → Says old new text code' status

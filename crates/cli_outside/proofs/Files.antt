@@ -23,6 +23,3 @@ too_long (Some contents) name h = in_file (file_in contents name) h
 
 pub long_is_no_failure : {T : Type 0} (result : Result T FileError) → result ≡ Err errors.TooLong → result ≢ Err errors.Failed
 long_is_no_failure result is failed = cc
-
-pub memory_is_no_failure : {T : Type 0} (result : Result T FileError) → result ≡ Err errors.OutOfMemory → result ≢ Err errors.Failed
-memory_is_no_failure result is failed = cc

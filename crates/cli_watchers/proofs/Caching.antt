@@ -1,7 +1,7 @@
 -- A cache counts the accesses of a run, and a run leaves it room.
-use Rattle.std.proofs.Common.{◌≡◌, ◌∙◌, ℕ, ◌+◌, ◌*◌, ◌/◌, ◌^◌, ◌<◌, ◌≤◌, Bool, true, false, ◌&&◌, if◌then◌else◌, List, [], ◌∷◌, ◌++◌, map, length, Option, Some, None, refl, sym, ap, subst, arith, get_or, replicate}
+use Rattle.std.proofs.Common.{◌≡◌, ◌∙◌, ℕ, ◌+◌, ◌*◌, ◌/◌, ◌^◌, ◌<◌, ◌≤◌, Bool, true, false, if◌then◌else◌, List, [], ◌∷◌, ◌++◌, map, length, Option, Some, None, refl, sym, ap, subst, arith, get_or, replicate}
 use Rattle.std.specs.Prelude.{nat_lt, slice_index}
-use Rattle.std.proofs.lemmas.Bool.{lt-ltb, ltb-true}
+use Rattle.std.proofs.lemmas.Bool.{lt-ltb}
 use Rattle.std.proofs.lemmas.List.{length-replicate}
 use Rattle.std.proofs.lemmas.Option.{unwrap_or-slice_get}
 use Rattle.std.proofs.Math.ListN as lists
@@ -63,33 +63,6 @@ all_counted-append size [] ys t = refl
 all_counted-append size (x ∷ xs) ys t = all_counted-append size xs ys (counted size x t)
 
 -- ---- the room for a cycle
-
-both_true : (a b : Bool) → (a && b) ≡ true → (a ≡ true) × (b ≡ true)
-both_true true true h = (refl, refl)
-both_true true false h = cc
-both_true false b h = cc
-
--- where there is room, either count may rise, and so it may after the access at MAR
-pub room_is : (c : CacheCounts) → has_room c ≡ true → (c.hits < 0x7FFF_FFFF_FFFF_FFFF) × (c.misses < 0x7FFF_FFFF_FFFF_FFFF)
-room_is c h =
-    let both = both_true (nat_lt c.hits 0x7FFF_FFFF_FFFF_FFFF) (nat_lt c.misses 0x7FFF_FFFF_FFFF_FFFF) h in
-    (ltb-true c.hits 0x7FFF_FFFF_FFFF_FFFF both.0, ltb-true c.misses 0x7FFF_FFFF_FFFF_FFFF both.1)
-
-pub room_at_mar : (c : CacheCounts) → has_room c ≡ true → (c.hits < 2 ^ 63) × (c.misses < 2 ^ 63)
-room_at_mar c h =
-    let room = room_is c h in
-    let hits = room.0 in
-    let misses = room.1 in
-    (omega arith, omega arith)
-
-pub room_at_pc : (size : ℕ) (mem : Mem) (mar : ℕ) (t t' : Tally) → has_room t.counts ≡ true → t' ≡ all_counted size (at_mar mem mar) t →
-    (t'.counts.hits < 2 ^ 63) × (t'.counts.misses < 2 ^ 63)
-room_at_pc size mem mar t t' h is =
-    let few : IsFew 1 t t' = subst (IsFew 1 t) (sym is) (few_at_mar size mem mar t) in
-    let room = room_is t.counts h in
-    let hits = room.0 in
-    let misses = room.1 in
-    (omega (arith, few.hits, hits), omega (arith, few.misses, misses))
 
 room_when : (c : CacheCounts) → c.hits + c.misses < 0x7FFF_FFFF_FFFF_FFFF → has_room c ≡ true
 room_when c h =

@@ -1,18 +1,13 @@
 -- The table of instructions has the names of the rows, in their order.
 use Rattle.std.proofs.Common.{◌≡◌, ℕ, List, refl, ap, sym, ◌∙◌}
 use Rattle.std.specs.Prelude.{map, option_map, slice_get}
-use Rattle.std.specs.List.{position}
-use Rattle.std.specs.Str.{bytes_eq}
 use Rattle.std.proofs.lemmas.Option.{slice_get-map}
 use Rattle.ijvm_instr.specs.declared.instr.TheConstants.{INSTRUCTIONS}
 use Rattle.ijvm_instr.specs.Instructions.{mnemonic_of}
-use Rattle.cli_watchers.specs.Rows.{place_of, row_names}
+use Rattle.cli_watchers.specs.Rows.{row_names}
 
 in_order : map mnemonic_of INSTRUCTIONS ≡ row_names
 in_order = refl
-
-pub same_place : (text : List ℕ) → position (λ i. bytes_eq (mnemonic_of i) text) INSTRUCTIONS ≡ place_of text
-same_place text = refl
 
 pub name_at : (row : ℕ) → option_map mnemonic_of (slice_get INSTRUCTIONS row) ≡ slice_get row_names row
 name_at row = sym (slice_get-map mnemonic_of INSTRUCTIONS row) ∙ ap (λ (names : List (List ℕ)). slice_get names row) in_order

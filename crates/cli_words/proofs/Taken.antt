@@ -2,9 +2,9 @@
 use Rattle.std.proofs.Common.{◌≡◌, ◌∙◌, true, false, List, [], ◌∷◌, ◌++◌, Option, Some, None, refl, sym, ap, subst, append_assoc, append-nil}
 use Rattle.std.specs.List.{flat_map}
 use Rattle.clap.proofs.CutLemmas.{after_first-at, before_first-at, list_any-at}
-use Rattle.cli_words.specs.Reading.{Entry, Form, NextWord, Text, add, any, is_in, is_value, long, look, only_plain, option_value, plain, read, read_plain, reads}
+use Rattle.cli_words.specs.Reading.{Entry, Form, NextWord, Text, add, any, is_in, is_value, long, look, only_plain, plain, read, read_plain, reads}
 use Rattle.cli_words.specs.Given.{AreNewAfter, IsGiven, IsNew}
-use Rattle.cli_words.specs.Spelled.{Piece, Plain, Apart, Joined, Flag, Dashes, ArePlain, IsLine, IsNameOf, IsSpelled, entries, has_equals, plain_names, written}
+use Rattle.cli_words.specs.Spelled.{Piece, Plain, Apart, Joined, Flag, Dashes, ArePlain, IsLine, IsNameOf, IsSpelled, entries, plain_names, written}
 use Rattle.cli_words.proofs.Spelled.{lacks, whole_name}
 
 -- no name of the row is empty, and no option is a flag
@@ -22,9 +22,6 @@ not_empty names name none is empty = let bad : false ≡ true = sym none ∙ (rw
 
 adds : (e : Entry) (given : List Entry) (next : List Entry → Option (List Entry)) → IsNew given e → add e given next ≡ next (given ++ e ∷ [])
 adds e given next is = rw is.0 (rw is.1 refl)
-
-no_equals : (name : Text) → has_equals name ≡ false → option_value name ≡ None
-no_equals name is = rw is refl
 
 module _ (f : Form) where
   abbrev Reads : NextWord → List Piece → Type 0

@@ -457,13 +457,6 @@ module _ (seed n : ℕ) (short : n ≤ 9000)
       let first : slice_index text (entry + 1) ≡ 2 = get_or-append-add (main_text seed n) method_text 1 0 in
       omega arith
 
-  others_are : others text entry ≡ 0
-  unfolding others
-  others_are =
-      let second : slice_index text (entry + 2) ≡ 0 = get_or-append-add (main_text seed n) method_text 2 0 in
-      let third : slice_index text (entry + 3) ≡ 0 = get_or-append-add (main_text seed n) method_text 3 0 in
-      omega arith
-
   method_there : (i : Instr) (m : Note) (pre post : List Item) (at : ℕ) → method_items entry ≡ pre ++ (Code i m ∷ post)
       → at ≡ entry + items_size pre → note_at whole at ≡ Some m
   method_there i m pre post at is e =

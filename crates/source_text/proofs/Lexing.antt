@@ -154,6 +154,3 @@ module _ {T : Type 0} (L : Lexicon T) (X : Lexer T) (agrees : Agrees L X) where
   is_read [] text s = blank_again text s
   is_read (t ∷ ts) text (gap, lexeme, rest, e, blank, is, ends, more) =
       ap (lex X 0) e ∙ (skip_gap gap (lexeme ++ rest) blank ∙ (token_again lexeme rest t is ends ∙ ap (option_map (λ ts. t ∷ ts)) (is_read ts rest more)))
-
-  pub one_reading : (text : List ℕ) (ts us : List T) → Spells L text ts → Spells L text us → ts ≡ us
-  one_reading text ts us a b = let p = is_read ts text a in let q = is_read us text b in cc

@@ -1,46 +1,10 @@
 -- A walk over lines gives the last state where no line is refused, else the first refusal.
 use Rattle.std.proofs.Common.{◌≡◌, ℕ, ◌+◌, List, [], ◌∷◌, ◌++◌, length, refl, sym, ap, subst, ◌∙◌, arith, append_assoc, length-append}
-use Rattle.std.specs.Prelude.{Result, Ok, Err}
+use Rattle.std.specs.Prelude.{Ok, Err}
 use Rattle.std.proofs.lemmas.List.{append-nil}
 use Rattle.source_text.specs.Walk.{Step, go_on, walk, Leads, FirstRefused, StopsAt}
 
--- what the outcome of a walk says
-Says : {S E : Type 0} → Step S E → ℕ → S → List (List ℕ) → Result S E → Type 0
-Says step k s ls (Ok t) = Leads step k s ls t
-Says step k s ls (Err e) = FirstRefused step k s ls e
-
 module _ {S E : Type 0} (step : Step S E) where
-  walk_says : (ls : List (List ℕ)) (k : ℕ) (s : S) → Says step k s ls (walk step k s ls)
-  unfolding Says walk
-  walk_says [] k s = refl
-  walk_says (l ∷ ls) k s = go (step k s l) refl (λ t. walk_says ls (k + 1) t)
-    where
-      later : (u : S) (r : Result S E) → step k s l ≡ Ok u → Says step (k + 1) u ls r → Says step k s (l ∷ ls) r
-      later u (Ok t) h m = (u, h, m)
-      later u (Err e) h (before, m) = (
-        before,
-        record {
-          front = l ∷ m.front;
-          line = m.line;
-          others = m.others;
-          split = ap (λ zs. l ∷ zs) m.split;
-          leads = (u, h, m.leads);
-          refused = subst (λ n. step n before m.line ≡ Err e) (omega arith) m.refused;
-        },
-      )
-
-      go : (r : Result S E) → step k s l ≡ r → ((t : S) → Says step (k + 1) t ls (walk step (k + 1) t ls)) → Says step k s (l ∷ ls) (go_on (λ t. walk step (k + 1) t ls) r)
-      go (Err e) h rec = (s, record { front = []; line = l; others = ls; split = refl; leads = refl; refused = subst (λ n. step n s l ≡ Err e) (omega arith) h })
-      go (Ok u) h rec = later u (walk step (k + 1) u ls) h (rec u)
-
-  pub walk_leads : (ls : List (List ℕ)) (k : ℕ) (s t : S) → walk step k s ls ≡ Ok t → Leads step k s ls t
-  unfolding Says
-  walk_leads ls k s t h = subst (Says step k s ls) h (walk_says ls k s)
-
-  pub walk_refused : (ls : List (List ℕ)) (k : ℕ) (s : S) (e : E) → walk step k s ls ≡ Err e → FirstRefused step k s ls e
-  unfolding Says
-  walk_refused ls k s e h = subst (Says step k s ls) h (walk_says ls k s)
-
   pub leads_walk : (ls : List (List ℕ)) (k : ℕ) (s t : S) → Leads step k s ls t → walk step k s ls ≡ Ok t
   unfolding walk
   leads_walk [] k s t m = ap Ok m

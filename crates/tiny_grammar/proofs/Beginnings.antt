@@ -4,7 +4,7 @@ use Rattle.std.specs.Prelude.{None, [], ◌∷◌}
 use Rattle.tiny_draft.specs.declared.token.Kind.{Kind}
 use Rattle.tiny_draft.specs.declared.token.Kind.TheVariants as kinds
 use Rattle.tiny_draft.specs.declared.token.Sign.TheVariants as signs
-use Rattle.tiny_grammar.specs.Machine.{MoreArguments, Steps, before, begins_after_name, begins_arguments, begins_block, begins_call, begins_else, begins_functions, begins_more, begins_more_parameters, begins_parameters, begins_statement, begins_term, is_name, is_number, is_sign}
+use Rattle.tiny_grammar.specs.Machine.{MoreArguments, Steps, before, begins_arguments, begins_block, begins_call, begins_else, begins_functions, begins_more, begins_more_parameters, begins_statement, begins_term, is_name, is_number, is_sign}
 
 pub more_none : (k : Kind) → is_sign signs.Comma k ≡ None → is_sign signs.Close k ≡ None → begins_more k ≡ None
 more_none (kinds.Of signs.Comma) a b = absurd (cc)
@@ -24,22 +24,12 @@ pub arguments_not_closed : (k : Kind) → is_sign signs.Close k ≡ None → beg
 arguments_not_closed (kinds.Of signs.Close) a = absurd (cc)
 arguments_not_closed _ a = refl
 
-pub parameters_none : (k : Kind) → is_sign signs.Close k ≡ None → is_name k ≡ None → begins_parameters k ≡ None
-parameters_none (kinds.Of signs.Close) a b = absurd (cc)
-parameters_none (kinds.Name n) a b = absurd (cc)
-parameters_none _ a b = refl
-
 pub term_none : (k : Kind) → is_sign signs.Open k ≡ None → is_sign signs.Get k ≡ None → is_number k ≡ None → is_name k ≡ None → begins_term k ≡ None
 term_none (kinds.Of signs.Open) a b x y = absurd (cc)
 term_none (kinds.Of signs.Get) a b x y = absurd (cc)
 term_none (kinds.Number n) a b x y = absurd (cc)
 term_none (kinds.Name n) a b x y = absurd (cc)
 term_none _ a b x y = refl
-
-pub after_name_none : (k : Kind) → is_sign signs.Open k ≡ None → is_sign signs.Assign k ≡ None → begins_after_name k ≡ None
-after_name_none (kinds.Of signs.Open) a b = absurd (cc)
-after_name_none (kinds.Of signs.Assign) a b = absurd (cc)
-after_name_none _ a b = refl
 
 pub else_none : (k : Kind) → is_sign signs.Else k ≡ None → begins_else k ≡ None
 else_none (kinds.Of signs.Else) a = absurd (cc)

@@ -24,19 +24,7 @@ use Rattle.tiny_grammar.proofs.Moving.{closes_at, frame, frame_stops, levels_as,
 abbrev pub assigning : List Part
 assigning = Want signs.Assign ∷ value
 
--- ---- a sign that keeps no line, and one that keeps it
-
-pub sign_moves : (levels : ℕ) (p : Part) (to : List Part) (s : Sign) (ts rest : List Token) → Sees s ts rest → begins p (kinds.Of s) ≡ Some to
-    → turn (kinds.Of s) ≡ Stays → kept_line (kinds.Of s) 0 ≡ kept_line (kinds.Of s) 1 → Moves levels (p ∷ []) ts (sign s ∷ []) levels to rest
-sign_moves levels p to s ts rest see b u k = go s k (stays_at levels p to (kinds.Of s) ts see.token rest see.split see.is b u)
-  where
-    go : (s : Sign) → kept_line (kinds.Of s) 0 ≡ kept_line (kinds.Of s) 1
-        → Moves levels (p ∷ []) ts (record { kind = kinds.Of s; line = kept_line (kinds.Of s) see.token.line } ∷ []) levels to rest
-        → Moves levels (p ∷ []) ts (sign s ∷ []) levels to rest
-    go signs.If k m = absurd (omega (arith, k))
-    go signs.While k m = absurd (omega (arith, k))
-    go signs.Return k m = absurd (omega (arith, k))
-    go _ k m = m
+-- ---- a sign that keeps its line
 
 pub sign_at_moves : (levels : ℕ) (p : Part) (to : List Part) (s : Sign) (ts rest : List Token) (line : ℕ) → Sees s ts rest → line ≡ first_line ts
     → begins p (kinds.Of s) ≡ Some to → turn (kinds.Of s) ≡ Stays → ((l : ℕ) → kept_line (kinds.Of s) l ≡ l)

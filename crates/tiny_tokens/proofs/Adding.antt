@@ -94,10 +94,6 @@ number_append : (names : List (List ℕ)) (a b : List (Lexeme × ℕ)) → numbe
 number_append names [] b = refl
 number_append names (t ∷ a) b = ap (λ z. record { kind = (kind_of names t.0).0; line = t.1 } ∷ z) (number_append (kind_of names t.0).1 a b)
 
-names_append : (names : List (List ℕ)) (a b : List (Lexeme × ℕ)) → names_after names (a ++ b) ≡ names_after (names_after names a) b
-names_append names [] b = refl
-names_append names (t ∷ a) b = names_append (kind_of names t.0).1 a b
-
 added : (k : ℕ) (here : List Lexeme) (s : HeldView) → ((add_all k s here).names ≡ names_after s.names (at_line k here)) × ((add_all k s here).tokens ≡ s.tokens ++ number_all s.names (at_line k here))
 added k [] s = (refl, sym (append-nil s.tokens))
 added k (x ∷ here) s =
