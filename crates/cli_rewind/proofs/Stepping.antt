@@ -27,16 +27,9 @@ no_rise rose = absurd (omega (arith, rose))
 
 -- a board that came to no fault
 pub no_fault : (old new : Option End) → (old ≡ None → new ≢ Some ends.ReadFault) → new ≢ Some ends.WriteFault → NoFault old new
-no_fault None None read write = tt
-no_fault None (Some ends.Halt) read write = tt
-no_fault None (Some ends.Err) read write = tt
-no_fault None (Some ends.Bound) read write = tt
-no_fault None (Some ends.StackLimit) read write = tt
 no_fault None (Some ends.ReadFault) read write = absurd (read refl refl)
 no_fault None (Some ends.WriteFault) read write = absurd (write refl)
-no_fault None (Some (ends.OutOfMap at)) read write = tt
-no_fault None (Some ends.Adrift) read write = tt
-no_fault (Some e) new read write = tt
+no_fault _ _ read write = tt
 
 -- only one list may be untaken of a source whose rest is known
 abbrev untaken_of : List ℕ → Bool → List ℕ

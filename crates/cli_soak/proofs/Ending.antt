@@ -23,15 +23,9 @@ no_rise : Rose 0 0 → ⊥
 no_rise r = omega (arith, r)
 
 unfailed : (end : Option End) → HasEndCause 0 0 0 0 None end → NoFault None end
-unfailed None c = tt
 unfailed (Some ends.ReadFault) c = no_rise (c.read refl refl)
 unfailed (Some ends.WriteFault) c = no_rise (c.write refl refl)
-unfailed (Some ends.Halt) c = tt
-unfailed (Some ends.Err) c = tt
-unfailed (Some ends.Bound) c = tt
-unfailed (Some ends.StackLimit) c = tt
-unfailed (Some (ends.OutOfMap at)) c = tt
-unfailed (Some ends.Adrift) c = tt
+unfailed _ c = tt
 
 module _ {M S : Type 0} (state : M → S) (m : Meaning S) (IsReady : ℕ → List ℕ → ℕ → S → Type 0) (IsShipped : List ℕ → Type 0) (entry : ℕ) (timing : Timing) where
   -- the summary by the end of the definition's run, and by the size of the generated text

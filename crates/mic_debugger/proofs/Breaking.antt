@@ -37,27 +37,13 @@ use Rattle.mic_debugger.proofs.Underway.{after-suc, going_more}
 
 -- a board that came to no fault
 pub no_fault : (old new : Option End) → (old ≡ None → new ≢ Some ends.ReadFault) → (old ≡ None → new ≢ Some ends.WriteFault) → NoFault old new
-no_fault None None read write = tt
-no_fault None (Some ends.Halt) read write = tt
-no_fault None (Some ends.Err) read write = tt
-no_fault None (Some ends.Bound) read write = tt
-no_fault None (Some ends.StackLimit) read write = tt
 no_fault None (Some ends.ReadFault) read write = absurd (read refl refl)
 no_fault None (Some ends.WriteFault) read write = absurd (write refl refl)
-no_fault None (Some (ends.OutOfMap at)) read write = tt
-no_fault None (Some ends.Adrift) read write = tt
-no_fault (Some e) new read write = tt
+no_fault _ _ read write = tt
 
 write_or_not : (e : Option End) → (e ≡ Some ends.WriteFault) ⊎ (e ≢ Some ends.WriteFault)
-write_or_not None = inr (λ p. cc)
-write_or_not (Some ends.Halt) = inr (λ p. cc)
-write_or_not (Some ends.Err) = inr (λ p. cc)
-write_or_not (Some ends.Bound) = inr (λ p. cc)
-write_or_not (Some ends.StackLimit) = inr (λ p. cc)
-write_or_not (Some ends.ReadFault) = inr (λ p. cc)
 write_or_not (Some ends.WriteFault) = inl refl
-write_or_not (Some (ends.OutOfMap at)) = inr (λ p. cc)
-write_or_not (Some ends.Adrift) = inr (λ p. cc)
+write_or_not _ = inr (λ p. cc)
 
 -- what holds where a failing `out` ended a board, and what holds where it did not
 pub either_end : {P Q : Type 0} (end : Option End) → (end ≡ Some ends.WriteFault → P) → (end ≢ Some ends.WriteFault → Q) → P ⊎ Q

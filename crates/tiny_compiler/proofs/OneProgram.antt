@@ -7,7 +7,7 @@ use Rattle.verifier_facts.specs.Facts.{IsMainCount}
 use Rattle.tiny_tree.specs.Tree.{Function, Program}
 use Rattle.tiny_parser.specs.Texts.{IsRefused, Spells}
 use Rattle.tiny_parser.specs.declared.error.TinyError.{TinyError}
-use Rattle.tiny_parser.specs.declared.error.TinyError.TheVariants.{BadCall, BadNumber, BadSyntax, BadToken, DuplicateName, JumpTooFar, NoMain, OutOfMemory, PoolTooLong, ReturnInMain, TextTooLong, TooDeep, TooManyNames, UnknownName}
+use Rattle.tiny_parser.specs.declared.error.TinyError.TheVariants.{JumpTooFar, PoolTooLong, TextTooLong}
 use Rattle.tiny_compiler.specs.Compiled.{HasNoCode, IsCompiled, NoProgram, TooLarge}
 use Rattle.tiny_code.specs.Image.{IsCodeOf, Jump, first_far, jumps, pool_of, text_of}
 use Rattle.tiny_compiler.specs.Image.{ExceedsBy, IsTooLarge}
@@ -53,7 +53,6 @@ fits program image main (TextTooLong size) is at exceeds =
 fits program image main (JumpTooFar line far) is at exceeds =
     let same = some_is is.main main (sym is.main_is ∙ at) in
     some_apart (line, far) (sym is.jumps_fit ∙ ap (λ (g : Function). first_far (jumps program g)) same ∙ exceeds.2)
-fits program image main (BadToken line) is at exceeds = exceeds
 fits program image main _ is at exceeds = exceeds
 
 -- ---- the first limit
@@ -72,50 +71,10 @@ one_limit program main (JumpTooFar line far) (PoolTooLong b) f g = absurd (omega
 one_limit program main (JumpTooFar line far) (TextTooLong b) f g = absurd (omega (arith, g.1, g.2, f.1))
 one_limit program main (JumpTooFar line far) (JumpTooFar other more) f g =
     ap (λ (j : Jump). JumpTooFar j.0 j.1) (some_is (line, far) (other, more) (sym f.2 ∙ g.2))
-one_limit program main (BadToken line) e f g = absurd f
-one_limit program main (BadNumber line) e f g = absurd f
-one_limit program main (BadSyntax line) e f g = absurd f
-one_limit program main (TooDeep line) e f g = absurd f
-one_limit program main (DuplicateName line) e f g = absurd f
-one_limit program main (UnknownName line) e f g = absurd f
-one_limit program main (BadCall line) e f g = absurd f
-one_limit program main (ReturnInMain line) e f g = absurd f
-one_limit program main (TooManyNames line) e f g = absurd f
-one_limit program main NoMain e f g = absurd f
-one_limit program main OutOfMemory e f g = absurd f
-one_limit program main (PoolTooLong a) (BadToken line) f g = absurd g
-one_limit program main (PoolTooLong a) (BadNumber line) f g = absurd g
-one_limit program main (PoolTooLong a) (BadSyntax line) f g = absurd g
-one_limit program main (PoolTooLong a) (TooDeep line) f g = absurd g
-one_limit program main (PoolTooLong a) (DuplicateName line) f g = absurd g
-one_limit program main (PoolTooLong a) (UnknownName line) f g = absurd g
-one_limit program main (PoolTooLong a) (BadCall line) f g = absurd g
-one_limit program main (PoolTooLong a) (ReturnInMain line) f g = absurd g
-one_limit program main (PoolTooLong a) (TooManyNames line) f g = absurd g
-one_limit program main (PoolTooLong a) NoMain f g = absurd g
-one_limit program main (PoolTooLong a) OutOfMemory f g = absurd g
-one_limit program main (TextTooLong a) (BadToken line) f g = absurd g
-one_limit program main (TextTooLong a) (BadNumber line) f g = absurd g
-one_limit program main (TextTooLong a) (BadSyntax line) f g = absurd g
-one_limit program main (TextTooLong a) (TooDeep line) f g = absurd g
-one_limit program main (TextTooLong a) (DuplicateName line) f g = absurd g
-one_limit program main (TextTooLong a) (UnknownName line) f g = absurd g
-one_limit program main (TextTooLong a) (BadCall line) f g = absurd g
-one_limit program main (TextTooLong a) (ReturnInMain line) f g = absurd g
-one_limit program main (TextTooLong a) (TooManyNames line) f g = absurd g
-one_limit program main (TextTooLong a) NoMain f g = absurd g
-one_limit program main (TextTooLong a) OutOfMemory f g = absurd g
-one_limit program main (JumpTooFar at far) (BadToken line) f g = absurd g
-one_limit program main (JumpTooFar at far) (BadNumber line) f g = absurd g
-one_limit program main (JumpTooFar at far) (BadSyntax line) f g = absurd g
-one_limit program main (JumpTooFar at far) (TooDeep line) f g = absurd g
-one_limit program main (JumpTooFar at far) (DuplicateName line) f g = absurd g
-one_limit program main (JumpTooFar at far) (UnknownName line) f g = absurd g
-one_limit program main (JumpTooFar at far) (BadCall line) f g = absurd g
-one_limit program main (JumpTooFar at far) (ReturnInMain line) f g = absurd g
-one_limit program main (JumpTooFar at far) (TooManyNames line) f g = absurd g
-one_limit program main (JumpTooFar at far) NoMain f g = absurd g
-one_limit program main (JumpTooFar at far) OutOfMemory f g = absurd g
+one_limit program main (PoolTooLong a) _ f g = absurd g
+one_limit program main (TextTooLong a) _ f g = absurd g
+one_limit program main (JumpTooFar line far) _ f g = absurd g
+one_limit program main _ e f g = absurd f
 
 -- ---- texts, by what holds of each
 

@@ -132,15 +132,9 @@ mutual
   one_arguments : (es fs : tree.Arguments) (x y : List Token) → spell_arguments es ++ x ≡ spell_arguments fs ++ y → Same es fs x y
   one_arguments no_arguments no_arguments x y h = (refl, cc)
   one_arguments no_arguments (argument (Sum (Number n) ss) fs) x y h = absurd (clash _ _ refl h)
-  one_arguments no_arguments (argument (Sum (Variable v) ss) fs) x y h = absurd (clash _ _ refl h)
-  one_arguments no_arguments (argument (Sum (Called v es) ss) fs) x y h = absurd (clash _ _ refl h)
-  one_arguments no_arguments (argument (Sum Get ss) fs) x y h = absurd (clash _ _ refl h)
-  one_arguments no_arguments (argument (Sum (Group e) ss) fs) x y h = absurd (clash _ _ refl h)
+  one_arguments no_arguments (argument (Sum _ ss) fs) x y h = absurd (clash _ _ refl h)
   one_arguments (argument (Sum (Number n) ss) fs) no_arguments x y h = absurd (clash _ _ refl h)
-  one_arguments (argument (Sum (Variable v) ss) fs) no_arguments x y h = absurd (clash _ _ refl h)
-  one_arguments (argument (Sum (Called v es) ss) fs) no_arguments x y h = absurd (clash _ _ refl h)
-  one_arguments (argument (Sum Get ss) fs) no_arguments x y h = absurd (clash _ _ refl h)
-  one_arguments (argument (Sum (Group e) ss) fs) no_arguments x y h = absurd (clash _ _ refl h)
+  one_arguments (argument (Sum _ ss) fs) no_arguments x y h = absurd (clash _ _ refl h)
   one_arguments (argument d es) (argument e fs) x y h =
       let m = after_more es x in
       let n = after_more fs y in
@@ -192,13 +186,7 @@ close = sign signs.End ∷ []
 after_statement : (ss : tree.Statements) (x : List Token) → AfterStatement (spell_statements ss ++ (sign signs.End ∷ x))
 after_statement no_statements x = refl
 after_statement (statement (Var w e) ss) x = refl
-after_statement (statement (Assign w e) ss) x = refl
-after_statement (statement (Calls w es) ss) x = refl
-after_statement (statement (If l c b other) ss) x = refl
-after_statement (statement (While l c b) ss) x = refl
-after_statement (statement (Return l e) ss) x = refl
-after_statement (statement (Put e) ss) x = refl
-after_statement (statement Halt ss) x = refl
+after_statement (statement _ ss) x = refl
 
 abbrev OneList : tree.Statements → tree.Statements → Type 0
 OneList a b = (x y : List Token) → spell_statements a ++ (sign signs.End ∷ x) ≡ spell_statements b ++ (sign signs.End ∷ y) → Same a b x y
@@ -282,21 +270,9 @@ mutual
   one_statements : (ss rs : tree.Statements) (x y : List Token) → spell_statements ss ++ (sign signs.End ∷ x) ≡ spell_statements rs ++ (sign signs.End ∷ y) → Same ss rs x y
   one_statements no_statements no_statements x y h = (refl, cc)
   one_statements no_statements (statement (Var v d) rs) x y h = absurd (clash _ _ refl h)
-  one_statements no_statements (statement (Assign v d) rs) x y h = absurd (clash _ _ refl h)
-  one_statements no_statements (statement (Calls v es) rs) x y h = absurd (clash _ _ refl h)
-  one_statements no_statements (statement (If l c b o) rs) x y h = absurd (clash _ _ refl h)
-  one_statements no_statements (statement (While l c b) rs) x y h = absurd (clash _ _ refl h)
-  one_statements no_statements (statement (Return l d) rs) x y h = absurd (clash _ _ refl h)
-  one_statements no_statements (statement (Put d) rs) x y h = absurd (clash _ _ refl h)
-  one_statements no_statements (statement Halt rs) x y h = absurd (clash _ _ refl h)
+  one_statements no_statements (statement _ rs) x y h = absurd (clash _ _ refl h)
   one_statements (statement (Var v d) ss) no_statements x y h = absurd (clash _ _ refl h)
-  one_statements (statement (Assign v d) ss) no_statements x y h = absurd (clash _ _ refl h)
-  one_statements (statement (Calls v es) ss) no_statements x y h = absurd (clash _ _ refl h)
-  one_statements (statement (If l c b o) ss) no_statements x y h = absurd (clash _ _ refl h)
-  one_statements (statement (While l c b) ss) no_statements x y h = absurd (clash _ _ refl h)
-  one_statements (statement (Return l d) ss) no_statements x y h = absurd (clash _ _ refl h)
-  one_statements (statement (Put d) ss) no_statements x y h = absurd (clash _ _ refl h)
-  one_statements (statement Halt ss) no_statements x y h = absurd (clash _ _ refl h)
+  one_statements (statement _ ss) no_statements x y h = absurd (clash _ _ refl h)
   one_statements (statement s ss) (statement r rs) x y h =
       let a = one_statement s r (spell_statements ss ++ (sign signs.End ∷ x)) (spell_statements rs ++ (sign signs.End ∷ y)) (after_statement ss x) (after_statement rs y)
       (split2 (spell_statement s) (spell_statements ss) (sign signs.End ∷ x) (spell_statement r) (spell_statements rs) (sign signs.End ∷ y) h) in
