@@ -7,6 +7,9 @@ pub record Demands : Type 0 where
   pub fixed : List (Option ℕ)
   pub pairs : List Pair
 
+abbrev pub demands : List (Option ℕ) → List Pair → Demands
+demands fixed pairs = record { fixed = fixed; pairs = pairs }
+
 -- the address that the statement is fixed at
 abbrev pub fixed_at : List (Option ℕ) → ℕ → Option ℕ
 fixed_at fixed s = slice_index_or fixed s None

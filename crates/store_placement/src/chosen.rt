@@ -1,9 +1,9 @@
 //! The placement that is chosen among all that the constraints allow: first the forced addresses, then pairs, then single statements.
 
-ghost use Rattle.std.specs.Prelude.{◌≡◌, ◌<◌, ◌↔◌, IsOk, IfOk, MatchResult};
+ghost use Rattle.std.specs.Prelude.{◌≡◌, ◌<◌, ◌↔◌, IsOk, IfErr, IfOk};
 ghost use Rattle.store_placement.specs.declared.refusal.PlaceError.{PlaceError};
 ghost use Rattle.store_placement.specs.Chosen.{IsChosenList};
-ghost use Rattle.store_placement.specs.Demands.{AreWithin};
+ghost use Rattle.store_placement.specs.Demands.{AreWithin, demands};
 ghost use Rattle.store_placement.specs.Placement.{HasPlacement};
 ghost use Rattle.store_placement.specs.Refusals.{Refuses};
 
@@ -22,8 +22,8 @@ use arrayvec::ArrayVec;
 /// The chosen addresses of the statements, in order.
 fn addresses_for(fixed: &[Option<u16>], pairs: &[Pair]) -> Result<ArrayVec<u16, 512>, PlaceError>
     requires { AreWithin fixed.now pairs.now }
-    ensures { MatchResult result (λ v. IsChosenList (record { fixed = fixed.now; pairs = pairs.now }) v.items)
-        (λ e. Refuses (record { fixed = fixed.now; pairs = pairs.now }) e) }
+    ensures ok { IfOk result (λ v. IsChosenList (demands fixed.now pairs.now) v.items) }
+    ensures err { IfErr result (Refuses (demands fixed.now pairs.now)) }
 {
     if let Some(s) = first_clash(pairs, fixed.len() as u16) {
         return Err(PlaceError::PairClash(s));
