@@ -1,6 +1,6 @@
 //! The tests of the refusals, statement by statement.
-ghost use Rattle.std.specs.Prelude.{◌≡◌, ◌≤◌, ◌<◌, length, MatchOption};
-ghost use Rattle.store_placement.specs.First.{Never, IsFirst};
+ghost use Rattle.std.specs.Prelude.{◌≡◌, ◌≤◌, ◌<◌, length};
+ghost use Rattle.store_placement.specs.First.{FindsFirst};
 ghost use Rattle.store_placement.specs.Refusals.{clashes, in_wrong_half, is_false_target, is_true_target, stands_in, stands_beside, stands_twice};
 
 use crate::pair::Pair;
@@ -49,7 +49,7 @@ fn clashes(pairs: &[Pair], s: u16) -> bool
 
 /// The lowest statement that stands in two different pairs or in both roles.
 pub fn first_clash(pairs: &[Pair], count: u16) -> Option<u16>
-    ensures { MatchOption result (Never (clashes pairs.now) count) (IsFirst (clashes pairs.now) count) }
+    ensures { FindsFirst (clashes pairs.now) count result }
 {
     for s in 0..count {
         if clashes(pairs, s) {
@@ -74,8 +74,7 @@ fn in_wrong_half(fixed: &[Option<u16>], pairs: &[Pair], s: u16) -> bool
 /// The lowest statement that is fixed in the wrong half of the store.
 pub fn first_in_wrong_half(fixed: &[Option<u16>], pairs: &[Pair]) -> Option<u16>
     requires { length fixed.now ≤ 512 }
-    ensures { MatchOption result (Never (in_wrong_half fixed.now pairs.now) (length fixed.now))
-        (IsFirst (in_wrong_half fixed.now pairs.now) (length fixed.now)) }
+    ensures { FindsFirst (in_wrong_half fixed.now pairs.now) (length fixed.now) result }
 {
     for s in 0..fixed.len() as u16 {
         if in_wrong_half(fixed, pairs, s) {

@@ -1,7 +1,7 @@
 //! Whether two statements are forced to one address.
-ghost use Rattle.std.specs.Prelude.{◌≡◌, ◌<◌, length, IfSome, MatchOption, None};
+ghost use Rattle.std.specs.Prelude.{◌≡◌, ◌<◌, length, IfSome, None};
 ghost use Rattle.store_placement.specs.Demands.{AreWithin};
-ghost use Rattle.store_placement.specs.First.{NeverWith, IsFirstWith, NeverTwo, IsFirstTwo};
+ghost use Rattle.store_placement.specs.First.{FindsFirstTwo, FindsFirstWith};
 ghost use Rattle.store_placement.specs.Forced.{all_forced, forced};
 ghost use Rattle.store_placement.specs.Refusals.{are_split, collide, is_pair_of, split_apart};
 ghost use Rattle.store_placement.specs.Taken.{has_split};
@@ -66,8 +66,7 @@ fn collides_with(
     requires within { AreWithin fixed.now pairs.now }
     requires forced { addresses.now ≡ all_forced fixed.now pairs.now }
     requires inside { s < length fixed.now }
-    ensures { MatchOption result (NeverWith (collide fixed.now pairs.now) (length fixed.now) s)
-        (IsFirstWith (collide fixed.now pairs.now) (length fixed.now) s) }
+    ensures { FindsFirstWith (collide fixed.now pairs.now) (length fixed.now) s result }
 {
     for t in s + 1..fixed.len() as u16 {
         if collide(fixed, pairs, addresses, s, t) {
@@ -85,8 +84,7 @@ pub fn first_collision(
 ) -> Option<(u16, u16)>
     requires within { AreWithin fixed.now pairs.now }
     requires forced { addresses.now ≡ all_forced fixed.now pairs.now }
-    ensures { MatchOption result (NeverTwo (collide fixed.now pairs.now) (length fixed.now))
-        (λ x. IsFirstTwo (collide fixed.now pairs.now) (length fixed.now) x.0 x.1) }
+    ensures { FindsFirstTwo (collide fixed.now pairs.now) (length fixed.now) result }
 {
     if are_apart(addresses) && !has_split(fixed, pairs) {
         return None;
