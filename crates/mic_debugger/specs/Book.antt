@@ -1,5 +1,5 @@
 -- What names the words of a control store and the instructions of a text in the lines of a session.
-use Rattle.std.specs.Prelude.{◌≡◌, ◌≢◌, ℕ, ◌<◌, List, Some, length, slice_index, codes, unwrap_or, option_map}
+use Rattle.std.specs.Prelude.{◌≡◌, ℕ, ◌<◌, List, Some, length, slice_index, codes, unwrap_or, option_map}
 use Rattle.ijvm_image.specs.Image.{ImageView}
 use Rattle.ijvm_instr.specs.Instructions.{instr_at}
 use Rattle.ijvm_instr.specs.Text.{instr_text}
@@ -8,6 +8,7 @@ use Rattle.verifier_facts.specs.Kinds.{IsKind}
 use Rattle.verifier_facts.specs.declared.kind.Kind.TheVariants.{Start}
 use Rattle.mal_parser.specs.ProgramText.{parts_text, fallback_of}
 use Rattle.mal_parser.specs.Program.{MalView, label_at}
+use Rattle.store_placement.specs.Program.{IsAtNone}
 use Rattle.mic_debugger.specs.View.{ListingView}
 
 -- the label and the text of the statement at each address of the store, and the instruction at each byte address of the text
@@ -28,8 +29,8 @@ unused_text program = unwrap_or (option_map (fallback_of program) program.fallba
 pub record IsBook (program : MalView) (placement : List ℕ) (image : ImageView) (book : Book) : Type 0 where
   pub labels : (s : ℕ) → s < length placement → book.label (slice_index placement s) ≡ label_or_dash program s
   pub texts : (s : ℕ) → s < length placement → book.text (slice_index placement s) ≡ parts_text program s
-  pub unused_label : (a : ℕ) → ((s : ℕ) → s < length placement → slice_index placement s ≢ a) → book.label a ≡ codes ".default"
-  pub unused_text : (a : ℕ) → ((s : ℕ) → s < length placement → slice_index placement s ≢ a) → book.text a ≡ unused_text program
+  pub unused_label : (a : ℕ) → IsAtNone placement a → book.label a ≡ codes ".default"
+  pub unused_text : (a : ℕ) → IsAtNone placement a → book.text a ≡ unused_text program
   -- a reached instruction begins there, or none does
   pub reached : (at : ℕ) (i : Instr) → IsKind image at Start → instr_at image.text at ≡ Some i → book.instruction at ≡ instr_text i at
   pub unreached : (at : ℕ) → (IsKind image at Start → ⊥) → book.instruction at ≡ codes "?"

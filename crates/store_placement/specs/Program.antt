@@ -50,6 +50,10 @@ LeadsInside count number (nexts.Branch test high low) = low < count
 abbrev pub placed_statement : (ℕ → ℕ) → ℕ → Statement → Placed
 placed_statement address number s = record { part = s.part; next = placed_next address number s.next }
 
+-- the placed statement is the one with this number
+abbrev pub IsPlacedAs : MalView → List ℕ → ℕ → Placed → Type 0
+IsPlacedAs program addresses s p = (t : Statement) → slice_get program.statements s ≡ Some t → p ≡ placed_statement (slice_index addresses) s t
+
 -- `goto` address 0x0FE, where a run ends by error
 abbrev pub goto_end : Placed
 goto_end = record { part = idle; next = placed.Goto 254 }
@@ -70,6 +74,10 @@ pub record IsFilled (program : MalView) (addresses words : List ℕ) : Type 0 wh
       Decodes program.machine (slice_index words (slice_index addresses s)) (placed_statement (slice_index addresses) s t)
   pub others : (a : ℕ) → a < 512 → ((s : ℕ) → s < length program.statements → slice_index addresses s ≢ a) →
       Decodes program.machine (slice_index words a) (placed_default (slice_index addresses) program.fallback)
+
+-- no statement is at the address
+abbrev pub IsAtNone : List ℕ → ℕ → Type 0
+IsAtNone addresses address = (s : ℕ) → s < length addresses → slice_index addresses s ≢ address
 
 -- s is the one statement at the address
 pub record IsOnlyAt (addresses : List ℕ) (address s : ℕ) : Type 0 where

@@ -1,11 +1,10 @@
 //! The control store of a placed program.
-ghost use Rattle.std.specs.Prelude.{◌≡◌, ◌≢◌, ◌<◌, ℕ, Some, length, slice_get, slice_index, IsTrue, MatchOption};
+ghost use Rattle.std.specs.Prelude.{◌≡◌, ◌<◌, length, slice_index, IsTrue, MatchOption};
 ghost use Rattle.mic_words.specs.declared.machine.Machine.{Machine};
 ghost use Rattle.micro_word.specs.Words.{is_valid};
-ghost use Rattle.mal_parser.specs.declared.statement.Statement.{Statement};
 ghost use Rattle.mal_parser.specs.Program.{IsMalProgram};
 ghost use Rattle.store_placement.specs.Placement.{Places};
-ghost use Rattle.store_placement.specs.Program.{demands_of, placed_next, LeadsInside, placed_statement, goto_end, placed_default, IsFilled, IsOnlyAt};
+ghost use Rattle.store_placement.specs.Program.{demands_of, placed_next, LeadsInside, IsPlacedAs, goto_end, placed_default, IsFilled, IsAtNone, IsOnlyAt};
 
 use crate::placement::Placement;
 use mal_parser::{MalNext, MalProgram};
@@ -31,7 +30,7 @@ fn placed_statement(program: &MalProgram, placement: &Placement, s: u16) -> Plac
     requires program { IsMalProgram program.now }
     requires placement { Places (demands_of program.now) placement.now }
     requires inside { s < length program.now.statements }
-    ensures value { (t : Statement) → slice_get program.now.statements s ≡ Some t → result ≡ placed_statement (slice_index placement.now) s t }
+    ensures value { IsPlacedAs program.now placement.now s result }
     ensures valid { IsTrue (is_valid program.now.machine result) }
 {
     let statement = program.statement(s);
@@ -88,7 +87,7 @@ pub fn fill(program: &MalProgram, placement: &Placement) -> Store
 /// The statement at an address.
 pub fn statement_at(_program: &MalProgram, placement: &Placement, address: u16) -> Option<u16>
     requires { Places (demands_of _program.now) placement.now }
-    ensures { MatchOption result ((s : ℕ) → s < length placement.now → slice_index placement.now s ≢ address) (IsOnlyAt placement.now address) }
+    ensures { MatchOption result (IsAtNone placement.now address) (IsOnlyAt placement.now address) }
 {
     placement.statement_at(address)
 }
