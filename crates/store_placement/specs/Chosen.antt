@@ -2,7 +2,7 @@
 use Rattle.std.specs.Prelude.{◌≡◌, ◌<◌, ℕ, ◌+◌, ◌==◌, Bool, not, ◌&&◌, ◌||◌, if◌then◌else◌, min, is_none, List, Option, Some, None, length, map, filter, find, take, slice_index, All}
 use Rattle.std.specs.List.{list_any, filter_map}
 use Rattle.store_placement.specs.declared.pair.Pair.{Pair}
-use Rattle.store_placement.specs.Demands.{Demands, fixed_at}
+use Rattle.store_placement.specs.Demands.{AreWithin, Demands, fixed_at}
 use Rattle.store_placement.specs.First.{below}
 use Rattle.store_placement.specs.Placement.{Places}
 use Rattle.store_placement.specs.Forced.{forced, all_forced, same_address}
@@ -59,3 +59,7 @@ pub record IsChosen (d : Demands) (address : ℕ → ℕ) : Type 0 where
 pub record IsChosenList (d : Demands) (addresses : List ℕ) : Type 0 where
   pub places : Places d addresses
   pub chosen : IsChosen d (slice_index addresses)
+
+-- there is at most one chosen placement
+abbrev pub HasOneChoice : Demands → Type 0
+HasOneChoice d = (xs ys : List ℕ) → AreWithin d.fixed d.pairs → IsChosenList d xs → IsChosenList d ys → xs ≡ ys
