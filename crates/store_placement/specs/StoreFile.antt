@@ -1,10 +1,12 @@
 -- The store file: the magic of the machine, then the 512 words, five bytes each with the most significant first.
-use Rattle.std.specs.Prelude.{◌≡◌, ◌≢◌, ℕ, ◌+◌, ◌*◌, ◌/◌, ◌%◌, ◌^◌, ◌<◌, Bool, not, if◌then◌else◌, List, [], ◌∷◌, ◌++◌, Option, Some, None, length, slice_index, codes, nat_eq}
+use Rattle.std.specs.Prelude.{◌≡◌, ◌≢◌, ℕ, ◌+◌, ◌*◌, ◌/◌, ◌%◌, ◌^◌, ◌<◌, Bool, not, if◌then◌else◌, List, [], ◌∷◌, ◌++◌, Option, Some, None, Result, Err, length, slice_index, codes, nat_eq, IsTrue, ◌⊎◌}
 use Rattle.std.specs.List.{flat_map, starts_with}
 use Rattle.mic_words.specs.declared.machine.Machine.{Machine}
 use Rattle.mic_words.specs.declared.machine.Machine.TheVariants.{Mic1, Mic2}
-use Rattle.micro_word.specs.Words.{is_canonical}
-use Rattle.micro_word.specs.ControlStore.{ControlStore}
+use Rattle.micro_word.specs.declared.statement.Placed.{Placed}
+use Rattle.micro_word.specs.Coding.{microword_of}
+use Rattle.micro_word.specs.Words.{is_canonical, is_valid}
+use Rattle.micro_word.specs.ControlStore.{ControlStore, IsStore}
 use Rattle.store_placement.specs.declared.store_error.StoreError.{StoreError}
 use Rattle.store_placement.specs.declared.store_error.StoreError.TheVariants as errors
 use Rattle.store_placement.specs.First.{Never, IsFirst}
@@ -18,6 +20,10 @@ word_bytes word = word / 2 ^ 32 % 256 ∷ word / 2 ^ 24 % 256 ∷ word / 2 ^ 16 
 
 unfoldable pub store_file : ControlStore → List ℕ
 store_file s = magic s.machine ++ flat_map word_bytes s.words
+
+-- this holds of each control store whose file has these bytes
+abbrev pub IfFileOf : List ℕ → (ControlStore → Type 0) → Type 0
+IfFileOf bytes Holds = (s : ControlStore) → IsStore s → bytes ≡ store_file s → Holds s
 
 -- the machine whose magic a file begins with
 unfoldable pub machine_of : List ℕ → Option Machine
@@ -39,6 +45,10 @@ word_at bytes address = number_at bytes (4 + 5 * address)
 abbrev pub is_bad : Machine → List ℕ → ℕ → Bool
 is_bad machine bytes address = not (is_canonical machine (word_at bytes address))
 
+-- the word is canonical, and decodes to the statement
+abbrev pub DecodesCanonical : Machine → ℕ → Placed → Type 0
+DecodesCanonical machine word p = IsTrue (is_canonical machine word) × IsTrue (is_valid machine p) × (microword_of machine p ≡ word)
+
 -- each refusal, where no earlier one holds
 abbrev pub RefusesFile : List ℕ → StoreError → Type 0
 RefusesFile bytes errors.BadMagic = machine_of bytes ≡ None
@@ -46,6 +56,13 @@ RefusesFile bytes (errors.BadLength n) = (machine : Machine) × (machine_of byte
 RefusesFile bytes (errors.BadWord address) =
     (machine : Machine) × (machine_of bytes ≡ Some machine) × (length bytes ≡ 2564) × IsFirst (is_bad machine bytes) 512 address
 RefusesFile bytes errors.OutOfMemory = ⊥
+
+abbrev pub IsShortage : StoreError → Type 0
+IsShortage e = e ≡ errors.OutOfMemory
+
+-- the error is returned, unless memory runs out
+abbrev pub IsErrUnlessShort : {T : Type 0} → Result T StoreError → StoreError → Type 0
+IsErrUnlessShort result e = (result ≡ Err e) ⊎ (result ≡ Err errors.OutOfMemory)
 
 -- up to the address the words are those of the file, and canonical
 pub record IsReadFrom (bytes : List ℕ) (machine : Machine) (upto : ℕ) (s : ControlStore) : Type 0 where

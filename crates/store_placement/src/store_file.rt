@@ -1,11 +1,9 @@
 //! The store file, written and read.
-ghost use Rattle.std.specs.Prelude.{◌≡◌, ◌+◌, ◌≤◌, ◌<◌, ◌⊎◌, false, length, IsTrue, IfOk, IfErr, MatchOption, MatchResult, Err};
-ghost use Rattle.micro_word.specs.Coding.{microword_of};
-ghost use Rattle.micro_word.specs.Words.{is_valid, is_canonical};
-ghost use Rattle.micro_word.specs.ControlStore.{ControlStore, IsStore};
+ghost use Rattle.std.specs.Prelude.{◌≡◌, ◌+◌, ◌≤◌, ◌<◌, ◌⊎◌, false, length, IfOk, IfErr, MatchOption, MatchResult};
+ghost use Rattle.micro_word.specs.Words.{is_canonical};
 ghost use Rattle.store_placement.specs.declared.store_error.StoreError.{StoreError};
 ghost use Rattle.store_placement.specs.First.{IsFirst};
-ghost use Rattle.store_placement.specs.StoreFile.{magic, word_bytes, store_file, machine_of, number_at, word_at, is_bad, RefusesFile, IsReadFrom};
+ghost use Rattle.store_placement.specs.StoreFile.{magic, word_bytes, store_file, machine_of, number_at, word_at, is_bad, DecodesCanonical, IfFileOf, IsErrUnlessShort, IsReadFrom, IsShortage, RefusesFile};
 
 use crate::filling::goto_end;
 use crate::store_error::StoreError;
@@ -74,8 +72,7 @@ fn number_at(bytes: &[u8], k: usize) -> u64
 }
 
 fn decode(machine: Machine, word: u64) -> Option<Placed>
-    ensures { MatchOption result (is_canonical machine word ≡ false)
-        (λ p. IsTrue (is_canonical machine word) × IsTrue (is_valid machine p) × (microword_of machine p ≡ word)) }
+    ensures { MatchOption result (is_canonical machine word ≡ false) (DecodesCanonical machine word) }
 {
     word_law(machine);
     match machine {
@@ -111,9 +108,9 @@ fn read_words(machine: Machine, bytes: &[u8]) -> Result<Store, u16>
 /// The control store of a file. Each refusal comes exactly where it is the first one, except that memory may run out.
 pub fn read_store(alloc: Global, bytes: &[u8]) -> Result<Box<Store>, StoreError>
     ensures ok { IfOk result (λ store. store_file store.value ≡ bytes.now) }
-    ensures back { (s : ControlStore) → IsStore s → bytes.now ≡ store_file s → MatchResult result (λ store. store.value ≡ s) (λ e. e ≡ StoreError.OutOfMemory) }
-    ensures refused { (e : StoreError) → RefusesFile bytes.now e → (result ≡ Err e) ⊎ (result ≡ Err StoreError.OutOfMemory) }
-    ensures cause { IfErr result (λ e. (e ≡ StoreError.OutOfMemory) ⊎ RefusesFile bytes.now e) }
+    ensures back { IfFileOf bytes.now (λ s. MatchResult result (λ store. store.value ≡ s) IsShortage) }
+    ensures refused { (e : StoreError) → RefusesFile bytes.now e → IsErrUnlessShort result e }
+    ensures cause { IfErr result (λ e. IsShortage e ⊎ RefusesFile bytes.now e) }
 {
     let Some(machine) = machine_of(bytes) else {
         return Err(StoreError::BadMagic);
