@@ -14,5 +14,5 @@ pub fn instructions_are_whole()
 
 /// Every run of an accepted image stands where a path has come, finds all that its instructions need, and never gets stuck.
 pub fn accepted_images_keep_sound()
-    ensures { (image : ImageView) (end locals : ℕ) → Accepts image end → IsMainCount image locals → KeepsSound image end locals }
+    ensures { (image : ImageView) (end n : ℕ) → Accepts image end → IsMainCount image n → KeepsSound image end n }
 {}
