@@ -1,5 +1,6 @@
 -- Which part of a program is read from the front of the tokens, and what is after it.
-use Rattle.std.specs.Prelude.{◌≡◌, ℕ, ◌+◌, List, [], ◌∷◌, ◌++◌, map, None}
+use Rattle.std.specs.Prelude.{◌≡◌, ℕ, ◌+◌, List, [], ◌∷◌, ◌++◌, map, Option, None, MatchOption}
+use Rattle.std.specs.Borrow.{Bor}
 use Rattle.tiny_draft.specs.declared.token.Sign.{Sign}
 use Rattle.tiny_draft.specs.declared.token.Sign.TheVariants as signs
 use Rattle.tiny_draft.specs.declared.token.Token.{Token}
@@ -18,6 +19,10 @@ use Rattle.tiny_grammar.specs.Tokens.{first_kind}
 -- the first token is another one
 abbrev pub Lacks : Sign → List Token → Type 0
 Lacks s ts = is_sign s (first_kind ts) ≡ None
+
+-- nothing is read where the part is absent, else the part is read, with these tokens after it
+abbrev pub MayRead : {A : Type 0} → Type 0 → (A → List Token → Type 0) → Option (A × Bor (List Token)) → Type 0
+MayRead Absent ReadsPart found = MatchOption found Absent (λ p. ReadsPart p.0 p.1.now)
 
 -- a value that is assigned, with the sign before it and the semicolon after it
 abbrev pub assigned : List Part

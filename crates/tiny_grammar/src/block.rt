@@ -1,12 +1,12 @@
 //! Reads the statement and the block at the front of the tokens, by the grammar of Tiny.
 
-ghost use Rattle.std.specs.Prelude.{◌∷◌, [], MatchOption, IfOk, IfErr};
+ghost use Rattle.std.specs.Prelude.{◌∷◌, [], IfOk, IfErr};
 ghost use Rattle.tiny_draft.specs.Branches.{else_tree};
 ghost use Rattle.tiny_draft.specs.View.{block_tree};
 ghost use Rattle.tiny_draft.specs.declared.token.Sign.TheVariants.{If, While};
 ghost use Rattle.tiny_grammar.specs.Grammar.{spell_block, spell_else};
 ghost use Rattle.tiny_grammar.specs.Machine.{ABlock, AfterName, AStatement, MaybeElse};
-ghost use Rattle.tiny_grammar.specs.Parts.{Lacks, ReadsStatement, assigned, spell_assigned};
+ghost use Rattle.tiny_grammar.specs.Parts.{Lacks, MayRead, ReadsStatement, assigned, spell_assigned};
 ghost use Rattle.tiny_grammar.specs.Reads.{HoldsNoBlock, Reads, ReadsAll, Says, StopsBy};
 
 use crate::expr::{arguments, cond, value};
@@ -99,7 +99,7 @@ fn repeated(
     levels: u32,
     tokens: &[Token],
 ) -> Result<Option<(Statement, &[Token])>, Refusal>
-    ensures ok { IfOk result (λ f. MatchOption f (Lacks While tokens.now) (λ p. ReadsStatement levels tokens.now p.0 p.1.now)) }
+    ensures ok { IfOk result (MayRead (Lacks While tokens.now) (ReadsStatement levels tokens.now)) }
     ensures err { IfErr result (λ e. StopsBy levels (AStatement ∷ []) tokens.now e) }
 {
     let Some(inside) = after_sign(tokens, Sign::While) else {
@@ -119,7 +119,7 @@ fn choice(
     levels: u32,
     tokens: &[Token],
 ) -> Result<Option<(Statement, &[Token])>, Refusal>
-    ensures ok { IfOk result (λ f. MatchOption f (Lacks If tokens.now) (λ p. ReadsStatement levels tokens.now p.0 p.1.now)) }
+    ensures ok { IfOk result (MayRead (Lacks If tokens.now) (ReadsStatement levels tokens.now)) }
     ensures err { IfErr result (λ e. StopsBy levels (AStatement ∷ []) tokens.now e) }
 {
     let Some(inside) = after_sign(tokens, Sign::If) else {

@@ -1,11 +1,11 @@
 //! Reads the expression and the condition at the front of the tokens.
 
-ghost use Rattle.std.specs.Prelude.{[], ◌∷◌, ◌++◌, MatchOption, IfOk, IfErr};
+ghost use Rattle.std.specs.Prelude.{[], ◌∷◌, ◌++◌, IfOk, IfErr};
 ghost use Rattle.tiny_draft.specs.View.{cond_tree, expr_tree};
 ghost use Rattle.tiny_draft.specs.declared.token.Sign.TheVariants.{Open};
 ghost use Rattle.tiny_grammar.specs.Grammar.{end, spell_cond, spell_expr};
 ghost use Rattle.tiny_grammar.specs.Machine.{ACond, AnExpr, Arguments, ATerm, MaybeCall, value};
-ghost use Rattle.tiny_grammar.specs.Parts.{Lacks, ReadsArguments, ReadsCall, ReadsTerm};
+ghost use Rattle.tiny_grammar.specs.Parts.{Lacks, MayRead, ReadsArguments, ReadsCall, ReadsTerm};
 ghost use Rattle.tiny_grammar.specs.Reads.{Reads, ReadsAll, Skips, StopsBy};
 
 use crate::refusal::{Refusal, refused};
@@ -42,7 +42,7 @@ fn term(alloc: Global, levels: u32, tokens: &[Token]) -> Result<(Term, &[Token])
 /// The expression in parentheses, where an opening one comes first.
 #[cycle(expr)]
 fn group(alloc: Global, levels: u32, tokens: &[Token]) -> Result<Option<(Term, &[Token])>, Refusal>
-    ensures ok { IfOk result (λ f. MatchOption f (Lacks Open tokens.now) (λ p. ReadsTerm levels tokens.now p.0 p.1.now)) }
+    ensures ok { IfOk result (MayRead (Lacks Open tokens.now) (ReadsTerm levels tokens.now)) }
     ensures err { IfErr result (λ e. StopsBy levels (ATerm ∷ []) tokens.now e) }
 {
     let Some(inside) = after_sign(tokens, Sign::Open) else {
@@ -64,7 +64,7 @@ fn call(
     levels: u32,
     tokens: &[Token],
 ) -> Result<Option<(Items<Expr>, &[Token])>, Refusal>
-    ensures ok { IfOk result (λ f. MatchOption f (Skips levels MaybeCall tokens.now) (λ p. ReadsCall levels tokens.now p.0 p.1.now)) }
+    ensures ok { IfOk result (MayRead (Skips levels MaybeCall tokens.now) (ReadsCall levels tokens.now)) }
     ensures err { IfErr result (λ e. StopsBy levels (MaybeCall ∷ []) tokens.now e) }
 {
     let Some(rest) = after_sign(tokens, Sign::Open) else {
