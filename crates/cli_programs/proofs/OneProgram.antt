@@ -1,5 +1,5 @@
 -- A file holds at most one program, and is not refused if it holds one.
-use Rattle.std.proofs.Common.{◌≡◌, inl, inr, ◌≤◌, ◌+◌, ◌∙◌, ℕ, List, Some, sym, subst, true, false, arith}
+use Rattle.std.proofs.Common.{◌≡◌, ◌∙◌, ℕ, List, Some, sym, subst, true, false, arith}
 use Rattle.console_port.specs.declared.map.MemoryMap.{MemoryMap}
 use Rattle.ijvm_image.specs.declared.image.ImageError.{ImageError}
 use Rattle.ijvm_image.specs.Image.{ImageView, IsWithinLimits}
@@ -13,23 +13,9 @@ use Rattle.method_linker.specs.declared.error.LinkError.TheVariants as limits
 use Rattle.method_linker.specs.Linked as linker
 use Rattle.verifier_facts.specs.Accepted.{VerifiedView}
 use Rattle.verifier_facts.specs.Facts.{IsMainCount, IsTrueOf}
+use Rattle.verifier_facts.specs.MainCount.{one_count}
 use Rattle.cli_program_texts.specs.Refusals.{link_reason}
 use Rattle.cli_programs.specs.Program.{AsFile, AsSource, IsNoSource, IsOf, IsAcceptedProgram, IsRefusedProgram, IsSource, NoImage, NoProgram, NoSource, NotAccepted, NotLinked, begins_image}
-
--- ---- main's locals
-
-at_most : (image : ImageView) (m n : ℕ) → IsMainCount image m → IsMainCount image n → m ≤ n
-at_most image m n one other =
-    elim one.least [
-      | inl none ↦ omega (arith, none)
-      | inr some ↦ (let below = other.above some.0 some.1 in let is : m ≡ some.0 + 1 = some.2 in omega (arith, below, is))
-    ]
-
-one_count : (image : ImageView) (m n : ℕ) → IsMainCount image m → IsMainCount image n → m ≡ n
-one_count image m n one other =
-    let le : m ≤ n = at_most image m n one other in
-    let ge : n ≤ m = at_most image n m other one in
-    omega (arith, le, ge)
 
 -- ---- links
 

@@ -14,6 +14,7 @@ use Rattle.verifier_facts.specs.declared.error.VerifyError.TheVariants.{Overlap,
 use Rattle.verifier_facts.specs.Paths.{Arrival, HasRow, Reached}
 use Rattle.verifier_facts.specs.declared.kind.Kind.{Kind}
 use Rattle.verifier_facts.specs.Facts.{Names, IsMainCount, IsTrueOf, Accepts}
+use Rattle.verifier_facts.specs.MainCount.{at_most}
 use Rattle.verifier_reach.specs.Search.{kept_at, kept_of, IsClosed, IsDecided}
 use Rattle.verifier_locals.specs.Graph.{IsNodeOf, IsGraph}
 use Rattle.ijvm_verifier.specs.Counted.{NodeNames, IsCounted}
@@ -68,16 +69,12 @@ counted_all image seen count closed s = record {
     inside : (a : Arrival) → Reached image a → a.at < length image.text
     inside a h = omega (arith, slice_get_within seen a.at (Some (kept_of a.unit a.depth)) (closed.all a h), closed.long)
 
--- a count of main's locals is at most any other, so there is only one
-one_count : (image : ImageView) (c d : ℕ) → IsMainCount image c → IsMainCount image d → c ≤ d
-one_count image c d h g = elim h.least [ inl zero_is ↦ omega arith | inr w ↦ let below : w.0 < d = g.above w.0 w.1 in omega (arith, w.2) ]
-
 -- accepted, by the two searches, the sweep and the count
 pub accepted : (image : ImageView) (z count : ℕ) → ((e : VerifyError) → IsDecided e → IsTrueOf image z e → ⊥) → ((at k : ℕ) → IsTrueOf image z (UnsetLocal at k) → ⊥) → ((b : ℕ) → IsTrueOf image z (Overlap b) → ⊥) → IsMainCount image count →
     0x8000 + count ≤ z → Accepts image z
 accepted image z count s u o m fits (UnsetLocal p k) h = u p k h
 accepted image z count s u o m fits (Overlap p) h = o p h
-accepted image z count s u o m fits (MainFrame n) h = let le : n ≤ count = one_count image n count h.0 m in omega (arith, h.1)
+accepted image z count s u o m fits (MainFrame n) h = let le : n ≤ count = at_most image n count h.0 m in omega (arith, h.1)
 accepted image z count s u o m fits e h = s e tt h
 
 -- what is verified, by a survey and the size of main's frame

@@ -2,7 +2,6 @@
 use Rattle.std.proofs.Common.{◌≡◌, ◌≢◌, ℕ, ◌+◌, ◌*◌, ◌<◌, ◌≤◌, ◌⊎◌, inl, inr, zero, suc, Option, Some, None, List, [], ◌∷◌, ◌++◌, length, length-append, refl, arith, ◌∙◌, ap, sym, subst}
 use Rattle.std.specs.Prelude.{slice_get, slice_index_or, Contains}
 use Rattle.std.proofs.lemmas.Bool.{cases_lt, cases_eq}
-use Rattle.std.proofs.lemmas.Option.{slice_get_within}
 use Rattle.std.proofs.lemmas.List.Quantifiers.{all_pairs_push}
 use Rattle.std.proofs.lemmas.List.Elements.{Contains-append_left, Contains-push, Contains-push_cases, Contains-get_or}
 use Rattle.ijvm_instr.specs.declared.row.Row.{Row}
@@ -15,6 +14,7 @@ use Rattle.verifier_facts.specs.Facts.{Piece, Code, Header, Covers, IsTrueOf, Is
 use Rattle.verifier_facts.specs.declared.kind.Kind.{Kind}
 use Rattle.verifier_facts.specs.Kinds.{first, IsKind}
 use Rattle.verifier_reach.specs.Search.{kept_at, kept_of, IsClosed}
+use Rattle.verifier_reach.specs.Places.{method_inside}
 use Rattle.ijvm_verifier.specs.Sweep.{rank, IsSwept, AreMethodsBelow}
 
 -- one element more at the end
@@ -23,10 +23,6 @@ get_push [] y v zero is = inr (refl, (cc))
 get_push [] y v (suc i) is = cc
 get_push (x ∷ xs) y v zero is = inl is
 get_push (x ∷ xs) y v (suc i) is = elim (get_push xs y v i is) [ inl old ↦ inl old | inr now ↦ inr (omega (arith, now.0), now.1) ]
-
--- a reached method begins inside the text
-pub method_inside : (image : ImageView) (seen : List (Option Kept)) (e : ℕ) → IsClosed image seen → IsReachedMethod image e → e + 4 < length image.text
-method_inside image seen e closed m = omega (arith, slice_get_within seen (e + 4) (Some (kept_of (Some e) 0)) (closed.starts e m), closed.long)
 
 -- a kept address has one unit
 pub one_unit : (seen : List (Option Kept)) (at : ℕ) (here k : Kept) → slice_get seen at ≡ Some (Some here) → slice_get seen at ≡ Some (Some k) → here.unit ≡ k.unit

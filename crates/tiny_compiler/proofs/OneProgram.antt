@@ -1,9 +1,10 @@
 -- A text compiles to one program at most, or has one refusal.
-use Rattle.std.proofs.Common.{◌≡◌, inl, inr, ◌≤◌, ◌+◌, ◌∙◌, ℕ, List, Some, None, length, sym, ap, subst, arith}
+use Rattle.std.proofs.Common.{◌≡◌, ◌∙◌, ℕ, List, Some, None, length, sym, ap, subst, arith}
 use Rattle.std.specs.Prelude.{slice_get}
 use Rattle.ijvm_image.specs.Image.{ImageView}
 use Rattle.verifier_facts.specs.Accepted.{VerifiedView}
 use Rattle.verifier_facts.specs.Facts.{IsMainCount}
+use Rattle.verifier_facts.specs.MainCount.{one_count}
 use Rattle.tiny_tree.specs.Tree.{Function, Program}
 use Rattle.tiny_parser.specs.Texts.{IsRefused, Spells}
 use Rattle.tiny_parser.specs.declared.error.TinyError.{TinyError}
@@ -11,21 +12,6 @@ use Rattle.tiny_parser.specs.declared.error.TinyError.TheVariants.{JumpTooFar, P
 use Rattle.tiny_compiler.specs.Compiled.{HasNoCode, IsCompiled, NoProgram, TooLarge}
 use Rattle.tiny_code.specs.Image.{IsCodeOf, Jump, first_far, jumps, pool_of, text_of}
 use Rattle.tiny_compiler.specs.Image.{ExceedsBy, IsTooLarge}
-
--- ---- main's locals
-
-at_most : (image : ImageView) (m n : ℕ) → IsMainCount image m → IsMainCount image n → m ≤ n
-at_most image m n one other =
-    elim one.least [
-      | inl none ↦ omega (arith, none)
-      | inr some ↦ (let below = other.above some.0 some.1 in let is : m ≡ some.0 + 1 = some.2 in omega (arith, below, is))
-    ]
-
-one_count : (image : ImageView) (m n : ℕ) → IsMainCount image m → IsMainCount image n → m ≡ n
-one_count image m n one other =
-    let le : m ≤ n = at_most image m n one other in
-    let ge : n ≤ m = at_most image n m other one in
-    omega (arith, le, ge)
 
 -- ---- images and limits
 

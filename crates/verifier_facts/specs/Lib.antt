@@ -1,5 +1,6 @@
 pub mod Paths
 pub mod Facts
+pub mod MainCount
 pub mod Kinds
 pub mod Sound
 pub mod Accepted

@@ -6,24 +6,13 @@ use Rattle.std.proofs.lemmas.Bool.{cases_eq, eq-eqb, ne_eqb}
 use Rattle.std.proofs.lemmas.Nat.Bits.{bit_at-zero}
 use Rattle.std.proofs.lemmas.List.Elements.{Contains-append_left, Contains-push, Contains-push_cases}
 use Rattle.std.proofs.lemmas.Option.{same_Some}
+use Rattle.verifier_reach.specs.Places.{get_set_other, get_set_same}
 use Rattle.verifier_locals.specs.declared.graph.Node.{Node}
 use Rattle.verifier_locals.specs.declared.local_set.LocalSet.{LocalSet}
 use Rattle.verifier_locals.specs.declared.trace.Mark.{Mark}
 use Rattle.verifier_locals.specs.LocalSet.{Has, IsIn}
 use Rattle.verifier_locals.specs.Graph.{LeadsTo, Carries, Begin, Pass}
 use Rattle.verifier_locals.specs.Trace.{held, held_at, IsHeld, blanks, AreOlder, IsReady, MarksMore, IsMarked, IsPassed, Passes, IsTracing, ReadsUnset, ReadsNone}
-
-pub get_set_same : {X : Type 0} (xs : List X) (i : ℕ) (v : X) → i < length xs → slice_get (slice_set xs i v) i ≡ Some v
-get_set_same [] i v lt = absurd (omega arith)
-get_set_same (x ∷ xs) zero v lt = refl
-get_set_same (x ∷ xs) (suc i) v lt = get_set_same xs i v (omega arith)
-
-pub get_set_other : {X : Type 0} (xs : List X) (i j : ℕ) (v : X) → j ≢ i → slice_get (slice_set xs i v) j ≡ slice_get xs j
-get_set_other [] i j v ne = refl
-get_set_other (x ∷ xs) zero zero v ne = absurd (ne refl)
-get_set_other (x ∷ xs) zero (suc j) v ne = refl
-get_set_other (x ∷ xs) (suc i) zero v ne = refl
-get_set_other (x ∷ xs) (suc i) (suc j) v ne = get_set_other xs i j v (λ e. ne (omega arith))
 
 empty : (at : ℕ) → Contains {X = ℕ} [] at → ⊥
 empty at h = omega (arith, h.1)

@@ -43,10 +43,6 @@ stays_unset : (stores : Option ℕ) (k : ℕ) → stores ≢ Some k → left_uns
 stays_unset None k ne = refl
 stays_unset (Some s) k ne = ap (λ (b : Bool). cond b None (Some k)) (ne_eqb k s (λ e. ne (ap Some (sym e))))
 
--- a reached method begins inside the text
-pub method_inside : (image : ImageView) (seen : List (Option Kept)) (e : ℕ) → IsClosed image seen → IsReachedMethod image e → e + 4 < length image.text
-method_inside image seen e closed m = omega (arith, slice_get_within seen (e + 4) (Some (kept_of (Some e) 0)) (closed.starts e m), closed.long)
-
 -- a reached method is entered, with any of its own locals or with nothing
 pub entered_with : (image : ImageView) (e : ℕ) (unset : Option ℕ) → MayCarry image.text e unset → (a : Arrival) → Reached image a → a.unit ≡ Some e → Reached image (arrival (Some e) (e + 4) 0 unset)
 entered_with image e unset may a Start unit = cc

@@ -20,18 +20,7 @@ use Rattle.verifier_facts.specs.declared.error.VerifyError.TheVariants.{BadCode,
 use Rattle.verifier_facts.specs.Paths.{Arrival, arrival, HasRow, HasConstant, callee, need_by, need_of, GoesOn, left_unset, On, Into, Reached, Start, Then, HasNext, HasJump}
 use Rattle.verifier_facts.specs.Facts.{Names, IsWrongAt, IsTrueOf, Code}
 use Rattle.verifier_reach.specs.Search.{kept_at, kept_of, IsChecked, empties, IsKept, IsDone, IsSearch, Grows, IsRunning, IsClosed, IsDecided}
-
-pub get_set_same : {X : Type 0} (xs : List X) (i : ℕ) (v : X) → i < length xs → slice_get (slice_set xs i v) i ≡ Some v
-get_set_same [] i v lt = absurd (omega arith)
-get_set_same (x ∷ xs) zero v lt = refl
-get_set_same (x ∷ xs) (suc i) v lt = get_set_same xs i v (omega arith)
-
-pub get_set_other : {X : Type 0} (xs : List X) (i j : ℕ) (v : X) → j ≢ i → slice_get (slice_set xs i v) j ≡ slice_get xs j
-get_set_other [] i j v ne = refl
-get_set_other (x ∷ xs) zero zero v ne = absurd (ne refl)
-get_set_other (x ∷ xs) zero (suc j) v ne = refl
-get_set_other (x ∷ xs) (suc i) zero v ne = refl
-get_set_other (x ∷ xs) (suc i) (suc j) v ne = get_set_other xs i j v (λ e. ne (omega arith))
+use Rattle.verifier_reach.specs.Places.{get_set_other, get_set_same}
 
 empties_set : (xs : List (Option Kept)) (i : ℕ) (k : Kept) → slice_get xs i ≡ Some None → empties (slice_set xs i (Some k)) + 1 ≡ empties xs
 empties_set [] i k is = cc

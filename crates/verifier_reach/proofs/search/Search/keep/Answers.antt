@@ -1,6 +1,7 @@
 use Rattle.std.proofs.Common.{◌≡◌, [], ◌∷◌, ◌++◌, Some, None}
 use Rattle.std.proofs.lemmas.Option.{slice_get_within}
-use Rattle.verifier_reach.proofs.Keeping.{search_set, grows_set, get_set_same}
+use Rattle.verifier_reach.specs.Places.{get_set_same}
+use Rattle.verifier_reach.proofs.Keeping.{search_set, grows_set}
 use Rattle.verifier_reach.proofs.search.Search.keep.Goals as goal
 
 pub returns-in-Ok-clause-search : goal.returns-in-Ok-clause-search
