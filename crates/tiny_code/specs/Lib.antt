@@ -1,4 +1,5 @@
 pub mod Code
 pub mod Laid
+pub mod Standing
 pub mod Laws
 pub mod Image

@@ -13,23 +13,16 @@ use Rattle.tiny_tree.specs.Tree.{Function, Program}
 use Rattle.tiny_tree.specs.Named.{IsNamed, IsNamedFunction, names_count, parameters_seen, vars_of}
 use Rattle.tiny_code.specs.Code.{Places, begins, code_size, function_numbers, main_code, method_code, method_size, methods, numbers, places_of, statements_code}
 use Rattle.tiny_code.specs.Laid.{AreMethodsAt, CodeAt, IsLaidOut, IsMethodAt}
+use Rattle.tiny_code.specs.Standing.{begins_long, size_append}
 use Rattle.tiny_code.specs.Image.{IsCodeOf, Jump, jumps, method_bytes, method_jumps, methods_bytes, statements_jumps}
 use Rattle.tiny_compiler.proofs.Lists.{AreEntries, entry, Finds, all_found, from_main, get_after, prefix_short}
 use Rattle.tiny_compiler.proofs.Fitting.{Fit, Near, all_near, both, near_back, near_front, one, statements_fit}
 
 -- ---- sizes
 
-size_append : (a b : List Instr) → code_size (a ++ b) ≡ code_size a + code_size b
-size_append [] b = omega arith
-size_append (i ∷ a) b = omega (arith, size_append a b)
-
 code_long : (is : List Instr) → length (flat_map spelling is) ≡ code_size is
 code_long [] = refl
 code_long (i ∷ is) = omega (arith, code_long is, length-append (spelling i) (flat_map spelling is))
-
-begins_long : (p : Places) (begin : ℕ) (ms : List (ℕ × Function)) → length (begins p begin ms) ≡ length ms
-begins_long p begin [] = refl
-begins_long p begin (m ∷ ms) = ap suc (begins_long p (begin + method_size p m.1) ms)
 
 -- ---- positions
 

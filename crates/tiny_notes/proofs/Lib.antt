@@ -1,4 +1,3 @@
-mod Jumps
 mod Scenes
 mod Single
 mod Straight

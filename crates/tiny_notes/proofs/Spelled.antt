@@ -13,14 +13,11 @@ use Rattle.tiny_tree.specs.Tree.{Term, Number, Variable, Called, Get, Group, Exp
 use Rattle.tiny_tree.specs.Named.{Seen, seen_after}
 use Rattle.tiny_code.specs.Code.{code_size, choice, loop, number_code, term_code, expr_code, steps_code, arguments_code, test_code, statement_code, statements_code, else_code, leave_code}
 use Rattle.tiny_code.specs.Laid.{CodeAt}
+use Rattle.tiny_code.specs.Standing.{size_append}
 use Rattle.tiny_notes.proofs.Scenes.{Frame, note_of, next_depth, straight, Suits, its_own, items_append, Stands}
 use Rattle.tiny_notes.proofs.Statements.{with_last, choice_items, leave_items, loop_items, statement_items, statements_items, else_items}
 
--- ---- code and sizes
-
-pub size_append : (a b : List Instr) → code_size (a ++ b) ≡ code_size a + code_size b
-size_append [] b = omega arith
-size_append (i ∷ a) b = omega (arith, size_append a b)
+-- ---- the code of items
 
 abbrev pub code_of : List Item → List Instr
 code_of [] = []

@@ -13,7 +13,7 @@ use Rattle.tiny_tree.specs.Tree.{Called, Expr, Cond, Equal, Different, Less, Sta
 use Rattle.tiny_tree.specs.Named.{Seen, seen_with, seen_after, IsNamedExpr, IsNamedCond, IsNamedStatement, AreNamed, IsNamedElse}
 use Rattle.tiny_code.specs.Code.{code_size, term_code, expr_code, test_code, expr_numbers, cond_numbers, statement_numbers, statements_numbers, else_numbers}
 use Rattle.tiny_code.specs.Laid.{HasNumbers}
-use Rattle.tiny_notes.proofs.Jumps.{forward, backward}
+use Rattle.tiny_code.specs.Standing.{backward, forward}
 use Rattle.tiny_notes.proofs.Scenes.{Frame, Scene, Suits, note_of, takes, next_depth, depth_after, straight, set_wider, its_own, at_depth, items_append, Stands, stands_back, stands_front, stands_end, met_append}
 use Rattle.tiny_notes.proofs.Single.{IsPlain, IsBranch, icmpeq, iflt, halt_met, return_met, goto_met, branch_met, taken_met, store_met}
 use Rattle.tiny_notes.proofs.Straight.{all_append, straight_size, Runs, head_note, straight_met, joined, begun, none, plain_simple, term_runs, expr_runs}

@@ -18,27 +18,12 @@ use Rattle.tiny_tree.specs.Tree.{Function, Program}
 use Rattle.tiny_tree.specs.Named.{IsCallable, Seen, names_count, parameters_seen, IsNamed}
 use Rattle.tiny_code.specs.Code.{Places, code_size, statements_code, main_code, method_size, methods}
 use Rattle.tiny_code.specs.Laid.{CodeAt, IsMethodAt, AreMethodsAt, Holds}
+use Rattle.tiny_code.specs.Standing.{back_at, front_at, size_append}
 use Rattle.tiny_notes.proofs.Scenes.{Frame, Scene, CallFinds, note_of, set_of, params_by, its_own, items_append, Stands, met_append}
 use Rattle.tiny_notes.proofs.Single.{halt_met, return_met, simple_met}
 use Rattle.tiny_notes.proofs.Straight.{in_pool, plain_simple}
 use Rattle.tiny_notes.proofs.Statements.{statements_items, seen_afters, grows_all, Fine, statements_part, suits_wider}
-use Rattle.tiny_notes.proofs.Spelled.{size_append, Spells, statements_spell, Begins, row_begins, note_at_seam, stands_at}
-
--- ---- code that stands after code
-
-near : (text : List ℕ) (at : ℕ) (is : List Instr) → CodeAt text at is → at ≤ 65536
-near text at [] h = h
-near text at (i ∷ is) h = h.0
-
-front : (text : List ℕ) (at : ℕ) (a b : List Instr) → CodeAt text at (a ++ b) → CodeAt text at a
-front text at [] b h = near text at b h
-front text at (i ∷ a) b h = (h.0, h.1, front text (at + size_of (row_of i)) a b h.2)
-
-back : (text : List ℕ) (at : ℕ) (a b : List Instr) → CodeAt text at (a ++ b) → CodeAt text (at + code_size a) b
-back text at [] b h = let e : at ≡ at + 0 = omega arith in subst (λ (x : ℕ). CodeAt text x b) e h
-back text at (i ∷ a) b h =
-    let e : at + size_of (row_of i) + code_size a ≡ at + code_size (i ∷ a) = omega arith in
-    subst (λ (x : ℕ). CodeAt text x b) e (back text (at + size_of (row_of i)) a b h.2)
+use Rattle.tiny_notes.proofs.Spelled.{Spells, statements_spell, Begins, row_begins, note_at_seam, stands_at}
 
 -- the header of what stands after others
 header_at_seam : (pre post : List Item) (start : ℕ) → HasHeader start (pre ++ (Header ∷ post)) (start + items_size pre)
@@ -270,10 +255,10 @@ module _ (image : ImageView) (p : Places) (program : Program) where
           stands : Stands image whole b body here
           stands = stands_at image whole pre body (Code Ireturn (method_note l.begin g 1) ∷ l.post) (Bipush (pos 0)) here b (code_split f g l)
               (code_begins f g l)
-              (subst (CodeAt image.text b) (sym spells.code_is) (front image.text b code ends l.stands.code)) spells.clean
+              (subst (CodeAt image.text b) (sym spells.code_is) (front_at image.text b code ends l.stands.code)) spells.clean
 
           after : CodeAt image.text (b + code_size code) ends
-          after = back image.text b code ends l.stands.code
+          after = back_at image.text b code ends l.stands.code
 
           fine : Fine u seen b body
           fine = statements_part u g.body seen (holds.numbers f g is) (named.functions f g is).body b here stands
@@ -434,10 +419,10 @@ module _ (image : ImageView) (p : Places) (program : Program) where
 
       stands : Stands image whole 0 body here
       stands = stands_at image whole [] body others_items HaltCode here 0 split refl
-          (subst (CodeAt image.text 0) (sym spells.code_is) (front image.text 0 code (HaltCode ∷ []) code_at)) spells.clean
+          (subst (CodeAt image.text 0) (sym spells.code_is) (front_at image.text 0 code (HaltCode ∷ []) code_at)) spells.clean
 
       after : CodeAt image.text (0 + code_size code) (HaltCode ∷ [])
-      after = back image.text 0 code (HaltCode ∷ []) code_at
+      after = back_at image.text 0 code (HaltCode ∷ []) code_at
 
       halt_is : instr_at image.text (0 + items_size body) ≡ Some HaltCode
       halt_is = ap (λ (x : ℕ). instr_at image.text (0 + x)) spells.size ∙ after.1

@@ -9,7 +9,8 @@ use Rattle.std.proofs.lemmas.Bool.Decides.{eqb_tells}
 use Rattle.std.proofs.lemmas.Option.{slice_get_within}
 use mathlib.Core.Path.{fun_ext}
 use Rattle.tiny_tree.specs.Tree.{Function, Program}
-use Rattle.tiny_code.specs.Code.{Places, begins, code_size, function_numbers, main_code, method_size, methods, numbers, places_of}
+use Rattle.tiny_code.specs.Code.{Places, begins, code_size, function_numbers, main_code, methods, numbers, places_of}
+use Rattle.tiny_code.specs.Standing.{begins_long}
 use Rattle.tiny_code.specs.Image.{pool_of}
 use Rattle.tiny_pool.specs.declared.table.Table.{Table}
 use Rattle.tiny_pool.specs.Seen.{HasSeen, or_else, place_from}
@@ -18,10 +19,6 @@ use Rattle.tiny_pool.proofs.Once.{place_or_end}
 use Rattle.std.proofs.lemmas.List.{length-append}
 
 -- ---- how long it is
-
-begins_length : (p : Places) (begin : ℕ) (ms : List (ℕ × Function)) → length (begins p begin ms) ≡ length ms
-begins_length p begin [] = refl
-begins_length p begin (m ∷ ms) = ap suc (begins_length p (begin + method_size p m.1) ms)
 
 abbrev others_from : ℕ → ℕ → List Function → List (ℕ × Function)
 others_from main n gs = filter (λ m. not (m.0 == main)) (enumerate_from n gs)
@@ -59,7 +56,7 @@ pool_words table program main is found =
     let first : ℕ = code_size (main_code p main) in
     let bs : List ℕ = begins p first (methods program) in
     let all = length-append bs (numbers program) in
-    let same = begins_length p first (methods program) in
+    let same = begins_long p first (methods program) in
     let inside = slice_get_within program.functions program.main main found in
     let few = others_count program.main 0 program.functions (omega arith) (omega (arith, inside)) in
     let words = is.words in

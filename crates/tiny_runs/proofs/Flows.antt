@@ -16,7 +16,8 @@ use Rattle.tiny_tree.specs.Meaning.{TinyWorld, Result, Gives, Halts, and_then, V
 use Rattle.tiny_code.specs.Code.{code_size, choice, loop, term_code, expr_code, test_code, test_jump, leave_code, statement_code, statements_code, else_code, term_numbers, expr_numbers, cond_numbers, statement_numbers, statements_numbers, else_numbers}
 use Rattle.tiny_code.specs.Laid.{HasNumbers}
 use Rattle.tiny_runs.proofs.Led.{output, Follows, goes, at_code, prefix_trans}
-use Rattle.tiny_runs.proofs.Stands.{Spans, front, back, here, next, none, near, forward, backward, size_append, all_front, all_back}
+use Rattle.tiny_code.specs.Standing.{all_back, all_front, backward, forward, size_append}
+use Rattle.tiny_runs.proofs.Stands.{Spans, front, back, here, next, none, near}
 use Rattle.tiny_runs.proofs.Does.{state, Agrees, Does, does_then, does_lower, does_after, does_give, does_stuck, does_halt, does_cut, does_turn, does_more}
 use Rattle.tiny_runs.proofs.Values.{Setting, Running, term_does, expr_does}
 

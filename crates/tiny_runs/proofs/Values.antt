@@ -17,7 +17,8 @@ use Rattle.tiny_tree.specs.Meaning.{TinyWorld, Result, Gives, Variables, CallRes
 use Rattle.tiny_code.specs.Code.{Places, code_size, operator_code, term_code, expr_code, steps_code, arguments_code, term_numbers, expr_numbers, steps_numbers, arguments_numbers}
 use Rattle.tiny_code.specs.Laid.{HasNumbers}
 use Rattle.tiny_runs.proofs.Led.{at_code}
-use Rattle.tiny_runs.proofs.Stands.{Spans, front, back, here, next, none, all_front, all_back}
+use Rattle.tiny_code.specs.Standing.{all_back, all_front}
+use Rattle.tiny_runs.proofs.Stands.{Spans, front, back, here, next, none}
 use Rattle.tiny_runs.proofs.Does.{state, Agrees, Does, does_then, does_lower, does_after, does_push, does_give, does_stuck}
 
 -- the arguments on the operands, the last one first
