@@ -6,12 +6,11 @@ use Rattle.std.specs.Option.{option_map}
 use Rattle.std.specs.Int.{w8, w16}
 use Rattle.std.specs.Prelude.{FitsSigned}
 use Rattle.std.proofs.lemmas.Option.{same_Some}
-use Rattle.std.proofs.lemmas.Bool.{eq-eqb, le-ltb, lt-ltb}
-use Rattle.std.proofs.lemmas.Bool.Decides.{eqb_tells}
+use Rattle.std.proofs.lemmas.Bool.{le-ltb, lt-ltb}
 use Rattle.std.proofs.lemmas.List.{get_or-append-add}
 use Rattle.mic_words.specs.Arithmetic.{wrap}
 use Rattle.ijvm_instr.specs.declared.instr.Instr.{Instr}
-use Rattle.ijvm_instr.specs.declared.instr.Instr.TheVariants.{Bipush, LdcW, Iload, Istore, Iadd, Isub, Iinc, Iflt, Goto, Ireturn, Invokevirtual, Halt}
+use Rattle.ijvm_instr.specs.declared.instr.Instr.TheVariants.{Bipush, LdcW, Iload, Istore, Iadd, Isub, Iinc, Iflt, Ireturn, Invokevirtual, Halt}
 use Rattle.ijvm_instr.specs.declared.row.Flow.{Flow}
 use Rattle.ijvm_instr.specs.declared.row.Flow.TheVariants as flows
 use Rattle.ijvm_instr.specs.Instructions.{row_of, size_of, instr_at, target, spelling, IsInstr}
@@ -20,7 +19,8 @@ use Rattle.ijvm_image.specs.Image.{ImageView, params, others}
 use Rattle.verifier_facts.specs.Paths.{HasConstant, GoesOn, need_of, ways_of}
 use Rattle.verifier_facts.specs.Facts.{Names}
 use Rattle.verifier_notes.specs.Noted.{Note, FindsMethod}
-use Rattle.verifier_notes.specs.Listed.{Item, Code, Header, item_size, items_size, own_note, note_from, note_at, HasHeader, IsMet, AllMet, IsListed}
+use Rattle.verifier_notes.specs.Listed.{Item, Code, Header, items_size, note_at, HasHeader, IsMet, AllMet, IsListed}
+use Rattle.verifier_notes.specs.Seams.{header_after, items_append, met_append, note_at_seam}
 use Rattle.ijvm_soak.specs.Generated.{block, block_at, blocks, main_code, method_code, main_text, method_text, generated}
 use Rattle.ijvm_soak.proofs.Lengths.{text_long, text_short}
 
@@ -97,51 +97,6 @@ blocks_depth seed (suc n) =
     depth_append 0 (blocks seed n) (block_at seed n) ∙ ap (λ (d : ℕ). depth_after d (block_at seed n)) (blocks_depth seed n)
     ∙ block_depth ((seed + n) % 5) (pos ((seed + 3 * n) % 100)) (omega arith)
 
--- ---- the notes that are found in it
-
-items_append : (a b : List Item) → items_size (a ++ b) ≡ items_size a + items_size b
-items_append [] b = omega arith
-items_append (x ∷ a) b = omega (arith, items_append a b)
-
-item_least : (x : Item) → 1 ≤ item_size x
-item_least (Code (Goto o) n) = omega arith
-item_least (Code i n) = omega arith
-item_least Header = omega arith
-
-note_after : (pre : List Item) (i : Instr) (n : Note) (post : List Item) (start at : ℕ) → at ≡ start + items_size pre
-    → note_from start (pre ++ (Code i n ∷ post)) at ≡ Some n
-note_after [] i n post start at e =
-    ap (λ (b : Bool). if b then Some n else note_from (start + size_of (row_of i)) post at) (eq-eqb at start (omega (arith, e)))
-note_after (x ∷ pre) i n post start at e =
-    ⊎_elim
-    (λ t. absurd (omega (arith, t.1, e, item_least x)))
-    (λ t. ap (λ (b : Bool). if b then own_note x else note_from (start + item_size x) (pre ++ (Code i n ∷ post)) at) t.0
-    ∙ note_after pre i n post (start + item_size x) at (omega (arith, e)))
-    (eqb_tells at start)
-
-note_seam : (whole pre : List Item) (i : Instr) (n : Note) (post : List Item) (at : ℕ) → whole ≡ pre ++ (Code i n ∷ post) → at ≡ items_size pre
-    → note_at whole at ≡ Some n
-note_seam whole pre i n post at is e = ap (λ x. note_at x at) is ∙ note_after pre i n post 0 at (omega (arith, e))
-
-header_after : (pre post : List Item) (start : ℕ) → HasHeader start (pre ++ (Header ∷ post)) (start + items_size pre)
-header_after [] post start = inl (omega arith)
-header_after (Code i n ∷ pre) post start =
-    let e : start + size_of (row_of i) + items_size pre ≡ start + (size_of (row_of i) + items_size pre) = omega arith in
-    subst (λ (x : ℕ). HasHeader (start + size_of (row_of i)) (pre ++ (Header ∷ post)) x) e (header_after pre post (start + size_of (row_of i)))
-header_after (Header ∷ pre) post start =
-    let e : start + 4 + items_size pre ≡ start + (4 + items_size pre) = omega arith in
-    inr (subst (λ (x : ℕ). HasHeader (start + 4) (pre ++ (Header ∷ post)) x) e (header_after pre post (start + 4)))
-
-met_append : (image : ImageView) (whole a b : List Item) (at : ℕ) → AllMet image whole at a → AllMet image whole (at + items_size a) b
-    → AllMet image whole at (a ++ b)
-met_append image whole [] b at h k = let e : at + 0 ≡ at = omega arith in subst (λ (x : ℕ). AllMet image whole x b) e k
-met_append image whole (Code i n ∷ a) b at h k =
-    let e : at + (size_of (row_of i) + items_size a) ≡ at + size_of (row_of i) + items_size a = omega arith in
-    (h.0, met_append image whole a b (at + size_of (row_of i)) h.1 (subst (λ (x : ℕ). AllMet image whole x b) e k))
-met_append image whole (Header ∷ a) b at h k =
-    let e : at + (4 + items_size a) ≡ at + 4 + items_size a = omega arith in
-    met_append image whole a b (at + 4) h (subst (λ (x : ℕ). AllMet image whole x b) e k)
-
 -- ---- instructions that meet their notes, in a unit with these locals set
 
 module _ (image : ImageView) (whole : List Item) (unit : Option ℕ) (set : ℕ → Bool) where
@@ -182,7 +137,7 @@ module _ (image : ImageView) (whole : List Item) (unit : Option ℕ) (set : ℕ 
       let next_at : length (front ++ spelling i) ≡ items_size (pre ++ Code i (note d) ∷ []) =
       omega (arith, long, at, items_append pre (Code i (note d) ∷ [])) in (
         ap (λ (x : List ℕ). instr_at x (length front)) here ∙ written front rest i real.0,
-        note_seam whole pre i (note d) later (length front) split at,
+        note_at_seam whole pre i (note d) later (length front) split at,
         subst (λ (x : ℕ). Stands x (next_depth i d) is) long
             (stands_at written is (next_depth i d) (pre ++ Code i (note d) ∷ []) post (front ++ spelling i) back real.1 next_split next_text next_at),
       )
@@ -460,7 +415,7 @@ module _ (seed n : ℕ) (short : n ≤ 9000)
   method_there : (i : Instr) (m : Note) (pre post : List Item) (at : ℕ) → method_items entry ≡ pre ++ (Code i m ∷ post)
       → at ≡ entry + items_size pre → note_at whole at ≡ Some m
   method_there i m pre post at is e =
-      note_seam whole (main_items ++ pre) i m post at (ap (λ x. main_items ++ x) is ∙ sym (append_assoc main_items pre (Code i m ∷ post)))
+      note_at_seam whole (main_items ++ pre) i m post at (ap (λ x. main_items ++ x) is ∙ sym (append_assoc main_items pre (Code i m ∷ post)))
       (omega (arith, e, main_size, items_append main_items pre))
 
   method : FindsMethod image (note_at whole) 1

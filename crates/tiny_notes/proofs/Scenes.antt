@@ -9,7 +9,7 @@ use Rattle.ijvm_instr.specs.Instructions.{row_of, size_of, instr_at}
 use Rattle.ijvm_image.specs.Image.{ImageView, params, others}
 use Rattle.verifier_facts.specs.Paths.{need_of}
 use Rattle.verifier_notes.specs.Noted.{Note, FindsMethod}
-use Rattle.verifier_notes.specs.Listed.{Item, Code, Header, items_size, note_at, HasHeader, AllMet}
+use Rattle.verifier_notes.specs.Listed.{Item, Code, Header, items_size, note_at, HasHeader}
 use Rattle.tiny_tree.specs.Tree.{Program}
 use Rattle.tiny_tree.specs.Named.{IsCallable, Seen, seen_with}
 use Rattle.tiny_code.specs.Code.{Places}
@@ -113,10 +113,6 @@ at_depth f seen d e m same s = record { unit = s.unit; depth = s.depth ∙ same;
 
 -- ---- lists of items
 
-pub items_append : (a b : List Item) → items_size (a ++ b) ≡ items_size a + items_size b
-items_append [] b = omega arith
-items_append (x ∷ a) b = omega (arith, items_append a b)
-
 module _ (image : ImageView) (whole : List Item) where
   -- the notes of the items stand there in the whole list, and after them this one
   abbrev pub Stands : ℕ → List Item → Note → Type 0
@@ -144,12 +140,3 @@ module _ (image : ImageView) (whole : List Item) where
       let e : at + (size_of (row_of i) + items_size a) ≡ at + size_of (row_of i) + items_size a = omega arith in
       ap (note_at whole) e ∙ stands_end a (at + size_of (row_of i)) last h.2
   stands_end (Header ∷ a) at last h = absurd h
-
-  pub met_append : (a b : List Item) (at : ℕ) → AllMet image whole at a → AllMet image whole (at + items_size a) b → AllMet image whole at (a ++ b)
-  met_append [] b at h k = let e : at + 0 ≡ at = omega arith in subst (λ (x : ℕ). AllMet image whole x b) e k
-  met_append (Code i n ∷ a) b at h k =
-      let e : at + (size_of (row_of i) + items_size a) ≡ at + size_of (row_of i) + items_size a = omega arith in
-      (h.0, met_append a b (at + size_of (row_of i)) h.1 (subst (λ (x : ℕ). AllMet image whole x b) e k))
-  met_append (Header ∷ a) b at h k =
-      let e : at + (4 + items_size a) ≡ at + 4 + items_size a = omega arith in
-      met_append a b (at + 4) h (subst (λ (x : ℕ). AllMet image whole x b) e k)

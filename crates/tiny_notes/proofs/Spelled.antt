@@ -1,20 +1,19 @@
 -- The items are the code, and begin with a note of depth 0; where a list's items stand.
-use Rattle.std.proofs.Common.{◌≡◌, ◌≤◌, ⊎_elim, ℕ, ℤ, pos, ◌+◌, Bool, if◌then◌else◌, List, [], ◌∷◌, ◌++◌, Some, refl, sym, ap, ◌∙◌, subst, arith, append_assoc}
+use Rattle.std.proofs.Common.{◌≡◌, ℕ, ℤ, pos, ◌+◌, List, [], ◌∷◌, ◌++◌, refl, sym, ap, ◌∙◌, subst, arith, append_assoc}
 use Rattle.std.specs.Prelude.{neg_ℤ}
-use Rattle.std.proofs.lemmas.Bool.{eq-eqb}
-use Rattle.std.proofs.lemmas.Bool.Decides.{eqb_tells}
 use Rattle.ijvm_instr.specs.declared.instr.Instr.{Instr}
 use Rattle.ijvm_instr.specs.declared.instr.Instr.TheVariants.{LdcW, Iload, Invokevirtual, In, Istore, Pop, Isub, Iflt, IfIcmpeq, Goto, Ireturn, Out, Halt as HaltCode}
 use Rattle.ijvm_instr.specs.Instructions.{row_of, size_of}
 use Rattle.ijvm_image.specs.Image.{ImageView}
 use Rattle.verifier_notes.specs.Noted.{Note}
-use Rattle.verifier_notes.specs.Listed.{Item, Code, Header, item_size, items_size, own_note, note_from, note_at}
+use Rattle.verifier_notes.specs.Listed.{Item, Code, Header, items_size}
+use Rattle.verifier_notes.specs.Seams.{items_append, note_at_seam}
 use Rattle.tiny_tree.specs.Tree.{Term, Number, Variable, Called, Get, Group, Expr, Sum, Cond, Equal, Different, Less, Statement, Var, Assign, Calls, If, While, Return, Put, Halt, Else, no_else, else_block, Statements, no_statements, statement}
 use Rattle.tiny_tree.specs.Named.{Seen, seen_after}
 use Rattle.tiny_code.specs.Code.{code_size, choice, loop, number_code, term_code, expr_code, steps_code, arguments_code, test_code, statement_code, statements_code, else_code, leave_code}
 use Rattle.tiny_code.specs.Laid.{CodeAt}
 use Rattle.tiny_code.specs.Standing.{size_append}
-use Rattle.tiny_notes.proofs.Scenes.{Frame, note_of, next_depth, straight, Suits, its_own, items_append, Stands}
+use Rattle.tiny_notes.proofs.Scenes.{Frame, note_of, next_depth, straight, Suits, its_own, Stands}
 use Rattle.tiny_notes.proofs.Statements.{with_last, choice_items, leave_items, loop_items, statement_items, statements_items, else_items}
 
 -- ---- the code of items
@@ -199,29 +198,6 @@ module _ (f : Frame) where
 -- ---- items in a list
 
 -- an instruction has at least one byte
-size_least : (i : Instr) → 1 ≤ size_of (row_of i)
-size_least (Goto o) = omega arith
-size_least i = omega arith
-
-item_least : (x : Item) → 1 ≤ item_size x
-item_least (Code i n) = size_least i
-item_least Header = omega arith
-
--- the note of an item after others
-note_after : (pre : List Item) (i : Instr) (n : Note) (post : List Item) (start at : ℕ) → at ≡ start + items_size pre
-    → note_from start (pre ++ (Code i n ∷ post)) at ≡ Some n
-note_after [] i n post start at e = ap (λ (b : Bool). if b then Some n else note_from (start + size_of (row_of i)) post at) (eq-eqb at start (omega (arith, e)))
-note_after (x ∷ pre) i n post start at e =
-    ⊎_elim
-    (λ t. absurd (omega (arith, t.1, e, item_least x)))
-    (λ t. ap (λ (b : Bool). if b then own_note x else note_from (start + item_size x) (pre ++ (Code i n ∷ post)) at) t.0
-    ∙ note_after pre i n post (start + item_size x) at (omega (arith, e)))
-    (eqb_tells at start)
-
-pub note_at_seam : (whole pre : List Item) (i : Instr) (n : Note) (post : List Item) (at : ℕ) → whole ≡ pre ++ (Code i n ∷ post) → at ≡ items_size pre
-    → note_at whole at ≡ Some n
-note_at_seam whole pre i n post at is e = ap (λ x. note_at x at) is ∙ note_after pre i n post 0 at (omega (arith, e))
-
 -- items stand with their notes where their code stands
 pub stands_at : (image : ImageView) (whole pre xs post : List Item) (i : Instr) (m : Note) (at : ℕ) → whole ≡ pre ++ (xs ++ (Code i m ∷ post))
     → at ≡ items_size pre

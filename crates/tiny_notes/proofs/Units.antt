@@ -8,32 +8,23 @@ use Rattle.std.proofs.lemmas.Bool.{eq-eqb, lt-ltb, ltb-false, ltb-true}
 use Rattle.std.proofs.lemmas.List.Elements.{All-nil, All-cons, All-head, All-tail, All-weaker, All-contains, All-contains_itself}
 use Rattle.ijvm_instr.specs.declared.instr.Instr.{Instr}
 use Rattle.ijvm_instr.specs.declared.instr.Instr.TheVariants.{Bipush, Ireturn, Halt as HaltCode}
-use Rattle.ijvm_instr.specs.Instructions.{row_of, size_of, instr_at}
+use Rattle.ijvm_instr.specs.Instructions.{instr_at}
 use Rattle.ijvm_image.specs.declared.method.Method.{Method}
 use Rattle.ijvm_image.specs.Image.{ImageView, params, others, method_at}
 use Rattle.verifier_facts.specs.Paths.{IsOwn}
 use Rattle.verifier_notes.specs.Noted.{Note}
 use Rattle.verifier_notes.specs.Listed.{Item, Code, Header, items_size, note_at, HasHeader, IsMet, AllMet, IsListed}
+use Rattle.verifier_notes.specs.Seams.{header_after, items_append, met_append, note_at_seam}
 use Rattle.tiny_tree.specs.Tree.{Function, Program}
 use Rattle.tiny_tree.specs.Named.{IsCallable, Seen, names_count, parameters_seen, IsNamed}
 use Rattle.tiny_code.specs.Code.{Places, code_size, statements_code, main_code, method_size, methods}
 use Rattle.tiny_code.specs.Laid.{CodeAt, IsMethodAt, AreMethodsAt, Holds}
 use Rattle.tiny_code.specs.Standing.{back_at, front_at, size_append}
-use Rattle.tiny_notes.proofs.Scenes.{Frame, Scene, CallFinds, note_of, set_of, params_by, its_own, items_append, Stands, met_append}
+use Rattle.tiny_notes.proofs.Scenes.{Frame, Scene, CallFinds, note_of, set_of, params_by, its_own, Stands}
 use Rattle.tiny_notes.proofs.Single.{halt_met, return_met, simple_met}
 use Rattle.tiny_notes.proofs.Straight.{in_pool, plain_simple}
 use Rattle.tiny_notes.proofs.Statements.{statements_items, seen_afters, grows_all, Fine, statements_part, suits_wider}
-use Rattle.tiny_notes.proofs.Spelled.{Spells, statements_spell, Begins, row_begins, note_at_seam, stands_at}
-
--- the header of what stands after others
-header_at_seam : (pre post : List Item) (start : ℕ) → HasHeader start (pre ++ (Header ∷ post)) (start + items_size pre)
-header_at_seam [] post start = inl (omega arith)
-header_at_seam (Code i n ∷ pre) post start =
-    let e : start + size_of (row_of i) + items_size pre ≡ start + (size_of (row_of i) + items_size pre) = omega arith in
-    subst (λ (x : ℕ). HasHeader (start + size_of (row_of i)) (pre ++ (Header ∷ post)) x) e (header_at_seam pre post (start + size_of (row_of i)))
-header_at_seam (Header ∷ pre) post start =
-    let e : start + 4 + items_size pre ≡ start + (4 + items_size pre) = omega arith in
-    inr (subst (λ (x : ℕ). HasHeader (start + 4) (pre ++ (Header ∷ post)) x) e (header_at_seam pre post (start + 4)))
+use Rattle.tiny_notes.proofs.Spelled.{Spells, statements_spell, Begins, row_begins, stands_at}
 
 -- one of these functions, by its position
 abbrev Has : List (ℕ × Function) → ℕ → Function → Type 0
@@ -217,7 +208,7 @@ module _ (image : ImageView) (p : Places) (program : Program) where
           headed e u =
               let h : HasHeader 0 whole (0 + items_size l.pre) =
               subst (λ (x : List Item). HasHeader 0 x (0 + items_size l.pre)) (sym l.split)
-              (header_at_seam l.pre ((body_items l.begin g ++ end_items l.begin g) ++ l.post) 0) in
+              (header_after l.pre ((body_items l.begin g ++ end_items l.begin g) ++ l.post) 0) in
               let z : 0 + items_size l.pre ≡ e = omega (arith, l.at, same_Some l.begin e u) in
               (omega arith, subst (λ (x : ℕ). HasHeader 0 whole x) z h)
 
