@@ -1,24 +1,19 @@
 -- Bytes that are appended, part by part.
-use Rattle.std.proofs.Common.{◌≡◌, ◌<◌, ◌≤◌, ℕ, zero, suc, ◌+◌, List, [], ◌∷◌, ◌++◌, length, map, drop, drop-cons, get_or, add-one, Result, Ok, Err, refl, sym, ap, ◌∙◌, append_assoc, arith}
-use Rattle.std.specs.Prelude.{OnOk}
-use Rattle.std.proofs.lemmas.List.{append-nil}
+use Rattle.std.proofs.Common.{◌≡◌, ◌<◌, ◌≤◌, ℕ, ◌+◌, List, [], ◌∷◌, ◌++◌, length, map, drop, get_or, refl, sym, ap, ◌∙◌, append_assoc}
+use Rattle.std.proofs.lemmas.List.{append-nil, drop_all}
 use Rattle.std.proofs.lemmas.Grind.{flat_map-append}
 use Rattle.ijvm_instr.specs.declared.instr.Instr.{Instr}
 use Rattle.ijvm_instr.specs.declared.instr.Instr.TheVariants.{LdcW, Invokevirtual}
 use Rattle.ijvm_instr.specs.Instructions.{spelling}
 use Rattle.tiny_tree.specs.declared.tree.Operator.{Operator}
-use Rattle.tiny_tree.specs.declared.tree.Term.TheFolds.{fold_out-Expr, fold_out-Step}
 use Rattle.tiny_tree.specs.declared.tree.Expr.{Expr, out-Expr}
 use Rattle.tiny_tree.specs.declared.tree.Step.{Step, out-Step}
 use Rattle.tiny_tree.specs.Tree as tree
 use Rattle.tiny_tree.specs.Tree.{arguments_of, steps_of}
-use Rattle.tiny_tree.specs.View.{expr_level, expr_tree, step_level, step_tree, term_level, term_tree}
+use Rattle.tiny_tree.specs.View.{expr_tree, step_tree, term_tree}
+use Rattle.tiny_tree.specs.Outs.{drop_item, expr_tree_out, step_tree_out}
 use Rattle.tiny_emit.specs.Bytes.{code_bytes}
 use Rattle.tiny_code.specs.Code.{Places, arguments_code, expr_code, operator_code, steps_code, term_code}
-
-pub on_ok : {T E : Type 0} (r : Result T E) (P Q : Type 0) → (P → Q) → OnOk r P → OnOk r Q
-on_ok (Ok x) P Q f h = f h
-on_ok (Err x) P Q f h = h
 
 pub one : (i : Instr) → spelling i ≡ code_bytes (i ∷ [])
 unfolding code_bytes
@@ -37,23 +32,6 @@ pub then_bytes : (old mid new : List ℕ) (a b : List Instr) → mid ≡ old ++ 
 then_bytes old mid new a b h k =
     k ∙ ap (λ (x : List ℕ). x ++ code_bytes b) h ∙ append_assoc old (code_bytes a) (code_bytes b)
     ∙ ap (λ (x : List ℕ). old ++ x) (sym (joined a b))
-
--- ---- the trees of parts
-
-pub expr_tree_out : (e : Expr) → expr_tree e ≡ tree.Sum (term_tree (out-Expr e).first) (steps_of (map step_tree (out-Expr e).rest))
-expr_tree_out e = fold_out-Expr tree.Term tree.Expr (Operator × tree.Term) term_level expr_level step_level e
-
-step_tree_out : (s : Step) → step_tree s ≡ ((out-Step s).operator, term_tree (out-Step s).term)
-step_tree_out s = fold_out-Step tree.Term tree.Expr (Operator × tree.Term) term_level expr_level step_level s
-
-pub drop_item : {A : Type 0} (xs : List A) (i : ℕ) (x : A) → i < length xs → x ≡ get_or xs i x → drop i xs ≡ x ∷ drop (i + 1) xs
-drop_item xs i x lt is = rw add-one (drop-cons xs i x lt ∙ ap (λ y. y ∷ drop (suc i) xs) (sym is))
-
-pub drop_none : {A : Type 0} (xs : List A) (i : ℕ) → length xs ≤ i → drop i xs ≡ []
-drop_none [] zero h = refl
-drop_none [] (suc i) h = refl
-drop_none (x ∷ xs) zero h = absurd (omega (arith, h))
-drop_none (x ∷ xs) (suc i) h = drop_none xs i (omega (arith, h))
 
 module _ (p : Places) (local : ℕ) where
   pub expr_bytes : (old mid new : List ℕ) (e : Expr) (items : List Step) → items ≡ (out-Expr e).rest →
@@ -103,12 +81,12 @@ module _ (p : Places) (local : ℕ) where
   pub steps_done : (whole new : List ℕ) (ss : List Step) (i : ℕ) → length ss ≤ i →
       whole ≡ new ++ code_bytes (steps_code p local (steps_of (map step_tree (drop i ss)))) → new ≡ whole
   steps_done whole new ss i h all =
-      sym (all ∙ ap (λ (l : List Step). new ++ code_bytes (steps_code p local (steps_of (map step_tree l)))) (drop_none ss i h)
+      sym (all ∙ ap (λ (l : List Step). new ++ code_bytes (steps_code p local (steps_of (map step_tree l)))) (drop_all i ss h)
       ∙ ap (λ (x : List ℕ). new ++ x) none ∙ append-nil new)
 
   -- no further argument
   pub arguments_done : (whole new : List ℕ) (es : List Expr) (i : ℕ) → length es ≤ i →
       whole ≡ new ++ code_bytes (arguments_code p local (arguments_of (map expr_tree (drop i es)))) → new ≡ whole
   arguments_done whole new es i h all =
-      sym (all ∙ ap (λ (l : List Expr). new ++ code_bytes (arguments_code p local (arguments_of (map expr_tree l)))) (drop_none es i h)
+      sym (all ∙ ap (λ (l : List Expr). new ++ code_bytes (arguments_code p local (arguments_of (map expr_tree l)))) (drop_all i es h)
       ∙ ap (λ (x : List ℕ). new ++ x) none ∙ append-nil new)

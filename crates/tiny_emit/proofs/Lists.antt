@@ -1,5 +1,6 @@
 -- The code of blocks, statement by statement.
 use Rattle.std.proofs.Common.{◌≡◌, ◌<◌, ◌≤◌, ℕ, ◌+◌, List, length, map, drop, get_or, sym, subst}
+use Rattle.std.proofs.lemmas.List.{drop_all}
 use Rattle.tiny_tree.specs.declared.tree.Statement.{Statement}
 use Rattle.tiny_tree.specs.Tree.{statements_of}
 use Rattle.tiny_tree.specs.View.{statement_tree}
@@ -8,7 +9,7 @@ use Rattle.tiny_code.specs.Image.{Jump, statement_jumps, statements_jumps}
 use Rattle.tiny_emit.specs.declared.part.Part.{Part}
 use Rattle.tiny_emit.specs.Adds.{Adds}
 use Rattle.tiny_emit.specs.Bytes.{code_bytes}
-use Rattle.tiny_emit.proofs.Bytes.{drop_item, drop_none}
+use Rattle.tiny_tree.specs.Outs.{drop_item}
 use Rattle.tiny_emit.proofs.Adding.{no_code}
 use Rattle.tiny_emit.proofs.Sides.{then_code}
 
@@ -32,4 +33,4 @@ module _ (p : Places) (local : ℕ) where
 
   -- no further statement
   pub statements_done : (a : Part) (ss : List Statement) (i : ℕ) → length ss ≤ i → Adds a a (Code (drop i ss)) (Jumps (drop i ss))
-  statements_done a ss i h = subst (λ (l : List Statement). Adds a a (Code l) (Jumps l)) (sym (drop_none ss i h)) (no_code a)
+  statements_done a ss i h = subst (λ (l : List Statement). Adds a a (Code l) (Jumps l)) (sym (drop_all i ss h)) (no_code a)

@@ -3,7 +3,7 @@ use Rattle.std.proofs.Common.{◌≡◌, ◌≢◌, ◌<◌, ◌≤◌, ⊎_elim
 use Rattle.std.specs.Prelude.{not, ◌==◌, cond, slice_get}
 use Rattle.std.specs.List.{filter, flat_map, enumerate_from}
 use Rattle.std.specs.Option.{option_map}
-use Rattle.std.proofs.lemmas.List.{append-nil}
+use Rattle.std.proofs.lemmas.List.{append-nil, drop_all}
 use Rattle.std.proofs.lemmas.Option.{same_Some, slice_get-map, slice_get_read}
 use Rattle.std.proofs.lemmas.Bool.Decides.{eqb_tells}
 use Rattle.ijvm_instr.specs.declared.instr.Instr.{Instr}
@@ -21,7 +21,7 @@ use Rattle.tiny_emit.specs.declared.program.Methods.{Methods}
 use Rattle.tiny_emit.specs.Adds.{Adds, IsPart, far_of}
 use Rattle.tiny_emit.specs.Bytes.{code_bytes}
 use Rattle.tiny_emit.specs.Emitted.{AddsMethods, IsEmitted, program_of}
-use Rattle.tiny_emit.proofs.Bytes.{drop_item, drop_none}
+use Rattle.tiny_tree.specs.Outs.{drop_item}
 use Rattle.tiny_emit.proofs.Adding.{bytes_size, is_part, nothing, then}
 use Rattle.tiny_emit.proofs.Sides.{then_code}
 
@@ -104,7 +104,7 @@ taken main i gs g lt is other =
     (⊎_elim (λ e. absurd (other e.1)) (λ e. e.0) (eqb_tells i main))
 
 pub no_others : (main i : ℕ) (gs : List declared.Function) → length gs ≤ i → Others main i (drop i gs) ≡ []
-no_others main i gs h = ap (Others main i) (drop_none gs i h)
+no_others main i gs h = ap (Others main i) (drop_all i gs h)
 
 -- ---- the whole
 

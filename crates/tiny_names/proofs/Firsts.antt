@@ -1,11 +1,12 @@
 -- Lists of faults, one after the other.
-use Rattle.std.proofs.Common.{◌≡◌, ℕ, suc, ◌+◌, ◌<◌, [], ◌∷◌, ◌++◌, List, length, get_or, drop, drop-cons, add-one, map, refl, ap, sym, ◌∙◌, arith}
+use Rattle.std.proofs.Common.{◌≡◌, ℕ, ◌+◌, ◌<◌, [], ◌∷◌, ◌++◌, List, length, get_or, drop, map, refl, ap, ◌∙◌, arith}
 use Rattle.std.specs.Prelude.{Option, Some, None}
 use Rattle.tiny_draft.specs.declared.tree.Expr.{Expr}
 use Rattle.tiny_draft.specs.declared.tree.Step.{Step, out-Step}
 use Rattle.tiny_draft.specs.Tree.{arguments_of, steps_of}
 use Rattle.tiny_draft.specs.declared.tree.Expr.TheFolds.{fold_out-Step}
 use Rattle.tiny_tree.specs.declared.tree.Operator.{Operator}
+use Rattle.tiny_tree.specs.Outs.{drop_item}
 use Rattle.tiny_draft.specs.Tree as tree
 use Rattle.tiny_draft.specs.View.{call_level, expr_level, expr_tree, step_level, step_tree, sum_level, term_level, term_tree}
 use Rattle.tiny_names.specs.declared.fault.Fault.{Fault}
@@ -23,9 +24,6 @@ first_none (x ∷ a) b h = absurd (cc)
 pub count_arguments : (es : List Expr) → count (arguments_of (map expr_tree es)) ≡ length es
 count_arguments [] = refl
 count_arguments (e ∷ es) = let r = count_arguments es in omega (arith, r)
-
-pub drop_item : {A : Type 0} (xs : List A) (i : ℕ) (x : A) → i < length xs → x ≡ get_or xs i x → drop i xs ≡ x ∷ drop (i + 1) xs
-drop_item xs i x lt is = rw add-one (drop-cons xs i x lt ∙ ap (λ y. y ∷ drop (suc i) xs) (sym is))
 
 step_tree_out : (s : Step) → step_tree s ≡ ((out-Step s).operator, term_tree (out-Step s).term)
 step_tree_out s = fold_out-Step tree.Expr tree.Term tree.Term (Operator × tree.Term) tree.Expr expr_level term_level call_level step_level sum_level s

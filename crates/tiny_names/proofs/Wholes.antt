@@ -1,12 +1,13 @@
 -- The faults of a whole program.
-use Rattle.std.proofs.Common.{◌≡◌, ℕ, zero, suc, ◌+◌, ◌<◌, ◌≤◌, [], ◌∷◌, ◌++◌, List, length, get_or, drop, take, map, refl, ap, sym, ◌∙◌, arith}
+use Rattle.std.proofs.Common.{◌≡◌, ℕ, ◌+◌, ◌<◌, ◌≤◌, [], ◌∷◌, ◌++◌, List, length, get_or, drop, take, map, refl, ap, sym, ◌∙◌}
 use Rattle.std.specs.Prelude.{Option, Some, None}
-use Rattle.std.proofs.lemmas.List.{take_all}
+use Rattle.std.proofs.lemmas.List.{drop_all, take_all}
 use mathlib.Core.Path.{fun_ext}
 use Rattle.tiny_draft.specs.declared.tree.Function.{Function}
 use Rattle.tiny_draft.specs.Tree as draft
 use Rattle.tiny_draft.specs.View.{function_tree}
 use Rattle.tiny_tree.specs.Tree as tree
+use Rattle.tiny_tree.specs.Outs.{drop_item}
 use Rattle.tiny_names.specs.declared.fault.Fault.{Fault}
 use Rattle.tiny_names.specs.declared.fault.Fault.TheVariants as faults
 use Rattle.tiny_names.specs.declared.fault.Unresolved.{Unresolved}
@@ -16,7 +17,7 @@ use Rattle.tiny_names.specs.Faults.{all_faults, faults_from, first, function_fau
 use Rattle.tiny_names.specs.Names.{called, lookup}
 use Rattle.tiny_names.specs.Resolved.{function_of, function_place, resolved}
 use Rattle.tiny_names.specs.Unresolved.{IsFirst}
-use Rattle.tiny_names.proofs.Firsts.{drop_item, first_none}
+use Rattle.tiny_names.proofs.Firsts.{first_none}
 
 first_whole : (a b : List Fault) (f : Fault) → first a ≡ Some f → first (a ++ b) ≡ Some f
 first_whole [] b f h = absurd (cc)
@@ -29,12 +30,6 @@ first_empty (x ∷ a) h = absurd (cc)
 part : (e : Unresolved) (a b : List Fault) → ((f : Fault) → first a ≡ Some f → first b ≡ Some f) → IsFirst e a → IsFirst e b
 part (unresolved.Fault f) a b h i = h f i
 part unresolved.OutOfMemory a b h i = tt
-
-drop_all : {A : Type 0} (xs : List A) (i : ℕ) → length xs ≤ i → drop i xs ≡ []
-drop_all [] zero h = refl
-drop_all [] (suc i) h = refl
-drop_all (x ∷ xs) zero h = absurd (omega arith)
-drop_all (x ∷ xs) (suc i) h = drop_all xs i (omega arith)
 
 module _ (table : List (Option Signature)) (fs : List Function) (known : (name : ℕ) → lookup table name ≡ called (map function_tree fs) name) where
   same_known : lookup table ≡ called (map function_tree fs)
@@ -57,7 +52,7 @@ module _ (table : List (Option Signature)) (fs : List Function) (known : (name :
   module _ (i : ℕ) (end : length fs ≤ i)
       (same : first (faults_from (lookup table) 0 written) ≡ first (faults_from (lookup table) i (map function_tree (drop i fs)))) where
     none : first (faults_from (lookup table) 0 written) ≡ None
-    none = same ∙ ap (λ l. first (faults_from (lookup table) i (map function_tree l))) (drop_all fs i end)
+    none = same ∙ ap (λ l. first (faults_from (lookup table) i (map function_tree l))) (drop_all i fs end)
 
     pub no_main : lookup table 0 ≡ None → first (all_faults written) ≡ Some faults.NoMain
     no_main h = ap first all_is ∙ (first_none (faults_from (lookup table) 0 written) (main_faults (lookup table 0)) (sym none) ∙ ap (λ m. first (main_faults m)) h)

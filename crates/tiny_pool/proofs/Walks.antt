@@ -1,24 +1,19 @@
 -- Numbers that are added, part by part.
-use Rattle.std.proofs.Common.{◌≡◌, ◌<◌, ◌≤◌, ℕ, zero, suc, ◌+◌, List, [], ◌∷◌, ◌++◌, length, map, drop, drop-cons, get_or, add-one, Result, Ok, Err, refl, sym, ap, ◌∙◌, append_assoc, subst, arith}
-use Rattle.std.specs.Prelude.{OnOk}
+use Rattle.std.proofs.Common.{◌≡◌, ◌<◌, ℕ, ◌+◌, List, [], ◌++◌, length, map, drop, get_or, sym, ap, ◌∙◌, append_assoc, subst}
 use Rattle.std.specs.List.{flat_map}
 use Rattle.std.proofs.lemmas.List.{append-nil}
 use Rattle.tiny_tree.specs.declared.tree.Operator.{Operator}
-use Rattle.tiny_tree.specs.declared.tree.Term.TheFolds.{fold_out-Expr, fold_out-Step}
 use Rattle.tiny_tree.specs.declared.tree.Expr.{Expr, out-Expr}
 use Rattle.tiny_tree.specs.declared.tree.Step.{Step, out-Step}
 use Rattle.tiny_tree.specs.declared.tree.Statement.{Statement}
 use Rattle.tiny_tree.specs.declared.tree.Function.{Function}
 use Rattle.tiny_tree.specs.Tree as tree
 use Rattle.tiny_tree.specs.Tree.{arguments_of, statements_of, steps_of}
-use Rattle.tiny_tree.specs.View.{block_tree, expr_level, expr_tree, function_tree, statement_tree, step_level, step_tree, term_level, term_tree}
+use Rattle.tiny_tree.specs.View.{block_tree, expr_tree, function_tree, statement_tree, step_tree, term_tree}
+use Rattle.tiny_tree.specs.Outs.{drop_item, expr_tree_out, step_tree_out}
 use Rattle.tiny_code.specs.Code.{arguments_numbers, expr_numbers, function_numbers, statement_numbers, statements_numbers, steps_numbers, term_numbers}
 use Rattle.tiny_pool.specs.declared.constants.Constants.{Constants}
 use Rattle.tiny_pool.specs.Seen.{Adds, HasSeen}
-
-pub on_ok : {T E : Type 0} (r : Result T E) (P Q : Type 0) → (P → Q) → OnOk r P → OnOk r Q
-on_ok (Ok x) P Q f h = f h
-on_ok (Err x) P Q f h = h
 
 pub adds_none : (c : Constants) → Adds c c []
 adds_none c = record { seen = λ first before h. subst (λ (l : List ℕ). HasSeen c first l) (sym (append-nil before)) h }
@@ -44,23 +39,6 @@ goes_on old now next rest one more whole e way added =
 
 pub ends : (old now : Constants) (rest whole : List ℕ) → rest ≡ [] → IsOnTheWay old now rest whole → Adds old now whole
 ends old now rest whole e way = way.then_whole now (subst (λ (l : List ℕ). Adds now now l) (sym e) (adds_none now))
-
--- ---- the trees of parts
-
-expr_tree_out : (e : Expr) → expr_tree e ≡ tree.Sum (term_tree (out-Expr e).first) (steps_of (map step_tree (out-Expr e).rest))
-expr_tree_out e = fold_out-Expr tree.Term tree.Expr (Operator × tree.Term) term_level expr_level step_level e
-
-step_tree_out : (s : Step) → step_tree s ≡ ((out-Step s).operator, term_tree (out-Step s).term)
-step_tree_out s = fold_out-Step tree.Term tree.Expr (Operator × tree.Term) term_level expr_level step_level s
-
-drop_item : {A : Type 0} (xs : List A) (i : ℕ) (x : A) → i < length xs → x ≡ get_or xs i x → drop i xs ≡ x ∷ drop (i + 1) xs
-drop_item xs i x lt is = rw add-one (drop-cons xs i x lt ∙ ap (λ y. y ∷ drop (suc i) xs) (sym is))
-
-pub drop_none : {A : Type 0} (xs : List A) (i : ℕ) → length xs ≤ i → drop i xs ≡ []
-drop_none [] zero h = refl
-drop_none [] (suc i) h = refl
-drop_none (x ∷ xs) zero h = absurd (omega (arith, h))
-drop_none (x ∷ xs) (suc i) h = drop_none xs i (omega (arith, h))
 
 pub expr_numbers_are : (e : Expr) (items : List Step) → items ≡ (out-Expr e).rest →
     term_numbers (term_tree (out-Expr e).first) ++ steps_numbers (steps_of (map step_tree items)) ≡ expr_numbers (expr_tree e)

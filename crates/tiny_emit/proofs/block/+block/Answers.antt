@@ -1,5 +1,6 @@
 use Rattle.std.proofs.Common.{◌≡◌, rules, subst, sym}
 use Rattle.std.specs.Prelude.{option_map}
+use Rattle.std.proofs.lemmas.Result.{on_ok_weaker}
 use Rattle.tiny_tree.specs.declared.tree.Statement.{the_lemmas}
 use Rattle.tiny_tree.specs.Tree as tree
 use Rattle.tiny_tree.specs.Tree.{else_of}
@@ -8,7 +9,6 @@ use Rattle.tiny_code.specs.Code.{statement_code}
 use Rattle.tiny_code.specs.Image.{statement_jumps}
 use Rattle.tiny_emit.specs.Appended.{AddsCode}
 use Rattle.tiny_pool.specs.Places.{places_in}
-use Rattle.tiny_emit.proofs.Bytes.{on_ok}
 use Rattle.tiny_emit.proofs.Lists.{statement_added, statements_done}
 use Rattle.tiny_emit.proofs.block.+block.Goals as goal
 
@@ -19,7 +19,7 @@ add_statement-returns-in_ok-second-in-If t c =
     let is : statement_tree c.args.statement.now
     ≡ tree.If c.in-If.line (cond_tree c.in-If.cond) (block_tree c.in-If.taken) (else_of (option_map block_tree c.in-If.otherwise)) =
     search (rules, the_lemmas) in
-    on_ok c.add_if.result _ _
+    on_ok_weaker c.add_if.result
     (λ h. subst (λ (s : tree.Statement). AddsCode c.args.part.now c.add_if.new.part (statement_code p local s) (statement_jumps p local s)) (sym is)
     (h _ _ _ _ c.in_ok-first-in-If.ensures c.in_ok-second-in-If.ensures))
     c.add_if.ensures
@@ -30,7 +30,7 @@ add_statement-returns-in_ok-body-in-While t c =
     let local = c.args.local in
     let is : statement_tree c.args.statement.now ≡ tree.While c.in-While.line (cond_tree c.in-While.cond) (block_tree c.in-While.body) =
     search (rules, the_lemmas) in
-    on_ok c.add_while.result _ _
+    on_ok_weaker c.add_while.result
     (λ h. subst (λ (s : tree.Statement). AddsCode c.args.part.now c.add_while.new.part (statement_code p local s) (statement_jumps p local s)) (sym is)
     (h _ _ c.in_ok-body-in-While.ensures))
     c.add_while.ensures

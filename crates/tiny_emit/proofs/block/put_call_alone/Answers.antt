@@ -1,12 +1,13 @@
 use Rattle.std.proofs.Common.{[], ◌∷◌}
+use Rattle.std.proofs.lemmas.Result.{on_ok_weaker}
 use Rattle.ijvm_instr.specs.declared.instr.Instr.TheVariants.{Pop}
 use Rattle.tiny_emit.specs.Appended.{code_of_call}
-use Rattle.tiny_emit.proofs.Bytes.{on_ok, then_bytes}
+use Rattle.tiny_emit.proofs.Bytes.{then_bytes}
 use Rattle.tiny_emit.proofs.block.put_call_alone.Goals as goal
 
 pub returns : goal.returns
 returns c =
-    on_ok c.put.result _ _
+    on_ok_weaker c.put.result
     (λ e. then_bytes _ c.put_call.new.bytes.items _
     (code_of_call c.args.table.now c.args.local c.args.function c.args.arguments.now) (Pop ∷ [])
     c.in_ok-put_call.ensures e) c.put.ensures

@@ -1,7 +1,7 @@
 use Rattle.std.proofs.Common.{◌-◌, arith}
+use Rattle.std.proofs.lemmas.Result.{on_ok_weaker}
 use Rattle.tiny_pool.specs.Places.{places_in}
 use Rattle.tiny_tree.specs.View.{cond_tree}
-use Rattle.tiny_emit.proofs.Bytes.{on_ok}
 use Rattle.tiny_emit.proofs.Sides.{gone_back, loop_added}
 use Rattle.tiny_emit.proofs.choice.add_while.Goals as goal
 
@@ -14,7 +14,7 @@ pub returns : goal.returns
 returns c =
     let left = c.in_ok-add_leave.ensures (places_in c.args.table.now) c.args.local in
     let added = c.in_ok-add_part.ensures.adds in
-    on_ok c.add_backward_jump.result _ _
+    on_ok_weaker c.add_backward_jump.result
     (λ last a i body. loop_added c.args.part.now _ _ _ _ (places_in c.args.table.now) c.args.local c.args.line c.in_ok-begin.begin c.in_ok-size.field-0
     (c.in_ok-end.end - c.in_ok-begin.begin) (cond_tree c.args.cond.now) a i c.args.body.now body c.in_ok-size.ensures.is
     (gone_back c.args.part.now _ _ _ c.args.part.now (places_in c.args.table.now) c.args.local c.args.line c.in_ok-begin.begin c.in_ok-size.field-0

@@ -1,21 +1,22 @@
 use Rattle.std.proofs.Common.{◌∷◌, ◌++◌, [], map, ap, ◌∙◌}
+use Rattle.std.proofs.lemmas.Result.{on_ok_weaker}
 use Rattle.tiny_tree.specs.Tree.{arguments_of}
 use Rattle.tiny_tree.specs.View.{expr_tree}
 use Rattle.tiny_emit.specs.Bytes.{code_bytes}
 use Rattle.tiny_pool.specs.Places.{places_in}
-use Rattle.tiny_emit.proofs.Bytes.{on_ok, call_bytes, expr_bytes, steps_done, step_bytes, arguments_done, argument_bytes}
+use Rattle.tiny_emit.proofs.Bytes.{call_bytes, expr_bytes, steps_done, step_bytes, arguments_done, argument_bytes}
 use Rattle.tiny_emit.proofs.expr.+expr.Goals as goal
 
 pub put_expr-returns : goal.put_expr-returns
 put_expr-returns t c =
-    on_ok c.put_steps.result _ _
+    on_ok_weaker c.put_steps.result
     (λ e. expr_bytes (places_in c.args.table.now) c.args.local c.args.bytes.now.items c.put_term.new.bytes.items c.put_steps.new.bytes.items
     c.args.expr.now c.items.result.now c.items.ensures c.in_ok-put_term.ensures e)
     c.put_steps.ensures
 
 pub put_call-returns : goal.put_call-returns
 put_call-returns t c =
-    on_ok c.put-2.result _ _
+    on_ok_weaker c.put-2.result
     (λ e. call_bytes (places_in c.args.table.now) c.args.local c.args.bytes.now.items c.put.new.bytes.items c.put_arguments.new.bytes.items
     c.put-2.new.bytes.items c.args.function (arguments_of (map expr_tree c.args.arguments.now)) c.in_ok-call.call c.in_ok-call.ensures
     c.in_ok-put.ensures c.in_ok-put_arguments.ensures e)

@@ -1,11 +1,11 @@
+use Rattle.std.proofs.lemmas.Result.{on_ok_weaker}
 use Rattle.tiny_pool.specs.Places.{places_in}
 use Rattle.tiny_tree.specs.View.{function_tree}
-use Rattle.tiny_emit.proofs.Bytes.{on_ok}
 use Rattle.tiny_emit.proofs.Texts.{main_added}
 use Rattle.tiny_emit.proofs.program.add_main.Goals as goal
 
 pub returns : goal.returns
 returns c =
-    on_ok c.add.result _ _
+    on_ok_weaker c.add.result
     (λ e. main_added (places_in c.args.table.now) c.args.part.now c.add_block.new.part c.add.new.self (function_tree c.args.function.now)
     c.in_ok-add_block.ensures e) c.add.ensures

@@ -1,11 +1,11 @@
+use Rattle.std.proofs.lemmas.Result.{on_ok_weaker}
 use Rattle.tiny_pool.specs.Places.{places_in}
 use Rattle.tiny_tree.specs.View.{function_tree}
-use Rattle.tiny_emit.proofs.Bytes.{on_ok}
 use Rattle.tiny_emit.proofs.Texts.{method_added}
 use Rattle.tiny_emit.proofs.program.add_method.Goals as goal
 
 pub returns : goal.returns
 returns c =
-    on_ok c.add-2.result _ _
+    on_ok_weaker c.add-2.result
     (λ e. method_added (places_in c.args.table.now) c.args.part.now c.add_header.new.part c.add_block.new.part c.add.new.self c.add-2.new.self
     (0, function_tree c.args.function.now) c.in_ok-add_header.ensures c.in_ok-add_block.ensures c.in_ok-add.ensures e) c.add-2.ensures

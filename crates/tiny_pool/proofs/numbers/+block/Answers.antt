@@ -1,12 +1,13 @@
 use Rattle.std.proofs.Common.{◌≡◌, rules, subst, sym}
 use Rattle.std.specs.Prelude.{option_map}
+use Rattle.std.proofs.lemmas.Result.{on_ok_weaker}
 use Rattle.tiny_tree.specs.declared.tree.Statement.{the_lemmas}
 use Rattle.tiny_tree.specs.Tree as tree
 use Rattle.tiny_tree.specs.Tree.{else_of}
 use Rattle.tiny_tree.specs.View.{block_tree, cond_tree, statement_tree}
 use Rattle.tiny_code.specs.Code.{statement_numbers}
 use Rattle.tiny_pool.specs.Seen.{Adds}
-use Rattle.tiny_pool.proofs.Walks.{adds_then, goes_on, on_ok, statement_at}
+use Rattle.tiny_pool.proofs.Walks.{adds_then, goes_on, statement_at}
 use Rattle.tiny_pool.proofs.numbers.+block.Goals as goal
 
 pub add_statement-returns-in_ok-add_block-in-If : goal.add_statement-returns-in_ok-add_block-in-If
@@ -14,7 +15,7 @@ add_statement-returns-in_ok-add_block-in-If t c =
     let is : statement_tree c.args.statement.now
     ≡ tree.If c.in-If.line (cond_tree c.in-If.cond) (block_tree c.in-If.taken) (else_of (option_map block_tree c.in-If.otherwise)) =
     search (rules, the_lemmas) in
-    on_ok c.add_otherwise.result _ _
+    on_ok_weaker c.add_otherwise.result
     (λ e. subst (λ (s : tree.Statement). Adds c.args.constants.now c.add_otherwise.new.constants (statement_numbers s)) (sym is)
     (adds_then _ _ _ _ _ c.in_ok-add_cond-in-If.ensures (adds_then _ _ _ _ _ c.in_ok-add_block-in-If.ensures e)))
     c.add_otherwise.ensures
@@ -23,7 +24,7 @@ pub add_statement-returns-in_ok-add_cond-in-While : goal.add_statement-returns-i
 add_statement-returns-in_ok-add_cond-in-While t c =
     let is : statement_tree c.args.statement.now ≡ tree.While c.in-While.line (cond_tree c.in-While.cond) (block_tree c.in-While.body) =
     search (rules, the_lemmas) in
-    on_ok c.add_block-in-While.result _ _
+    on_ok_weaker c.add_block-in-While.result
     (λ e. subst (λ (s : tree.Statement). Adds c.args.constants.now c.add_block-in-While.new.constants (statement_numbers s)) (sym is)
     (adds_then _ _ _ _ _ c.in_ok-add_cond-in-While.ensures e))
     c.add_block-in-While.ensures

@@ -1,16 +1,18 @@
 use Rattle.std.proofs.Common.{List, ℕ, ap, map, subst}
+use Rattle.std.proofs.lemmas.Result.{on_ok_weaker}
+use Rattle.std.proofs.lemmas.List.{drop_all}
 use Rattle.tiny_tree.specs.declared.tree.Expr.{Expr}
 use Rattle.tiny_tree.specs.declared.tree.Step.{Step}
 use Rattle.tiny_tree.specs.Tree.{arguments_of, steps_of}
 use Rattle.tiny_tree.specs.View.{expr_tree, step_tree}
 use Rattle.tiny_code.specs.Code.{arguments_numbers, steps_numbers}
 use Rattle.tiny_pool.specs.Seen.{Adds}
-use Rattle.tiny_pool.proofs.Walks.{adds_then, argument_at, drop_none, ends, expr_numbers_are, goes_on, on_ok, starts, step_at}
+use Rattle.tiny_pool.proofs.Walks.{adds_then, argument_at, ends, expr_numbers_are, goes_on, starts, step_at}
 use Rattle.tiny_pool.proofs.numbers.+expr.Goals as goal
 
 pub add_expr-returns : goal.add_expr-returns
 add_expr-returns t c =
-    on_ok c.add_steps.result _ _
+    on_ok_weaker c.add_steps.result
     (λ e. subst (λ (ns : List ℕ). Adds c.args.constants.now c.add_steps.new.constants ns)
     (expr_numbers_are c.args.expr.now c.items.result.now c.items.ensures) (adds_then _ _ _ _ _ c.in_ok-add_term.ensures e))
     c.add_steps.ensures
@@ -25,7 +27,7 @@ add_steps-loop-step-preserved t c =
 
 pub add_steps-returns : goal.add_steps-returns
 add_steps-returns t c =
-    ends _ _ _ _ (ap (λ (l : List Step). steps_numbers (steps_of (map step_tree l))) (drop_none c.args.steps.now c.loop-step.step-index c.loop-step-test.false))
+    ends _ _ _ _ (ap (λ (l : List Step). steps_numbers (steps_of (map step_tree l))) (drop_all c.loop-step.step-index c.args.steps.now c.loop-step-test.false))
     c.loop-step.invariant
 
 pub add_arguments-loop-argument-init : goal.add_arguments-loop-argument-init
@@ -41,5 +43,5 @@ pub add_arguments-returns : goal.add_arguments-returns
 add_arguments-returns t c =
     ends _ _ _ _
     (ap (λ (l : List Expr). arguments_numbers (arguments_of (map expr_tree l)))
-    (drop_none c.args.arguments.now c.loop-argument.argument-index c.loop-argument-test.false))
+    (drop_all c.loop-argument.argument-index c.args.arguments.now c.loop-argument-test.false))
     c.loop-argument.invariant

@@ -1,9 +1,10 @@
 use Rattle.std.proofs.Common.{List, ap, map}
 use Rattle.std.specs.List.{flat_map}
+use Rattle.std.proofs.lemmas.List.{drop_all}
 use Rattle.tiny_tree.specs.declared.tree.Function.{Function}
 use Rattle.tiny_tree.specs.View.{function_tree}
 use Rattle.tiny_code.specs.Code.{function_numbers}
-use Rattle.tiny_pool.proofs.Walks.{drop_none, ends, function_at, goes_on, starts}
+use Rattle.tiny_pool.proofs.Walks.{ends, function_at, goes_on, starts}
 use Rattle.tiny_pool.proofs.numbers.add_functions.Goals as goal
 
 pub loop-function-init : goal.loop-function-init
@@ -19,5 +20,5 @@ pub returns : goal.returns
 returns c =
     ends _ _ _ _
     (ap (λ (l : List Function). flat_map function_numbers (map function_tree l))
-    (drop_none c.args.functions.now c.loop-function.function-index c.loop-function-test.false))
+    (drop_all c.loop-function.function-index c.args.functions.now c.loop-function-test.false))
     c.loop-function.invariant
