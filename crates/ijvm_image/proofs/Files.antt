@@ -6,28 +6,13 @@ use Rattle.std.proofs.lemmas.Grind.{flat_map-append}
 use Rattle.std.proofs.lemmas.List.{drop_more, take_more, length-drop, length-take-le, drop-drop, drop_all, take-append-drop}
 use Rattle.std.proofs.Math.Seq.{take-append_seam}
 use Rattle.std.proofs.lemmas.Bool.{cond-true, cond-false, le-leb, leb-true, eqb-true}
+use Rattle.ijvm_instr.specs.Halves.{byte_below, high, low, whole_half}
 use Rattle.ijvm_image.specs.declared.reader.Block.{Block}
 use Rattle.ijvm_image.specs.declared.image.ImageError.{ImageError}
 use Rattle.ijvm_image.specs.declared.image.ImageError.TheVariants as errors
 use Rattle.ijvm_image.specs.Image.{ImageView, IsWithinLimits}
 use Rattle.ijvm_image.specs.ImageFile.{magic, text_origin, pool_origin, word_bytes, block_of, file_of, text_first, IsFileOf, word_at, is_origin, is_size}
 use Rattle.ijvm_image.specs.Reading.{and_then, field, block_from, block_at, words_at, image_of, joined, ended, image_read}
-
--- Two bytes and their number.
-
-high : (b c : ℕ) → c < 256 → (256 * b + c) / 256 ≡ b
-high b c h = omega arith
-
-low : (b c : ℕ) → c < 256 → (256 * b + c) % 256 ≡ c
-low b c h = omega arith
-
-from_half : (n : ℕ) → 256 * (n / 256) + n % 256 ≡ n
-from_half n = omega arith
-
-byte_below : (text : List ℕ) (k : ℕ) → All (λ (b : ℕ). b < 256) text → slice_index text k < 256
-byte_below [] k h = omega arith
-byte_below (x ∷ xs) zero h = h 0 0 (omega arith)
-byte_below (x ∷ xs) (suc k) h = byte_below xs k (λ j d below. h (suc j) d (omega arith))
 
 -- Words in a file.
 
@@ -68,8 +53,8 @@ word_read : (file : List ℕ) (place w : ℕ) (rest : List ℕ) → drop place f
 word_read file place w rest e =
     let read : (word_at file place ≡ 65536 * (256 * (w / 65536 / 256) + w / 65536 % 256) + (256 * (w % 65536 / 256) + w % 65536 % 256)) × (drop (place + 4) file ≡ rest) =
     word_of_bytes file place _ _ _ _ rest e in
-    let upper : 256 * (w / 65536 / 256) + w / 65536 % 256 ≡ w / 65536 = from_half (w / 65536) in
-    let lower : 256 * (w % 65536 / 256) + w % 65536 % 256 ≡ w % 65536 = from_half (w % 65536) in
+    let upper : 256 * (w / 65536 / 256) + w / 65536 % 256 ≡ w / 65536 = whole_half (w / 65536) in
+    let lower : 256 * (w % 65536 / 256) + w % 65536 % 256 ≡ w % 65536 = whole_half (w % 65536) in
     let all : 65536 * (w / 65536) + w % 65536 ≡ w = omega arith in
     (read.0 ∙ rw (upper, lower) all, read.1)
 

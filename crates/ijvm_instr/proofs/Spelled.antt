@@ -8,6 +8,7 @@ use Rattle.std.proofs.Math.Facts.{sfits_to_z, Fits-of_lt}
 use Rattle.ijvm_instr.specs.declared.instr.Instr.{Instr}
 use Rattle.ijvm_instr.specs.declared.instr.Instr.TheVariants.{Nop, Bipush, LdcW, Iload, Istore, Pop, Dup, Swap, Iadd, Isub, Iand, Iinc, Ifeq, Iflt, IfIcmpeq, Goto, Ireturn, Ior, Invokevirtual, WideIload, WideIstore, WideIinc, In, Out, Err, Halt}
 use Rattle.ijvm_instr.specs.Instructions.{of_bytes, begun_at, instr_at, whole, spelling, size_of, row_of, SpellsInstr, StandAt, IsInstr}
+use Rattle.ijvm_instr.specs.Halves.{byte_below, high, low, size_least, whole_half}
 
 chosen_by : (P : Instr → Type 0) (x y : ℕ) (j : Instr) (rest : Option Instr) (i : Instr) (t : Bool) → (x == y) ≡ t →
     (x ≡ y → P j) → (rest ≡ Some i → P i) → (if t then Some j else rest) ≡ Some i → P i
@@ -28,13 +29,6 @@ IsRead a b c d e f i = (take (size_of (row_of i)) (a ∷ b ∷ c ∷ d ∷ e ∷
 
 back8 : (b : ℕ) → b < 256 → cast_unsigned w8 (cast_signed w8 b) ≡ b
 back8 b h = of_z-to_z w8 b h
-
--- two bytes are those of their number
-pub high : (b c : ℕ) → c < 256 → (256 * b + c) / 256 ≡ b
-high b c h = omega arith
-
-pub low : (b c : ℕ) → c < 256 → (256 * b + c) % 256 ≡ c
-low b c h = omega arith
 
 back16 : (b c : ℕ) → b < 256 → c < 256 → cast_unsigned w16 (cast_signed w16 (256 * b + c)) ≡ 256 * b + c
 back16 b c hb hc =
@@ -95,9 +89,6 @@ of_bytes-read a b c d e f i hb hc hd he hf =
     (λ x. cc)))))))))))))))))))))))))
 
 -- a number of two bytes is made of them
-whole_half : (n : ℕ) → 256 * (n / 256) + n % 256 ≡ n
-whole_half n = omega arith
-
 pub from_half : (n b c : ℕ) → b ≡ n / 256 → c ≡ n % 256 → 256 * b + c ≡ n
 from_half n b c e f = rw (e, f, whole_half n) refl
 
@@ -214,18 +205,9 @@ stand_fits : (text : List ℕ) (at : ℕ) (bytes : List ℕ) → StandAt text at
 stand_fits text at [] h = omega arith
 stand_fits text at (x ∷ bytes) h = let rest : at + 1 + length bytes ≤ length text = stand_fits text (at + 1) bytes h.1 in omega arith
 
-size_least : (i : Instr) → 1 ≤ size_of (row_of i)
-size_least Nop = omega arith
-size_least _ = omega arith
-
 size_most : (i : Instr) → size_of (row_of i) ≤ 6
 size_most Nop = omega arith
 size_most _ = omega arith
-
-pub byte_below : (text : List ℕ) (k : ℕ) → All (λ (b : ℕ). b < 256) text → slice_index text k < 256
-byte_below [] k h = omega arith
-byte_below (x ∷ xs) zero h = h 0 0 (omega arith)
-byte_below (x ∷ xs) (suc k) h = byte_below xs k (λ j d below. h (suc j) d (omega arith))
 
 read_at : (text : List ℕ) (at : ℕ) (i : Instr) → at + size_of (row_of i) ≤ length text →
     IsRead (slice_index text at) (slice_index text (at + 1)) (slice_index text (at + 2)) (slice_index text (at + 3)) (slice_index text (at + 4)) (slice_index text (at + 5)) i →

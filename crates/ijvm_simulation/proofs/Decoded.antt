@@ -2,15 +2,13 @@
 use Rattle.std.proofs.Common.{◌≡◌, ℕ, ◌+◌, ◌*◌, ◌<◌, ◌≤◌, Bool, true, false, if◌then◌else◌, ◌==◌, Option, Some, None, List, length, refl, arith, subst, inl, inr}
 use Rattle.std.specs.Prelude.{slice_index, nat_le, All}
 use Rattle.std.specs.Int.{w8, w16, cast_signed}
-use Rattle.std.proofs.lemmas.Bool.{cases_lt}
 use Rattle.std.proofs.lemmas.Bool.Decides.{nat_tests}
-use Rattle.std.proofs.lemmas.List.{get_or_past}
-use Rattle.std.proofs.lemmas.List.Elements.{All-get_or}
 use Rattle.std.proofs.lemmas.Option.{same_Some}
 use Rattle.ijvm_instr.specs.declared.instr.Instr.{Instr}
 use Rattle.ijvm_instr.specs.declared.instr.Instr.TheVariants.{Nop, Bipush, LdcW, Iload, Istore, Pop, Dup, Swap, Iadd, Isub, Iand, Iinc, Ifeq, Iflt, IfIcmpeq, Goto, Ireturn, Ior, Invokevirtual, WideIload, WideIstore, WideIinc, In, Out, Err, Halt}
 use Rattle.ijvm_simulation.specs.Bytes.{Reads}
 use Rattle.ijvm_simulation.proofs.Numbers.{byte_word, half_word}
+use Rattle.ijvm_instr.specs.Halves.{byte_below}
 use Rattle.ijvm_instr.specs.Instructions.{row_of, size_of, begun_at, of_bytes, whole, instr_at}
 
 -- one row of the decoder, then those after it
@@ -54,13 +52,6 @@ reads a b c d e f i lb lc le lf =
     (row P a 0xFE Err _ i (λ is. is)
     (row P a 0xFF Halt _ i (λ is. is) (λ none. absurd (cc))))))))))))))))))))))))))
 
--- a byte of a text, or the 0 past its end
-small : (text : List ℕ) → All (λ b. b < 256) text → (k : ℕ) → slice_index text k < 256
-small text bytes k = elim (cases_lt k (length text)) [
-  | inl within ↦ All-get_or (λ b. b < 256) text k 0 within bytes
-  | inr past ↦ let none : slice_index text k ≡ 0 = get_or_past text k 0 past in omega arith
-]
-
 -- the instruction at an address, by the text's bytes from there on
 pub record Decoded (text : List ℕ) (at : ℕ) (i : Instr) : Type 0 where
   pub reads : Reads (slice_index text at) (slice_index text (at + 1)) (slice_index text (at + 2)) (slice_index text (at + 3)) (slice_index text (at + 4)) (slice_index text (at + 5)) i
@@ -72,7 +63,7 @@ decoded text bytes at i e = by_whole (begun_at text at) refl e
   where
     by_test : (j : Instr) → begun_at text at ≡ Some j →
         (t : Bool) → nat_le (at + size_of (row_of j)) (length text) ≡ t → (if t then Some j else None) ≡ Some i → Decoded text at i
-    by_test j is true t found = subst (λ (k : Instr). Decoded text at k) (same_Some _ _ found) (record { reads = reads _ _ _ _ _ _ j (small text bytes (at + 1)) (small text bytes (at + 2)) (small text bytes (at + 4)) (small text bytes (at + 5)) is; fits = grind (arith, nat_tests) })
+    by_test j is true t found = subst (λ (k : Instr). Decoded text at k) (same_Some _ _ found) (record { reads = reads _ _ _ _ _ _ j (byte_below text (at + 1) bytes) (byte_below text (at + 2) bytes) (byte_below text (at + 4) bytes) (byte_below text (at + 5) bytes) is; fits = grind (arith, nat_tests) })
     by_test j is false t found = absurd (cc)
 
     by_whole : (found : Option Instr) → begun_at text at ≡ found →

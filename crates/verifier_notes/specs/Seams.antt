@@ -3,7 +3,7 @@ use Rattle.std.proofs.Common.{◌≡◌, ◌≤◌, inl, inr, ⊎_elim, ℕ, ◌
 use Rattle.std.proofs.lemmas.Bool.{eq-eqb}
 use Rattle.std.proofs.lemmas.Bool.Decides.{eqb_tells}
 use Rattle.ijvm_instr.specs.declared.instr.Instr.{Instr}
-use Rattle.ijvm_instr.specs.declared.instr.Instr.TheVariants.{Goto}
+use Rattle.ijvm_instr.specs.Halves.{size_least}
 use Rattle.ijvm_instr.specs.Instructions.{row_of, size_of}
 use Rattle.ijvm_image.specs.Image.{ImageView}
 use Rattle.verifier_notes.specs.Noted.{Note}
@@ -13,10 +13,6 @@ pub items_append : (a b : List Item) → items_size (a ++ b) ≡ items_size a + 
 items_append [] b = omega arith
 items_append (x ∷ a) b = omega (arith, items_append a b)
 
-size_least : (i : Instr) → 1 ≤ size_of (row_of i)
-size_least (Goto o) = omega arith
-size_least i = omega arith
-
 item_least : (x : Item) → 1 ≤ item_size x
 item_least (Code i n) = size_least i
 item_least Header = omega arith
@@ -24,7 +20,8 @@ item_least Header = omega arith
 -- the note of an item after others
 note_after : (pre : List Item) (i : Instr) (n : Note) (post : List Item) (start at : ℕ) → at ≡ start + items_size pre
     → note_from start (pre ++ (Code i n ∷ post)) at ≡ Some n
-note_after [] i n post start at e = ap (λ (b : Bool). if b then Some n else note_from (start + size_of (row_of i)) post at) (eq-eqb at start (omega (arith, e)))
+note_after [] i n post start at e =
+    ap (λ (b : Bool). if b then Some n else note_from (start + size_of (row_of i)) post at) (eq-eqb at start (omega (arith, e)))
 note_after (x ∷ pre) i n post start at e =
     ⊎_elim
     (λ t. absurd (omega (arith, t.1, e, item_least x)))
@@ -32,8 +29,8 @@ note_after (x ∷ pre) i n post start at e =
     ∙ note_after pre i n post (start + item_size x) at (omega (arith, e)))
     (eqb_tells at start)
 
-pub note_at_seam : (whole pre : List Item) (i : Instr) (n : Note) (post : List Item) (at : ℕ) → whole ≡ pre ++ (Code i n ∷ post) → at ≡ items_size pre
-    → note_at whole at ≡ Some n
+pub note_at_seam : (whole pre : List Item) (i : Instr) (n : Note) (post : List Item) (at : ℕ) → whole ≡ pre ++ (Code i n ∷ post)
+    → at ≡ items_size pre → note_at whole at ≡ Some n
 note_at_seam whole pre i n post at is e = ap (λ x. note_at x at) is ∙ note_after pre i n post 0 at (omega (arith, e))
 
 -- the header of what stands after others
