@@ -1,11 +1,12 @@
 -- The lines of a text of plain lines are these lines.
-use Rattle.std.proofs.Common.{◌≡◌, ℕ, zero, suc, ◌-◌, Bool, true, false, List, [], ◌∷◌, ◌++◌, length, get_or, refl, ap, ◌∙◌, arith, cond}
+use Rattle.std.proofs.Common.{◌≡◌, ℕ, zero, suc, ◌-◌, true, false, List, [], ◌∷◌, ◌++◌, length, get_or, refl, ap, ◌∙◌, arith, cond}
 use Rattle.std.specs.Prelude.{◌==◌, ◌&&◌, map, take}
-use Rattle.std.specs.List.{list_all, onto_first, slice_split}
+use Rattle.std.specs.List.{list_all, onto_first}
 use Rattle.std.specs.Str.Lines.{lines, lines_of_parts, strip_carriage_return}
 use Rattle.std.proofs.lemmas.Bool.Decides.{nat_tests}
 use Rattle.std.proofs.lemmas.Bool.{and_parts}
 use Rattle.source_text.specs.Content.{begins_comment, contents, without_comment}
+use Rattle.source_text.specs.Parts.{before_more, parts}
 use Rattle.mal_print.specs.StatementText.{is_plain}
 use Rattle.mal_parser.specs.ProgramText.{text_of}
 
@@ -16,9 +17,6 @@ ArePlain (l ∷ ls) = (list_all is_plain l ≡ true) × ArePlain ls
 abbrev pub plain_append : (ls ms : List (List ℕ)) → ArePlain ls → ArePlain ms → ArePlain (ls ++ ms)
 plain_append [] ms h g = g
 plain_append (l ∷ ls) ms h g = (h.0, plain_append ls ms h.1 g)
-
-abbrev parts : List ℕ → List (List ℕ)
-parts = slice_split (λ b. b == 10)
 
 no_newline : (b : ℕ) → is_plain b ≡ true → (b == 10) ≡ false
 no_newline b h = grind (arith, nat_tests)
@@ -55,21 +53,6 @@ no_comment (b ∷ l) h =
     none : (b : ℕ) (l : List ℕ) → (b == 47) ≡ false → begins_comment (b ∷ l) ≡ false
     none b [] e = refl
     none b (c ∷ l) e = ap (λ w. w && (c == 47)) e
-
-some_part : (text : List ℕ) → (x : List ℕ) × (xs : List (List ℕ)) × (parts text ≡ x ∷ xs)
-some_part [] = ([], [], refl)
-some_part (b ∷ rest) = go (b == 10) (some_part rest)
-  where
-    go : (w : Bool) → (x : List ℕ) × (xs : List (List ℕ)) × (parts rest ≡ x ∷ xs) → (x : List ℕ) × (xs : List (List ℕ)) × (cond w ([] ∷ parts rest) (onto_first b (parts rest)) ≡ x ∷ xs)
-    go true s = ([], parts rest, refl)
-    go false s = (b ∷ s.0, s.1, ap (onto_first b) s.2)
-
-before_more : (l rest : List ℕ) → lines_of_parts (l ∷ parts rest) ≡ strip_carriage_return l ∷ lines rest
-before_more l rest = go (parts rest) (some_part rest)
-  where
-    go : (ps : List (List ℕ)) → (x : List ℕ) × (xs : List (List ℕ)) × (ps ≡ x ∷ xs) → lines_of_parts (l ∷ ps) ≡ strip_carriage_return l ∷ lines_of_parts ps
-    go [] s = absurd (let e = s.2 in cc)
-    go (x ∷ xs) s = refl
 
 lines_text : (ls : List (List ℕ)) → ArePlain ls → lines (text_of ls) ≡ ls
 lines_text [] h = refl

@@ -1,17 +1,15 @@
 -- The first line of a text.
 use Rattle.std.proofs.Common.{◌≡◌, ℕ, suc, ◌+◌, ◌-◌, ◌<◌, ◌≤◌, Bool, true, false, List, [], ◌∷◌, take, drop, length, refl, ap, ◌∙◌, sym, arith, length-drop, cond}
 use Rattle.std.specs.Prelude.{not, ◌==◌}
-use Rattle.std.specs.List.{prefix_len, onto_first, slice_split}
+use Rattle.std.specs.List.{prefix_len, onto_first}
 use Rattle.std.specs.Str.Lines.{lines, lines_of_parts, strip_carriage_return}
 use Rattle.std.proofs.lemmas.List.{take_rest}
 use Rattle.std.proofs.lemmas.Bool.Decides.{nat_tests}
+use Rattle.source_text.specs.Parts.{before_more, parts}
 
 -- how many bytes stand before the first newline
 abbrev pub len : List ℕ → ℕ
 len = prefix_len (λ b. not (b == 10))
-
-abbrev pub parts : List ℕ → List (List ℕ)
-parts = slice_split (λ b. b == 10)
 
 split_more : (text : List ℕ) → len text < length text → parts text ≡ take (len text) text ∷ parts (drop (len text + 1) text)
 split_more [] lt = absurd (omega arith)
@@ -36,20 +34,6 @@ split_last (b ∷ rest) le = go (b == 10) le (split_last rest)
         → cond w ([] ∷ parts rest) (onto_first b (parts rest)) ≡ (b ∷ rest) ∷ []
     go true le rec = absurd (omega (arith, le))
     go false le rec = let r = rec (omega (arith, le)) in rw r refl
-
--- a text has at least one part
-some_part : (text : List ℕ) → (x : List ℕ) × (xs : List (List ℕ)) × (parts text ≡ x ∷ xs)
-some_part [] = ([], [], refl)
-some_part (b ∷ rest) = go (b == 10) (some_part rest)
-  where
-    go : (w : Bool) → (x : List ℕ) × (xs : List (List ℕ)) × (parts rest ≡ x ∷ xs) → (x : List ℕ) × (xs : List (List ℕ)) × (cond w ([] ∷ parts rest) (onto_first b (parts rest)) ≡ x ∷ xs)
-    go true s = ([], parts rest, refl)
-    go false s = (b ∷ s.0, s.1, ap (onto_first b) s.2)
-
-before_more : (x : List ℕ) (rest : List ℕ) → lines_of_parts (x ∷ parts rest) ≡ strip_carriage_return x ∷ lines rest
-before_more x rest =
-    let s = some_part rest in
-    ap (λ ps. lines_of_parts (x ∷ ps)) s.2 ∙ ap (λ ps. strip_carriage_return x ∷ lines_of_parts ps) (sym s.2)
 
 pub line_more : (text : List ℕ) (n : ℕ) → n ≡ len text → n < length text → lines text ≡ strip_carriage_return (take n text) ∷ lines (take (length text - (n + 1)) (drop (n + 1) text))
 line_more text n e lt =

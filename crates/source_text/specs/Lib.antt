@@ -1,4 +1,5 @@
 pub mod Content
+pub mod Parts
 pub mod Tokens
 pub mod Reading
 pub mod Walk
