@@ -1,13 +1,12 @@
 -- The program that a sound source is, where its entries and its bytes are few enough, keeps what holds of each program.
-use Rattle.std.proofs.Common.{◌≡◌, ℕ, suc, ◌+◌, ◌<◌, ◌≤◌, ◌^◌, Bool, true, false, List, [], ◌∷◌, map, take, drop, length, Option, Some, None, refl, ap, sym, subst, ◌∙◌, arith, cond, length-append}
-use Rattle.std.specs.Prelude.{All, IsSome, IsSomeAnd, option_map, sum_by}
+use Rattle.std.proofs.Common.{◌≡◌, ℕ, suc, ◌+◌, ◌<◌, ◌≤◌, ◌^◌, List, [], ◌∷◌, map, take, drop, length, Option, Some, None, refl, ap, sym, subst, ◌∙◌, arith, length-append}
+use Rattle.std.specs.Prelude.{All, IsSome, IsSomeAnd, sum_by}
 use Rattle.std.specs.List.{slice_get, zip}
-use Rattle.std.specs.Str.{bytes_eq}
 use Rattle.std.proofs.lemmas.List.{take-append-drop}
 use Rattle.std.proofs.lemmas.List.Elements.{All-cons, All-nil}
 use Rattle.std.proofs.lemmas.List.Sums.{sum_by-cons}
 use Rattle.std.proofs.lemmas.Option.{get_or_from_slice_get, slice_get_within}
-use Rattle.source_names.specs.Places.{place_of_name}
+use Rattle.source_names.specs.Below.{place_below}
 use Rattle.ijvm_program.specs.declared.line.CodeLine.{CodeLine}
 use Rattle.ijvm_program.specs.declared.line.Constant.{Constant}
 use Rattle.ijvm_program.specs.declared.line.Jump.{Jump}
@@ -27,17 +26,6 @@ use Rattle.ijvm_asm.specs.Names.{IsLineOf, IsProgramOf, IsUnitOf, Pairwise, Stan
 use Rattle.ijvm_asm.proofs.Costs.{access_size, increment_instr_size, instruction_size}
 use Rattle.ijvm_asm.proofs.Sound.{Drafted, IsMain, IsMethod, Sound}
 use Rattle.ijvm_asm.proofs.Totals.{lines_size, main_total, total, units_total}
-
--- ---- names
-
-place_below : (names : List (List ℕ)) (name : List ℕ) (i : ℕ) → place_of_name names name ≡ Some i → i < length names
-place_below [] name i h = absurd (cc)
-place_below (n ∷ names) name i h = go (bytes_eq n name) (place_of_name names name) (place_below names name) h
-  where
-    go : (b : Bool) (o : Option ℕ) → ((j : ℕ) → o ≡ Some j → j < length names) → cond b (Some 0) (option_map (λ j. j + 1) o) ≡ Some i → i < length (n ∷ names)
-    go true o f h = let e : 0 ≡ i = cc in omega (arith, e)
-    go false None f h = absurd (cc)
-    go false (Some j) f h = let e : j + 1 ≡ i = cc in let l = f j refl in omega (arith, e, l)
 
 element : {A : Type 0} (P : A → Type 0) (xs : List A) (i : ℕ) (x : A) → All P xs → slice_get xs i ≡ Some x → P x
 element P xs i x all e = subst P (get_or_from_slice_get xs i x x e) (all i x (slice_get_within xs i x e))

@@ -41,13 +41,3 @@ places_push names name place old new e are fresh h q =
 
 pub few_push : (names : List (List ℕ)) (name : List ℕ) (place : ℕ) → place ≡ length names → place < 4294967295 → length (names ++ name ∷ []) < 4294967296
 few_push names name place e h = let l = length_push names name in omega (arith, l, e, h)
-
--- a place is less than the length of the list
-pub place_below : (names : List (List ℕ)) (name : List ℕ) (i : ℕ) → place_of_name names name ≡ Some i → i < length names
-place_below [] name i h = absurd (cc)
-place_below (n ∷ names) name i h = go (bytes_eq n name) (place_of_name names name) (place_below names name) h
-  where
-    go : (b : Bool) (o : Option ℕ) → ((j : ℕ) → o ≡ Some j → j < length names) → cond b (Some 0) (option_map (λ j. j + 1) o) ≡ Some i → i < length (n ∷ names)
-    go true o f h = let e : 0 ≡ i = cc in omega (arith, e)
-    go false None f h = absurd (cc)
-    go false (Some j) f h = let e : j + 1 ≡ i = cc in let l = f j refl in omega (arith, e, l)

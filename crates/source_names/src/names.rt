@@ -50,7 +50,7 @@ impl NameList {
     }
 
     /// The place of a name, from 0.
-    #[tactic(auto, using(crate::proofs::Adding::place_below))]
+    #[tactic(auto, using(crate::specs::Below::place_below))]
     pub fn find(&self, name: &Name) -> Option<u32>
         ensures is { result ≡ place_of_name self.now name.now }
         ensures within { IfSome result (λ place. place < length self.now) }
