@@ -11,8 +11,8 @@ use Rattle.mic_base.specs.Number.{number_of}
 use Rattle.mic_base.specs.declared.number.NumberError.{NumberError}
 use Rattle.source_text.specs.Tokens.{is_blank}
 use Rattle.source_text.specs.Runs.{name_len, begins_with, ends_with}
+use Rattle.source_text.specs.Fronts.{ends_all, run_all, run_passes, run_stops}
 use Rattle.source_text.specs.Reading.{Agrees}
-use Rattle.mal_tokens.proofs.Fronts.{run_all, run_passes, run_stops, ends_all}
 use Rattle.mal_tokens.specs.declared.word.Word.{Word}
 use Rattle.mal_tokens.specs.declared.word.Word.TheVariants as words
 use Rattle.mal_tokens.specs.declared.sign.Sign.{Sign}

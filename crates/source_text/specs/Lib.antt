@@ -6,3 +6,4 @@ pub mod Walk
 pub mod Text
 pub mod Parsing
 pub mod Runs
+pub mod Fronts

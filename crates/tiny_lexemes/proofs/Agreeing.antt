@@ -9,6 +9,7 @@ use Rattle.std.proofs.lemmas.Bool.{and_parts, and_right, eqb-true, not-true}
 use Rattle.mic_base.specs.Name.{begins_digit, is_name, is_name_byte}
 use Rattle.source_text.specs.Tokens.{is_blank}
 use Rattle.source_text.specs.Runs.{name_len, begins_with}
+use Rattle.source_text.specs.Fronts.{run_all, run_passes, run_stops}
 use Rattle.source_text.specs.Reading.{Agrees, lex}
 use Rattle.tiny_draft.specs.declared.token.Sign.{Sign}
 use Rattle.tiny_draft.specs.declared.token.Sign.TheVariants as signs
@@ -18,7 +19,6 @@ use Rattle.tiny_lexemes.specs.Signs.{all_signs, find_sign, sign_text}
 use Rattle.tiny_lexemes.specs.Lexemes.{EndsLexeme, IsBadText, IsLexeme, IsNumberText, MayEnd, begins_number, number_value, tiny}
 use Rattle.tiny_lexemes.specs.Reading.{begins_equal, extent, is_dark, lexer, name_or_bad, number_lexeme, quote_len, sign_or, token_of}
 use Rattle.tiny_lexemes.specs.Reading as reading
-use Rattle.tiny_lexemes.proofs.Fronts.{run_all, run_passes, run_stops}
 
 -- ---- the signs and the reserved words
 

@@ -1,4 +1,4 @@
--- Fronts of texts whose bytes pass a test.
+-- Lemmas on the front of a text whose bytes pass a test.
 use Rattle.std.proofs.Common.{◌≡◌, ℕ, suc, ◌+◌, Bool, true, false, List, [], ◌∷◌, ◌++◌, take, drop, length, refl, arith, cond}
 use Rattle.std.specs.Prelude.{◌&&◌}
 use Rattle.std.specs.List.{prefix_len, list_all}
