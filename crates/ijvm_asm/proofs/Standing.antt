@@ -3,6 +3,7 @@ use Rattle.std.proofs.Common.{◌≡◌, ℕ, ◌+◌, List, [], ◌∷◌, ◌+
 use Rattle.std.specs.Prelude.{option_map, option_and_then}
 use Rattle.std.specs.List.{slice_get}
 use Rattle.std.proofs.lemmas.List.{append_assoc, append-nil}
+use Rattle.source_text.specs.Options.{bound}
 use Rattle.source_names.specs.Places.{place_of_name}
 use Rattle.ijvm_program.specs.declared.line.CodeLine.{CodeLine}
 use Rattle.ijvm_program.specs.declared.line.Label.{Label}
@@ -21,10 +22,6 @@ mapped : {A B : Type 0} (f : A → B) (o : Option A) (y : B) → option_map f o 
 mapped f (Some x) y h = (x, refl, cc)
 mapped f None y h = absurd (cc)
 
-chained : {A B : Type 0} (f : A → Option B) (o : Option A) (y : B) → option_and_then f o ≡ Some y → (x : A) × (o ≡ Some x) × (f x ≡ Some y)
-chained f (Some x) y h = (x, refl, h)
-chained f None y h = absurd (cc)
-
 module _ (constants methods : List (List ℕ)) where
   -- ---- instructions
 
@@ -42,7 +39,7 @@ module _ (constants methods : List (List ℕ)) where
       (m.0, local_is u name m.0 m.1, m.2)
   operation_is u (instructions.Jump jump label) o h =
       let m = mapped (λ position. operations.To jump position) (label_of u label) o h in
-      (m.0, chained (λ place. slice_get u.label_positions place) (place_of_name u.labels label) m.0 m.1, m.2)
+      (m.0, bound (λ place. slice_get u.label_positions place) (place_of_name u.labels label) m.0 m.1, m.2)
   operation_is u (instructions.Call name) o h = mapped (λ place. operations.Call place) (place_of_name methods name) o h
 
   local_again : (u : DraftView) (name : List ℕ) (i : ℕ) → IsLocal u name i → index_of u name ≡ Some i
@@ -68,7 +65,7 @@ module _ (constants methods : List (List ℕ)) where
       → (new : List CodeLine) × (out ≡ done ++ new) × Pairwise (IsLineOf constants methods u) ds new
   lines_are u [] done out h = let k : done ≡ out = cc in ([], sym k ∙ sym (append-nil done), tt)
   lines_are u (d ∷ ds) done out h =
-      let c = chained (λ o. lines_from constants methods u (done ++ line_with d o ∷ []) ds) (operation_of constants methods u d.instruction) out h in
+      let c = bound (λ o. lines_from constants methods u (done ++ line_with d o ∷ []) ds) (operation_of constants methods u d.instruction) out h in
       let r = lines_are u ds (done ++ line_with d c.0 ∷ []) out c.2 in
       (line_with d c.0 ∷ r.0, r.1 ∙ append_assoc done (line_with d c.0 ∷ []) r.0, (record { number = refl; operation = operation_is u d.instruction c.0 c.1 }, r.2))
 
@@ -109,7 +106,7 @@ module _ (constants methods : List (List ℕ)) where
       → (new : List UnitView) × (out ≡ done ++ new) × Pairwise (IsUnitOf constants methods) us new
   units_are [] done out h = let k : done ≡ out = cc in ([], sym k ∙ sym (append-nil done), tt)
   units_are (u ∷ us) done out h =
-      let c = chained (λ v. units_from constants methods (done ++ v ∷ []) us) (unit_of constants methods u) out h in
+      let c = bound (λ v. units_from constants methods (done ++ v ∷ []) us) (unit_of constants methods u) out h in
       let r = units_are us (done ++ c.0 ∷ []) out c.2 in
       (c.0 ∷ r.0, r.1 ∙ append_assoc done (c.0 ∷ []) r.0, (unit_is u c.0 c.1, r.2))
 

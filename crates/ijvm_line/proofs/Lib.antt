@@ -1,4 +1,3 @@
-pub mod Options
 pub mod Naming
 pub mod Listing
 pub mod Stating

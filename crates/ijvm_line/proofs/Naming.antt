@@ -1,24 +1,17 @@
 -- A text is read as the word that it spells, in letters of any case.
-use Rattle.std.proofs.Common.{◌≡◌, ℕ, List, [], ◌∷◌, Option, Some, Bool, true, false, refl, sym, ap, subst, ◌∙◌, inl, inr, codes, if◌then◌else◌}
+use Rattle.std.proofs.Common.{◌≡◌, ℕ, List, Option, Some, Bool, true, false, refl, sym, ap, ◌∙◌, inl, inr, codes, if◌then◌else◌}
 use Rattle.std.specs.Prelude.{find, option_and_then}
 use Rattle.std.specs.Str.{bytes_eq, str_eq_ignore_ascii_case, str_to_ascii_lowercase}
 use Rattle.std.proofs.lemmas.Slice.Eq.{bytes_eq-Decides}
 use Rattle.std.proofs.lemmas.Option.{option_and_then_some}
+use Rattle.source_text.specs.Options.{chosen, find_passes}
 use Rattle.ijvm_instr.specs.declared.instr.Instr.{Instr}
 use Rattle.ijvm_instr.specs.declared.instr.Instr.TheVariants as instrs
 use Rattle.ijvm_instr.specs.declared.instr.TheConstants.{INSTRUCTIONS}
 use Rattle.ijvm_instr.specs.Instructions.{mnemonic_of}
 use Rattle.ijvm_line.specs.declared.mnemonic.Kind.{Kind}
 use Rattle.ijvm_line.specs.declared.mnemonic.Kind.TheVariants as kinds
-use Rattle.ijvm_line.proofs.Options.{chosen}
 use Rattle.ijvm_line.specs.Mnemonics.{find_kind, IsOfKind, IsSpelled, kind_of, spelled_in}
-
-find_passes : {A : Type 0} (p : A → Bool) (xs : List A) (x : A) → find p xs ≡ Some x → p x ≡ true
-find_passes p [] x h = absurd (cc)
-find_passes p (y ∷ ys) x h = elim (chosen (p y) (Some y) (find p ys) (Some x) h) [
-  | inl w ↦ let e : y ≡ x = cc in subst (λ z. p z ≡ true) e w.0
-  | inr w ↦ find_passes p ys x w.1
-]
 
 -- the kind of a text in lower case
 by_lower : List ℕ → Option Kind

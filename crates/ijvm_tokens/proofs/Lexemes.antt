@@ -1,6 +1,6 @@
 -- What is spelled as a token is read as that token, and what is read as one is spelled so.
 use Rattle.std.proofs.Common.{◌≡◌, ℕ, zero, suc, ◌+◌, ◌<◌, ◌≤◌, Bool, true, false, inl, inr, subst, List, [], ◌∷◌, ◌++◌, Option, Some, None, drop, take, length, refl, sym, arith}
-use Rattle.std.specs.Prelude.{◌⊎◌, not, ◌==◌, ◌||◌, ◌&&◌, codes, find, cond, nat_le}
+use Rattle.std.specs.Prelude.{◌⊎◌, not, ◌==◌, ◌||◌, ◌&&◌, codes, cond, nat_le}
 use Rattle.std.specs.Char.{is_ascii_digit}
 use Rattle.std.proofs.lemmas.Slice.Eq.{bytes_eq-Decides}
 use Rattle.std.specs.List.{list_all, prefix_len}
@@ -10,6 +10,7 @@ use Rattle.mic_base.specs.Name.{begins_digit, is_name, is_name_byte}
 use Rattle.source_text.specs.Tokens.{is_blank}
 use Rattle.source_text.specs.Runs.{name_len, begins_with}
 use Rattle.source_text.specs.Fronts.{run_all, run_passes, run_stops}
+use Rattle.source_text.specs.Options.{chosen, find_passes}
 use Rattle.source_text.specs.Reading.{Agrees}
 use Rattle.ijvm_tokens.specs.declared.sign.Sign.{Sign}
 use Rattle.ijvm_tokens.specs.declared.sign.Sign.TheVariants as signs
@@ -37,17 +38,6 @@ sign_number : (s : Sign) → begins_number (sign_text s) ≡ false
 sign_number s = elim s as (λ s. begins_number (sign_text s) ≡ false) [
   | signs.Open ↦ refl
   | _ ↦ refl
-]
-
-chosen : {A : Type 0} (b : Bool) (x y z : Option A) → cond b x y ≡ z → ((b ≡ true) × (x ≡ z)) ⊎ ((b ≡ false) × (y ≡ z))
-chosen true x y z h = inl (refl, h)
-chosen false x y z h = inr (refl, h)
-
-find_passes : {A : Type 0} (p : A → Bool) (xs : List A) (x : A) → find p xs ≡ Some x → p x ≡ true
-find_passes p [] x h = absurd (cc)
-find_passes p (y ∷ ys) x h = elim (chosen (p y) (Some y) (find p ys) (Some x) h) [
-  | inl w ↦ let e : y ≡ x = cc in subst (λ z. p z ≡ true) e w.0
-  | inr w ↦ find_passes p ys x w.1
 ]
 
 found_sign : (text : List ℕ) (s : Sign) → find_sign text ≡ Some s → text ≡ sign_text s

@@ -6,6 +6,7 @@ use Rattle.std.proofs.lemmas.List.{take-append-drop}
 use Rattle.std.proofs.Math.Seq.{take-append_seam, drop-append_seam}
 use Rattle.std.proofs.lemmas.Bool.{and_parts, or_right}
 use Rattle.mic_words.specs.declared.machine.Machine.{Machine}
+use Rattle.source_text.specs.Options.{chosen, mapped}
 use Rattle.mal_tokens.specs.declared.word.Word.{Word}
 use Rattle.mal_tokens.specs.declared.sign.Sign.TheVariants as signs
 use Rattle.mal_tokens.specs.declared.token.Token.{Token}
@@ -17,7 +18,6 @@ use Rattle.mal_line.specs.declared.chain.Tail.TheVariants as tails
 use Rattle.mal_line.specs.Chains.{bit, dest_bits, dest_tokens, HasCoding, is_dest, is_expr, is_filled, IsAssignment, tail_tokens}
 use Rattle.mal_line.specs.Lookup.{coding_of}
 use Rattle.mal_line.specs.Reading.{assigned, chain_at, dest_of, last, on_dest, shifting, tail_of}
-use Rattle.mal_line.proofs.Options.{chosen, mapped}
 use Rattle.mal_line.proofs.Codings.{coding_again, coding_is}
 
 -- ---- fronts that pass a test

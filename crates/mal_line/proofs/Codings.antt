@@ -4,6 +4,7 @@ use Rattle.std.specs.Prelude.{ℤ, pos, negsuc, not, option_and_then, ◌&&◌, 
 use Rattle.std.proofs.lemmas.Bool.{and_parts, eqb-true}
 use Rattle.mic_words.specs.declared.machine.Machine.{Machine}
 use Rattle.mic_words.specs.declared.machine.Machine.TheVariants.{Mic1, Mic2}
+use Rattle.source_text.specs.Options.{bound, chosen, mapped}
 use Rattle.micro_word.specs.declared.statement.AluOp.{AluOp}
 use Rattle.micro_word.specs.declared.statement.AluOp.TheVariants as ops
 use Rattle.micro_word.specs.declared.statement.BusSource.{BusSource}
@@ -21,7 +22,6 @@ use Rattle.mal_line.specs.declared.chain.Tail.TheVariants as tails
 use Rattle.mal_line.specs.Expressions.{fits, IsCoded, IsOneOf, minus, one_token, other_spellings, plus, side, source_word, spelling, spellings, tail_with}
 use Rattle.mal_line.specs.Lookup.{checked, coding_of, operation_in, is_number, from_one_source, paired, shift_of, source_of, with_shift, work}
 use Rattle.mal_line.proofs.Table.{form_is, Commutes, sum, sum_inc, and_op, or_op}
-use Rattle.mal_line.proofs.Options.{bound, chosen, mapped}
 
 -- ---- what is spelled is looked up
 

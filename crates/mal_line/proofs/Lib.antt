@@ -1,6 +1,5 @@
 pub mod Linking
 pub mod Splitting
-pub mod Options
 pub mod Table
 pub mod Codings
 pub mod Chaining

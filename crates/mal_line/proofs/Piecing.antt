@@ -4,6 +4,7 @@ use Rattle.std.specs.Prelude.{ℤ, pos, option_map, ◌≢◌}
 use Rattle.std.specs.List.{list_all}
 use Rattle.std.proofs.lemmas.Bool.{and_parts}
 use Rattle.mic_words.specs.declared.machine.Machine.{Machine}
+use Rattle.source_text.specs.Options.{chosen, mapped}
 use Rattle.micro_word.specs.declared.statement.Mem.{Mem}
 use Rattle.micro_word.specs.declared.statement.Mem.TheVariants as mems
 use Rattle.micro_word.specs.declared.statement.Test.{Test}
@@ -23,7 +24,6 @@ use Rattle.mal_line.specs.Lookup.{is_number}
 use Rattle.mal_line.specs.Statements.{is_byte_word, IsDispatch, IsElse, IsFetch, IsGoto, IsIf, IsMem, test_word}
 use Rattle.mal_line.specs.Reading.{alone, branch_on, chain_at, else_of, goto_of, head_of, if_of, is_byte_in, is_goto, is_or, is_test_in, name_of, offset_of, piece_by, piece_of, test_of}
 use Rattle.mal_line.proofs.Codings.{number_is}
-use Rattle.mal_line.proofs.Options.{chosen, mapped}
 use Rattle.mal_line.proofs.Chaining.{chain_again, chain_is}
 
 -- these tokens spell what stands between two semicolons

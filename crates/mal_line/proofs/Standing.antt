@@ -5,6 +5,7 @@ use Rattle.std.specs.List.{list_any, list_all, onto_first}
 use Rattle.std.proofs.lemmas.Bool.{or_parts, lt-ltb}
 use Rattle.mic_words.specs.declared.machine.Machine.{Machine}
 use Rattle.mic_words.specs.declared.machine.Machine.TheVariants.{Mic1, Mic2}
+use Rattle.source_text.specs.Options.{mapped}
 use Rattle.micro_word.specs.declared.statement.Part.{Part}
 use Rattle.micro_word.specs.declared.statement.Mem.{Mem}
 use Rattle.micro_word.specs.Coding.{idle, row}
@@ -27,7 +28,6 @@ use Rattle.mal_line.specs.Chains.{HasCoding, IsAssignment}
 use Rattle.mal_line.specs.Statements.{AreParts, AreTree, assign, assignments, counted, fetch_count, fetches, is_semicolon, jump, Kind, listed, memory, nothing, pieces}
 use Rattle.mal_line.specs.Lines.{content_of, HasPart, is_foreign, IsForm, names_foreign, next_by_jump, part_by, part_of, parts_by, parts_of, SpellsLine, with_access}
 use Rattle.mal_line.proofs.Codings.{six_parts}
-use Rattle.mal_line.proofs.Options.{mapped}
 use Rattle.mal_line.proofs.Destinations.{dest_bits-lt}
 
 -- ---- no word of the other machine

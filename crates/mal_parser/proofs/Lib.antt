@@ -1,4 +1,3 @@
-pub mod Options
 pub mod Numbers
 pub mod Resolved
 pub mod Addresses

@@ -1,6 +1,6 @@
 -- What is spelled as a token is read as that token, and what is read as one is spelled so.
 use Rattle.std.proofs.Common.{◌≡◌, ℕ, zero, suc, ◌+◌, ◌<◌, ◌≤◌, Bool, true, false, inl, inr, subst, List, [], ◌∷◌, ◌++◌, Option, Some, None, drop, take, length, refl, sym, ap, arith}
-use Rattle.std.specs.Prelude.{Ok, Err, Result, ◌⊎◌, ℤ, not, ◌==◌, ◌||◌, ◌&&◌, codes, find, cond, nat_le, is_some}
+use Rattle.std.specs.Prelude.{Ok, Err, Result, ℤ, not, ◌==◌, ◌||◌, ◌&&◌, codes, cond, nat_le, is_some}
 use Rattle.std.proofs.lemmas.Slice.Eq.{bytes_eq-Decides}
 use Rattle.std.specs.List.{list_all}
 use Rattle.std.specs.Str.{bytes_eq}
@@ -12,6 +12,7 @@ use Rattle.mic_base.specs.declared.number.NumberError.{NumberError}
 use Rattle.source_text.specs.Tokens.{is_blank}
 use Rattle.source_text.specs.Runs.{name_len, begins_with, ends_with}
 use Rattle.source_text.specs.Fronts.{ends_all, run_all, run_passes, run_stops}
+use Rattle.source_text.specs.Options.{chosen, find_passes}
 use Rattle.source_text.specs.Reading.{Agrees}
 use Rattle.mal_tokens.specs.declared.word.Word.{Word}
 use Rattle.mal_tokens.specs.declared.word.Word.TheVariants as words
@@ -54,17 +55,6 @@ sign_digit : (s : Sign) → begins_digit (sign_text s) ≡ false
 sign_digit s = elim s as (λ s. begins_digit (sign_text s) ≡ false) [
   | signs.Equals ↦ refl
   | _ ↦ refl
-]
-
-chosen : {A : Type 0} (b : Bool) (x y z : Option A) → cond b x y ≡ z → ((b ≡ true) × (x ≡ z)) ⊎ ((b ≡ false) × (y ≡ z))
-chosen true x y z h = inl (refl, h)
-chosen false x y z h = inr (refl, h)
-
-find_passes : {A : Type 0} (p : A → Bool) (xs : List A) (x : A) → find p xs ≡ Some x → p x ≡ true
-find_passes p [] x h = absurd (cc)
-find_passes p (y ∷ ys) x h = elim (chosen (p y) (Some y) (find p ys) (Some x) h) [
-  | inl w ↦ let e : y ≡ x = cc in subst (λ z. p z ≡ true) e w.0
-  | inr w ↦ find_passes p ys x w.1
 ]
 
 found_word : (text : List ℕ) (w : Word) → find_word text ≡ Some w → text ≡ word_text w

@@ -6,4 +6,5 @@ pub mod Walk
 pub mod Text
 pub mod Parsing
 pub mod Runs
+pub mod Options
 pub mod Fronts
