@@ -1,16 +1,17 @@
 -- What is spelled as a token is read as that token, and what is read as one is spelled so.
 use Rattle.std.proofs.Common.{◌≡◌, ℕ, zero, suc, ◌+◌, ◌<◌, ◌≤◌, Bool, true, false, inl, inr, subst, List, [], ◌∷◌, ◌++◌, Option, Some, None, drop, take, length, refl, sym, arith}
-use Rattle.std.specs.Prelude.{◌⊎◌, not, ◌==◌, ◌||◌, ◌&&◌, codes, cond, nat_le}
+use Rattle.std.specs.Prelude.{◌⊎◌, ◌==◌, ◌||◌, codes, cond}
 use Rattle.std.specs.Char.{is_ascii_digit}
 use Rattle.std.proofs.lemmas.Slice.Eq.{bytes_eq-Decides}
 use Rattle.std.specs.List.{list_all, prefix_len}
 use Rattle.std.specs.Str.{bytes_eq}
-use Rattle.std.proofs.lemmas.Bool.{and_parts, eqb-true, not-true, or_cases, or_left, and_right}
+use Rattle.std.proofs.lemmas.Bool.{and_parts, eqb-true, or_cases, or_left}
 use Rattle.mic_base.specs.Name.{begins_digit, is_name, is_name_byte}
 use Rattle.source_text.specs.Tokens.{is_blank}
 use Rattle.source_text.specs.Runs.{name_len, begins_with}
 use Rattle.source_text.specs.Fronts.{run_all, run_passes, run_stops}
 use Rattle.source_text.specs.Options.{chosen, find_passes}
+use Rattle.source_text.specs.Spelled.{IsNamed, named, no_name, not_blank_by}
 use Rattle.source_text.specs.Reading.{Agrees}
 use Rattle.ijvm_tokens.specs.declared.sign.Sign.{Sign}
 use Rattle.ijvm_tokens.specs.declared.sign.Sign.TheVariants as signs
@@ -52,23 +53,6 @@ no_sign text h = go (find_sign text) refl
     go (Some s) e = let f : text ≡ sign_text s = found_sign text s e in absurd (let k = sign_dark s in cc)
 
 -- ---- names and runs
-
--- what a name is
-record IsNamed (text : List ℕ) : Type 0 where
-  starts : begins_with is_name_byte text ≡ true
-  no_digit : begins_digit text ≡ false
-  all : list_all is_name_byte text ≡ true
-
-named : (text : List ℕ) → is_name text ≡ true → IsNamed text
-named text h =
-    let p = and_parts (nat_le 1 (length text)) (nat_le (length text) 64 && (list_all is_name_byte text && not (begins_digit text))) h in
-    let q = and_parts (nat_le (length text) 64) (list_all is_name_byte text && not (begins_digit text)) p.1 in
-    let r = and_parts (list_all is_name_byte text) (not (begins_digit text)) q.1 in
-    record { starts = first text p.0 r.0; no_digit = not-true (begins_digit text) r.1; all = r.0 }
-  where
-    first : (text : List ℕ) → nat_le 1 (length text) ≡ true → list_all is_name_byte text ≡ true → begins_with is_name_byte text ≡ true
-    first [] some all = absurd (cc)
-    first (b ∷ rest) some all = (and_parts (is_name_byte b) (list_all is_name_byte rest) all).0
 
 -- a byte that is no digit and begins a name begins no number
 no_number : (text : List ℕ) → begins_with is_name_byte text ≡ true → begins_digit text ≡ false → begins_number text ≡ false
@@ -254,22 +238,8 @@ some b rest = go (is_name_byte b || b == 45) (b == 46) (b == 39) rest
     go false false true (c ∷ d ∷ rest) = omega arith
     go false false false rest = omega arith
 
-no_name : (b : ℕ) (rest : List ℕ) → is_name_byte b ≡ false → is_name (b ∷ rest) ≡ false
-no_name b rest h = rw h (and_right (nat_le 1 (length (b ∷ rest))) (nat_le (length (b ∷ rest)) 64 && false) (and_right (nat_le (length (b ∷ rest)) 64) false refl))
-
 not_blank : (b : ℕ) (rest : List ℕ) (t : Token) → token_of (b ∷ rest) ≡ Some t → is_blank b ≡ false
-not_blank b rest t h = go (b == 32) (b == 9) refl refl
-  where
-    space : (x : ℕ) → x ≡ 32 → token_of (x ∷ rest) ≡ None
-    space x e = rw (e, no_name 32 rest refl) refl
-
-    tab : (x : ℕ) → x ≡ 9 → token_of (x ∷ rest) ≡ None
-    tab x e = rw (e, no_name 9 rest refl) refl
-
-    go : (x y : Bool) → (b == 32) ≡ x → (b == 9) ≡ y → (x || y) ≡ false
-    go true y e f = absurd (let k = space b (eqb-true b 32 e) in cc)
-    go false true e f = absurd (let k = tab b (eqb-true b 9 f) in cc)
-    go false false e f = refl
+not_blank b rest t h = not_blank_by token_of b rest t (rw (no_name 32 rest refl) refl) (rw (no_name 9 rest refl) refl) h
 
 pub agrees : Agrees ijvm lexer
 agrees = record {

@@ -1,4 +1,3 @@
-pub mod NameBytes
 pub mod Prints
 pub mod Bare
 pub mod Spelling

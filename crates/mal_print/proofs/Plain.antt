@@ -5,6 +5,7 @@ use Rattle.std.specs.List.{list_all}
 use Rattle.std.proofs.lemmas.Bool.Decides.{nat_tests}
 use Rattle.std.proofs.lemmas.Bool.{and_parts}
 use Rattle.mic_base.specs.Name.{is_name_byte}
+use Rattle.source_text.specs.Spelled.{named}
 use Rattle.mal_tokens.specs.declared.word.Word.{Word}
 use Rattle.mal_tokens.specs.declared.word.Word.TheVariants as words
 use Rattle.mal_tokens.specs.declared.sign.Sign.{Sign}
@@ -17,7 +18,6 @@ use Rattle.mal_print.specs.Pieces.{PrintedToken, printed}
 use Rattle.mal_print.specs.StatementText.{is_plain}
 use Rattle.mal_print.proofs.Apart.{all_append}
 use Rattle.mal_print.proofs.Spelling.{AreLexemes}
-use Rattle.mal_print.proofs.NameBytes.{name_parts}
 
 plain_byte : (b : ℕ) → is_name_byte b ≡ true → is_plain b ≡ true
 plain_byte b h = grind (arith, nat_tests)
@@ -37,7 +37,7 @@ plain_sign _ = refl
 plain_lexeme : (t : Token) (text : List ℕ) → IsLexeme t text → list_all is_plain text ≡ true
 plain_lexeme (tokens.Word w) text l = ap (list_all is_plain) l ∙ plain_word w
 plain_lexeme (tokens.Sign s) text l = ap (list_all is_plain) l ∙ plain_sign s
-plain_lexeme (tokens.Name n) text l = ap (list_all is_plain) l.0 ∙ plain_bytes n (name_parts n l.1.0).bytes
+plain_lexeme (tokens.Name n) text l = ap (list_all is_plain) l.0 ∙ plain_bytes n (named n l.1.0).all
 plain_lexeme (tokens.Number v) text l = plain_bytes text l.1
 
 pub plain_printed : (ps : List PrintedToken) → AreLexemes ps → list_all is_plain (printed ps) ≡ true

@@ -5,7 +5,7 @@ use Rattle.std.proofs.lemmas.Slice.Eq.{bytes_eq-Decides}
 use Rattle.std.specs.List.{list_all}
 use Rattle.std.specs.Str.{bytes_eq}
 use Rattle.std.proofs.lemmas.Bool.Decides.{nat_tests}
-use Rattle.std.proofs.lemmas.Bool.{and_parts, not-true, and_right, eqb-true}
+use Rattle.std.proofs.lemmas.Bool.{and_parts, eqb-true}
 use Rattle.mic_base.specs.Name.{begins_digit, is_name, is_name_byte}
 use Rattle.mic_base.specs.Number.{number_of}
 use Rattle.mic_base.specs.declared.number.NumberError.{NumberError}
@@ -13,6 +13,7 @@ use Rattle.source_text.specs.Tokens.{is_blank}
 use Rattle.source_text.specs.Runs.{name_len, begins_with, ends_with}
 use Rattle.source_text.specs.Fronts.{ends_all, run_all, run_passes, run_stops}
 use Rattle.source_text.specs.Options.{chosen, find_passes}
+use Rattle.source_text.specs.Spelled.{IsNamed, named, no_name, not_blank_by}
 use Rattle.source_text.specs.Reading.{Agrees}
 use Rattle.mal_tokens.specs.declared.word.Word.{Word}
 use Rattle.mal_tokens.specs.declared.word.Word.TheVariants as words
@@ -129,23 +130,6 @@ no_sign text h = go (find_sign text) refl
 pub name_no_sign : (text : List ℕ) → begins_with is_name_byte text ≡ true → sign_or text (find_sign text) ≡ word_or_name text (find_word text)
 name_no_sign text h = ap (sign_or text) (no_sign text h)
 
--- what a name is
-record IsNamed (text : List ℕ) : Type 0 where
-  starts : begins_with is_name_byte text ≡ true
-  no_digit : begins_digit text ≡ false
-  all : list_all is_name_byte text ≡ true
-
-named : (text : List ℕ) → is_name text ≡ true → IsNamed text
-named text h =
-    let p = and_parts (nat_le 1 (length text)) (nat_le (length text) 64 && (list_all is_name_byte text && not (begins_digit text))) h in
-    let q = and_parts (nat_le (length text) 64) (list_all is_name_byte text && not (begins_digit text)) p.1 in
-    let r = and_parts (list_all is_name_byte text) (not (begins_digit text)) q.1 in
-    record { starts = first text p.0 r.0; no_digit = not-true (begins_digit text) r.1; all = r.0 }
-  where
-    first : (text : List ℕ) → nat_le 1 (length text) ≡ true → list_all is_name_byte text ≡ true → begins_with is_name_byte text ≡ true
-    first [] some all = absurd (cc)
-    first (b ∷ rest) some all = (and_parts (is_name_byte b) (list_all is_name_byte rest) all).0
-
 -- ---- what is spelled is read
 
 extent_all : (text rest : List ℕ) → begins_with is_name_byte text ≡ true → list_all is_name_byte text ≡ true → begins_with is_name_byte rest ≡ false → extent (text ++ rest) ≡ length text
@@ -261,22 +245,8 @@ some b rest = go (is_name_byte b) (b == 46) ((b == 60 || b == 62) && begins b re
     go false false true = omega arith
     go false false false = omega arith
 
-no_name : (b : ℕ) (rest : List ℕ) → is_name_byte b ≡ false → is_name (b ∷ rest) ≡ false
-no_name b rest h = rw h (and_right (nat_le 1 (length (b ∷ rest))) (nat_le (length (b ∷ rest)) 64 && false) (and_right (nat_le (length (b ∷ rest)) 64) false refl))
-
 not_blank : (b : ℕ) (rest : List ℕ) (t : Token) → token_of (b ∷ rest) ≡ Some t → is_blank b ≡ false
-not_blank b rest t h = go (b == 32) (b == 9) refl refl
-  where
-    space : (x : ℕ) → x ≡ 32 → token_of (x ∷ rest) ≡ None
-    space x e = rw (e, no_name 32 rest refl) refl
-
-    tab : (x : ℕ) → x ≡ 9 → token_of (x ∷ rest) ≡ None
-    tab x e = rw (e, no_name 9 rest refl) refl
-
-    go : (x y : Bool) → (b == 32) ≡ x → (b == 9) ≡ y → (x || y) ≡ false
-    go true y e f = absurd (let k = space b (eqb-true b 32 e) in cc)
-    go false true e f = absurd (let k = tab b (eqb-true b 9 f) in cc)
-    go false false e f = refl
+not_blank b rest t h = not_blank_by token_of b rest t (rw (no_name 32 rest refl) refl) (rw (no_name 9 rest refl) refl) h
 
 pub agrees : Agrees mal lexer
 agrees = record {

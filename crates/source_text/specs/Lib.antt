@@ -7,4 +7,5 @@ pub mod Text
 pub mod Parsing
 pub mod Runs
 pub mod Options
+pub mod Spelled
 pub mod Fronts

@@ -11,6 +11,7 @@ use Rattle.source_text.specs.Tokens.{is_blank}
 use Rattle.source_text.specs.Runs.{name_len, begins_with}
 use Rattle.source_text.specs.Fronts.{run_all, run_passes, run_stops}
 use Rattle.source_text.specs.Options.{chosen, find_passes}
+use Rattle.source_text.specs.Spelled.{named, no_name, not_blank_by}
 use Rattle.source_text.specs.Reading.{Agrees, lex}
 use Rattle.tiny_draft.specs.declared.token.Sign.{Sign}
 use Rattle.tiny_draft.specs.declared.token.Sign.TheVariants as signs
@@ -40,26 +41,9 @@ found_sign text s h = sym ((bytes_eq-Decides (sign_text s) text).0 (find_passes 
 
 -- ---- names and runs
 
--- a run of bytes of a name that begins with no digit
-record IsRun (text : List ℕ) : Type 0 where
-  starts : begins_with is_name_byte text ≡ true
-  no_digit : begins_digit text ≡ false
-  all : list_all is_name_byte text ≡ true
-
 starts_with : (text : List ℕ) → 0 < length text → list_all is_name_byte text ≡ true → begins_with is_name_byte text ≡ true
 starts_with [] some all = absurd (omega arith)
 starts_with (b ∷ rest) some all = (and_parts (is_name_byte b) (list_all is_name_byte rest) all).0
-
-some_name : (text : List ℕ) → nat_le 1 (length text) ≡ true → 0 < length text
-some_name [] h = absurd (cc)
-some_name (b ∷ rest) h = omega arith
-
-named : (text : List ℕ) → is_name text ≡ true → IsRun text
-named text h =
-    let p = and_parts (nat_le 1 (length text)) (nat_le (length text) 64 && (list_all is_name_byte text && not (begins_digit text))) h in
-    let q = and_parts (nat_le (length text) 64) (list_all is_name_byte text && not (begins_digit text)) p.1 in
-    let r = and_parts (list_all is_name_byte text) (not (begins_digit text)) q.1 in
-    record { starts = starts_with text (some_name text p.0) r.0; no_digit = not-true (begins_digit text) r.1; all = r.0 }
 
 -- a run that begins with no digit begins no number
 no_number : (text : List ℕ) → begins_with is_name_byte text ≡ true → begins_digit text ≡ false → begins_number text ≡ false
@@ -165,9 +149,6 @@ long_name text h = go (nat_le (length text) 64) refl
     go : (x : Bool) → nat_le (length text) 64 ≡ x → is_name text ≡ false
     go true e = absurd (grind (arith, e, h))
     go false e = rw e (and_right (nat_le 1 (length text)) false refl)
-
-no_name : (b : ℕ) (rest : List ℕ) → is_name_byte b ≡ false → is_name (b ∷ rest) ≡ false
-no_name b rest h = rw h (and_right (nat_le 1 (length (b ∷ rest))) (nat_le (length (b ∷ rest)) 64 && false) (and_right (nat_le (length (b ∷ rest)) 64) false refl))
 
 name_dark : (b : ℕ) → is_name_byte b ≡ true → is_blank b ≡ false
 name_dark b h = go (b == 32) (b == 9) refl refl
@@ -385,18 +366,7 @@ some b rest = go (is_name_byte b) (b == 39) ((b == 61 || b == 33) && begins_equa
     go false false false rest = omega arith
 
 not_blank : (b : ℕ) (rest : List ℕ) (t : Lexeme) → token_of (b ∷ rest) ≡ Some t → is_blank b ≡ false
-not_blank b rest t h = go (b == 32) (b == 9) refl refl
-  where
-    space : (x : ℕ) → x ≡ 32 → token_of (x ∷ rest) ≡ None
-    space x e = rw (e, no_name 32 rest refl) refl
-
-    tab : (x : ℕ) → x ≡ 9 → token_of (x ∷ rest) ≡ None
-    tab x e = rw (e, no_name 9 rest refl) refl
-
-    go : (x y : Bool) → (b == 32) ≡ x → (b == 9) ≡ y → (x || y) ≡ false
-    go true y e f = absurd (let k = space b (eqb-true b 32 e) in cc)
-    go false true e f = absurd (let k = tab b (eqb-true b 9 f) in cc)
-    go false false e f = refl
+not_blank b rest t h = not_blank_by token_of b rest t (rw (no_name 32 rest refl) refl) (rw (no_name 9 rest refl) refl) h
 
 pub agrees : Agrees tiny lexer
 agrees = record {
