@@ -8,7 +8,7 @@ use Rattle.std.specs.Str.{bytes_eq}
 use Rattle.std.proofs.lemmas.Bool.{and_parts, eqb-true, or_cases, or_left}
 use Rattle.mic_base.specs.Name.{begins_digit, is_name, is_name_byte}
 use Rattle.source_text.specs.Tokens.{is_blank}
-use Rattle.source_text.specs.Runs.{name_len, begins_with}
+use Rattle.source_text.specs.Runs.{name_len, begins_with, quote_len}
 use Rattle.source_text.specs.Fronts.{run_all, run_passes, run_stops}
 use Rattle.source_text.specs.Options.{chosen, find_passes}
 use Rattle.source_text.specs.Spelled.{IsNamed, named, no_name, not_blank_by}
@@ -19,7 +19,7 @@ use Rattle.ijvm_tokens.specs.declared.token.Token.{Token}
 use Rattle.ijvm_tokens.specs.declared.token.Token.TheVariants as tokens
 use Rattle.ijvm_tokens.specs.Signs.{all_signs, find_sign, sign_text}
 use Rattle.ijvm_tokens.specs.Tokens.{begins_number, EndsLexeme, ijvm, is_word_byte, IsLexeme, IsNumberText, MayEnd, number_value}
-use Rattle.ijvm_tokens.specs.Reading.{extent, lexer, name_token, quote_len, sign_or, token_of}
+use Rattle.ijvm_tokens.specs.Reading.{extent, lexer, name_token, sign_or, token_of}
 
 -- ---- the signs
 

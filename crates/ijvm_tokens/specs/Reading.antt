@@ -3,18 +3,12 @@ use Rattle.std.specs.Prelude.{ℕ, ◌+◌, ◌==◌, ◌||◌, List, [], ◌∷
 use Rattle.std.specs.List.{prefix_len}
 use Rattle.mic_base.specs.Name.{is_name, is_name_byte}
 use Rattle.source_text.specs.Reading.{Lexer, lex}
-use Rattle.source_text.specs.Runs.{name_len}
+use Rattle.source_text.specs.Runs.{name_len, quote_len}
 use Rattle.ijvm_tokens.specs.declared.sign.Sign.{Sign}
 use Rattle.ijvm_tokens.specs.declared.token.Token.{Token}
 use Rattle.ijvm_tokens.specs.declared.token.Token.TheVariants as tokens
 use Rattle.ijvm_tokens.specs.Signs.{find_sign}
 use Rattle.ijvm_tokens.specs.Tokens.{begins_number, is_word_byte, number_value}
-
--- a single quote and up to two bytes after it
-abbrev pub quote_len : List ℕ → ℕ
-quote_len [] = 1
-quote_len (b ∷ []) = 2
-quote_len (b ∷ c ∷ rest) = 3
 
 -- a run of letters, digits and `_`, such a run after a `-`, a dotted word, a quote with two bytes, or one byte
 abbrev pub extent : List ℕ → ℕ

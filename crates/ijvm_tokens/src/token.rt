@@ -2,9 +2,10 @@
 
 ghost use Rattle.std.specs.Prelude.{◌≡◌, ◌+◌, ◌<◌, ◌≤◌, ◌↔◌, Some, length, IfOk, IsErrOf, List, ℕ};
 ghost use Rattle.std.specs.List.{prefix_len};
+ghost use Rattle.source_text.specs.Runs.{quote_len};
 ghost use Rattle.ijvm_tokens.specs.declared.token.Token.{Token};
 ghost use Rattle.ijvm_tokens.specs.Tokens.{begins_number, is_word_byte, number_value, SpellsTokens};
-ghost use Rattle.ijvm_tokens.specs.Reading.{name_token, quote_len, read};
+ghost use Rattle.ijvm_tokens.specs.Reading.{name_token, read};
 
 use crate::sign::Sign;
 use mic_base::{Name, Number};

@@ -15,3 +15,9 @@ ends_with passes (b ∷ c ∷ rest) = ends_with passes (c ∷ rest)
 -- how many letters, digits and `_` stand at the front
 abbrev pub name_len : List ℕ → ℕ
 name_len = prefix_len is_name_byte
+
+-- a single quote and up to two bytes after it
+abbrev pub quote_len : List ℕ → ℕ
+quote_len [] = 1
+quote_len (b ∷ []) = 2
+quote_len (b ∷ c ∷ rest) = 3

@@ -8,7 +8,7 @@ use Rattle.std.specs.Str.{bytes_eq}
 use Rattle.std.proofs.lemmas.Bool.{and_parts, and_right, eqb-true, not-true}
 use Rattle.mic_base.specs.Name.{begins_digit, is_name, is_name_byte}
 use Rattle.source_text.specs.Tokens.{is_blank}
-use Rattle.source_text.specs.Runs.{name_len, begins_with}
+use Rattle.source_text.specs.Runs.{name_len, begins_with, quote_len}
 use Rattle.source_text.specs.Fronts.{run_all, run_passes, run_stops}
 use Rattle.source_text.specs.Options.{chosen, find_passes}
 use Rattle.source_text.specs.Spelled.{named, no_name, not_blank_by}
@@ -19,7 +19,7 @@ use Rattle.tiny_lexemes.specs.declared.lexeme.Lexeme.{Lexeme}
 use Rattle.tiny_lexemes.specs.declared.lexeme.Lexeme.TheVariants as lexemes
 use Rattle.tiny_lexemes.specs.Signs.{all_signs, find_sign, sign_text}
 use Rattle.tiny_lexemes.specs.Lexemes.{EndsLexeme, IsBadText, IsLexeme, IsNumberText, MayEnd, begins_number, number_value, tiny}
-use Rattle.tiny_lexemes.specs.Reading.{begins_equal, extent, is_dark, lexer, name_or_bad, number_lexeme, quote_len, sign_or, token_of}
+use Rattle.tiny_lexemes.specs.Reading.{begins_equal, extent, is_dark, lexer, name_or_bad, number_lexeme, sign_or, token_of}
 use Rattle.tiny_lexemes.specs.Reading as reading
 
 -- ---- the signs and the reserved words

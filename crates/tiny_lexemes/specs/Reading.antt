@@ -2,19 +2,13 @@
 use Rattle.std.specs.Prelude.{ℕ, ◌+◌, ◌==◌, ◌||◌, ◌&&◌, not, Bool, false, List, [], ◌∷◌, Option, Some, None, if◌then◌else◌}
 use Rattle.mic_base.specs.Name.{is_name, is_name_byte}
 use Rattle.source_text.specs.Reading.{Lexer, lex}
-use Rattle.source_text.specs.Runs.{begins_with, name_len}
+use Rattle.source_text.specs.Runs.{begins_with, name_len, quote_len}
 use Rattle.source_text.specs.Tokens.{is_blank}
 use Rattle.tiny_draft.specs.declared.token.Sign.{Sign}
 use Rattle.tiny_lexemes.specs.declared.lexeme.Lexeme.{Lexeme}
 use Rattle.tiny_lexemes.specs.declared.lexeme.Lexeme.TheVariants as lexemes
 use Rattle.tiny_lexemes.specs.Signs.{find_sign}
 use Rattle.tiny_lexemes.specs.Lexemes.{begins_number, number_value}
-
--- a single quote and up to two bytes after it
-abbrev pub quote_len : List ℕ → ℕ
-quote_len [] = 1
-quote_len (b ∷ []) = 2
-quote_len (b ∷ c ∷ rest) = 3
 
 abbrev pub begins_equal : List ℕ → Bool
 begins_equal = begins_with (λ b. b == 61)

@@ -1,9 +1,10 @@
 //! The tokens of a line, each from its bytes.
 
 ghost use Rattle.std.specs.Prelude.{◌≡◌, ◌+◌, ◌<◌, ◌≤◌, ◌↔◌, Some, length, List, ℕ};
+ghost use Rattle.source_text.specs.Runs.{quote_len};
 ghost use Rattle.tiny_lexemes.specs.declared.lexeme.Lexeme.{Lexeme};
 ghost use Rattle.tiny_lexemes.specs.Lexemes.{begins_number, number_value, SpellsLexemes};
-ghost use Rattle.tiny_lexemes.specs.Reading.{begins_equal, is_dark, name_or_bad, number_lexeme, quote_len, read};
+ghost use Rattle.tiny_lexemes.specs.Reading.{begins_equal, is_dark, name_or_bad, number_lexeme, read};
 
 use crate::sign::find_sign;
 use mic_base::{Name, Number};
