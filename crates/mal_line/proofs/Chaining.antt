@@ -1,11 +1,13 @@
 -- An assignment is read exactly where one is spelled.
-use Rattle.std.proofs.Common.{◌≡◌, ℕ, suc, ◌+◌, Bool, true, false, List, [], ◌∷◌, ◌++◌, Option, Some, None, length, drop, take, refl, sym, ap, subst, ◌∙◌, arith, inl, inr, cond}
+use Rattle.std.proofs.Common.{◌≡◌, ℕ, ◌+◌, Bool, true, false, List, [], ◌∷◌, ◌++◌, Option, Some, None, length, drop, take, refl, sym, ap, subst, ◌∙◌, inl, inr, cond}
 use Rattle.std.specs.Prelude.{option_map, bit_or, ◌||◌, ◌&&◌, ◌==◌}
 use Rattle.std.specs.List.{prefix_len, list_all}
 use Rattle.std.proofs.lemmas.List.{take-append-drop}
 use Rattle.std.proofs.Math.Seq.{take-append_seam, drop-append_seam}
 use Rattle.std.proofs.lemmas.Bool.{and_parts, or_right}
 use Rattle.mic_words.specs.declared.machine.Machine.{Machine}
+use Rattle.source_text.specs.Runs.{begins_with}
+use Rattle.source_text.specs.Fronts.{run_all, run_passes}
 use Rattle.source_text.specs.Options.{chosen, mapped}
 use Rattle.mal_tokens.specs.declared.word.Word.{Word}
 use Rattle.mal_tokens.specs.declared.sign.Sign.TheVariants as signs
@@ -19,30 +21,6 @@ use Rattle.mal_line.specs.Chains.{bit, dest_bits, dest_tokens, HasCoding, is_des
 use Rattle.mal_line.specs.Lookup.{coding_of}
 use Rattle.mal_line.specs.Reading.{assigned, chain_at, dest_of, last, on_dest, shifting, tail_of}
 use Rattle.mal_line.proofs.Codings.{coding_again, coding_is}
-
--- ---- fronts that pass a test
-
-begins_with : (Token → Bool) → List Token → Bool
-begins_with p [] = false
-begins_with p (x ∷ xs) = p x
-
-prefix_all : (p : Token → Bool) (xs rest : List Token) → list_all p xs ≡ true → begins_with p rest ≡ false → prefix_len p (xs ++ rest) ≡ length xs
-unfolding begins_with
-prefix_all p [] [] h e = refl
-prefix_all p [] (b ∷ rest) h e = rw e refl
-prefix_all p (b ∷ xs) rest h e = go (p b) h (λ k. prefix_all p xs rest k e)
-  where
-    go : (w : Bool) → (w && list_all p xs) ≡ true → (list_all p xs ≡ true → prefix_len p (xs ++ rest) ≡ length xs) → cond w (1 + prefix_len p (xs ++ rest)) 0 ≡ suc (length xs)
-    go true h rec = let r = rec h in omega (arith, r)
-    go false h rec = absurd (cc)
-
-prefix_passes : (p : Token → Bool) (xs : List Token) → list_all p (take (prefix_len p xs) xs) ≡ true
-prefix_passes p [] = refl
-prefix_passes p (b ∷ xs) = go (p b) refl (prefix_passes p xs)
-  where
-    go : (w : Bool) → p b ≡ w → list_all p (take (prefix_len p xs) xs) ≡ true → list_all p (take (cond w (1 + prefix_len p xs) 0) (b ∷ xs)) ≡ true
-    go true h rec = let k : 1 + prefix_len p xs ≡ suc (prefix_len p xs) = omega arith in rw (k, h) rec
-    go false h rec = refl
 
 -- ---- what follows an expression
 
@@ -71,7 +49,6 @@ tail_again tails.Nothing = refl
 tail_again _ = refl
 
 tail_begins : (t : Tail) → begins_with is_expr (tail_tokens t) ≡ false
-unfolding begins_with
 tail_begins tails.Nothing = refl
 tail_begins _ = refl
 
@@ -117,7 +94,7 @@ assigned_is m dests ts a h =
             tail = p.0;
             are = refl;
             some = refl;
-            expr = prefix_passes is_expr ts;
+            expr = run_passes is_expr ts;
             not_empty = w.0;
             spelled = sym (take-append-drop (prefix_len is_expr ts) ts) ∙ ap (λ (r : List Token). take (prefix_len is_expr ts) ts ++ r) (tail_is (drop (prefix_len is_expr ts) ts) p.0 p.1);
             bits = refl;
@@ -129,7 +106,7 @@ assigned_is m dests ts a h =
 assigned_at : (m : Machine) (dests : ℕ) (body : List Token) (t : Tail) → list_all is_expr body ≡ true → (length body == 0) ≡ false
     → assigned m dests (body ++ tail_tokens t) ≡ Some (record { dests = dests; operation = coding_of m body t })
 assigned_at m dests body t all not_empty =
-    let n = prefix_all is_expr body (tail_tokens t) all (tail_begins t) in
+    let n = run_all is_expr body (tail_tokens t) all (tail_begins t) in
     let tk = take-append_seam body (tail_tokens t) in
     let dr = drop-append_seam body (tail_tokens t) in
     rw (n, tk, dr, not_empty, tail_again t) refl
