@@ -4,6 +4,7 @@ use Rattle.std.specs.Prelude.{if◌then◌else◌, IfSome, Ok}
 use Rattle.std.specs.Option.{option_map}
 use Rattle.std.proofs.lemmas.Bool.Decides.{nat_tests}
 use Rattle.std.proofs.lemmas.List.{append-nil, length-append}
+use Rattle.std.proofs.lemmas.Option.{same_Some}
 use Rattle.cli_session.specs.declared.line.Read.TheVariants as reads
 use Rattle.cli_session.specs.Told.{IsFirstLine, ReadsLine, behind_line, line_in}
 
@@ -93,13 +94,10 @@ none_told told line none u = u.told_is ∙ append-nil line ∙ none
 abbrev pub Reading : Option (List ℕ) → List ℕ → Option (List ℕ) → Type 0
 Reading old line left = IfSome old (λ told. (rest : List ℕ) × (left ≡ Some rest) × IsUnderway told line rest)
 
-some_same : {A : Type 0} → (x y : A) → Some x ≡ Some y → x ≡ y
-some_same x y e = cc
-
 -- a byte was taken
 taken : (left left' : Option (List ℕ)) (rest : List ℕ) (b : ℕ) → left ≡ Some rest → left ≡ option_map (λ r. b ∷ r) left' → (more : List ℕ) × (left' ≡ Some more) × (rest ≡ b ∷ more)
 taken left None rest b e f = absurd (let q : Some rest ≡ None = sym e ∙ f in cc)
-taken left (Some more) rest b e f = (more, refl, some_same rest (b ∷ more) (sym e ∙ f))
+taken left (Some more) rest b e f = (more, refl, same_Some rest (b ∷ more) (sym e ∙ f))
 
 pub reading_more : (old left left' : Option (List ℕ)) (line line' : List ℕ) (b : ℕ) → line' ≡ line ++ b ∷ [] → (b == 10) ≡ false → length line < 256 →
     left ≡ option_map (λ r. b ∷ r) left' → Reading old line left → Reading old line' left'

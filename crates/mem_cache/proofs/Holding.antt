@@ -2,7 +2,7 @@
 use Rattle.std.proofs.Common.{◌≡◌, ◌∙◌, sym, ap, subst, refl, ◌⊎◌, inl, inr, ℕ, zero, suc, ◌+◌, ◌*◌, ◌/◌, ◌%◌, ◌<◌, ◌≤◌, List, ◌∷◌, length, map, replicate, arith, Option, Some, None, Bool, true, false, if◌then◌else◌, get_or, slice_get, slice_index, eq-eqb, lt-ltb}
 use Rattle.std.proofs.lemmas.Bool.{cases_eq}
 use Rattle.std.proofs.lemmas.List.{get_or-set_same, get_or-set_other, length-set, map-set, length-map, get_or-map, length-replicate}
-use Rattle.std.proofs.lemmas.Option.{slice_get_within, get_or_from_slice_get, slice_get-get_or}
+use Rattle.std.proofs.lemmas.Option.{slice_get_within, get_or_from_slice_get, slice_get-get_or, same_Some}
 use Rattle.std.proofs.Math.ListN.{set}
 use Rattle.std.proofs.Math.Seq.{map-set_same}
 use Rattle.mem_cache.specs.declared.lines.CacheLine.{CacheLine}
@@ -27,9 +27,6 @@ got lines i j v l e =
       | inr other ↦ inr (other, slice_get-get_or lines j None inside ∙ ap (λ (o : Option CacheLine). Some o) (sym (get_or-set_other lines i j v None other) ∙ is))
     ]
 
-some_same : (x y : CacheLine) → Some x ≡ Some y → x ≡ y
-some_same x y e = cc
-
 module _ (words : List ℕ) (lines : List (Option CacheLine)) (are : AreLines words lines) where
   -- a block is put into its line, with its words
   pub held_after : (line : CacheLine) → HasWords words (Some line) → AreLines words (set lines (line.block % length lines) (Some line))
@@ -45,7 +42,7 @@ module _ (words : List ℕ) (lines : List (Option CacheLine)) (are : AreLines wo
           | inr q ↦ are.hold j l q.1
         ];
         place = λ j l e. elim (got lines (line.block % length lines) j (Some line) l e) [
-          | inl p ↦ rw (n) (ap (λ (x : CacheLine). x.block % length lines) (sym (some_same line l p.1)) ∙ sym p.0)
+          | inl p ↦ rw (n) (ap (λ (x : CacheLine). x.block % length lines) (sym (same_Some line l p.1)) ∙ sym p.0)
           | inr q ↦ rw (n) (are.place j l q.1)
         ];
       }
@@ -118,7 +115,7 @@ module _ (words : List ℕ) (lines : List (Option CacheLine)) (are : AreLines wo
           | inr q ↦ other_words at value l (λ c. q.0 (sym (are.place j l q.1) ∙ ap (λ (x : ℕ). x % length lines) (c ∙ sym b))) (are.hold j l q.1)
         ];
         place = λ j l g. elim (got lines (line.block % length lines) j (Some line') l g) [
-          | inl p ↦ rw (n) (ap (λ (x : CacheLine). x.block % length lines) (sym (some_same line' l p.1)) ∙ sym p.0)
+          | inl p ↦ rw (n) (ap (λ (x : CacheLine). x.block % length lines) (sym (same_Some line' l p.1)) ∙ sym p.0)
           | inr q ↦ rw (n) (are.place j l q.1)
         ];
       }

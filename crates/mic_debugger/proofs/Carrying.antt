@@ -1,6 +1,5 @@
 -- How a plan leads the runs of a session on.
-use Rattle.std.proofs.Common.{◌≡◌, ◌≢◌, ◌⊎◌, ℕ, List, [], Bool, Option, None, Some, Result, Ok, Err, refl, sym, ◌∙◌, subst}
-use Rattle.std.specs.Prelude.{OnOk, OnErr}
+use Rattle.std.proofs.Common.{◌≡◌, ◌≢◌, ◌⊎◌, ℕ, List, [], Bool, Option, None, Some, refl, sym, ◌∙◌, subst}
 use Rattle.mic_base.specs.Causes.{Rose}
 use Rattle.console_port.specs.Console.{Untaken}
 use Rattle.mic_clock.specs.declared.end.End.TheVariants as ends
@@ -22,16 +21,6 @@ use Rattle.mic_debugger.specs.Session.{IsBroken}
 use Rattle.mic_debugger.specs.Stand.{Carries, IsWhole, plan_at, rules_of, stand_in}
 use Rattle.mic_debugger.specs.Outcome.{GoesThrough, NoSinkFailed, SinkFailed, Streams}
 use Rattle.mic_debugger.specs.View.{SessionView}
-
--- what holds where a call returns Ok or Err
-
-pub on_ok_map : {T E : Type 0} (P Q : Type 0) (r : Result T E) → (P → Q) → OnOk r P → OnOk r Q
-on_ok_map P Q (Ok v) f h = f h
-on_ok_map P Q (Err e) f h = tt
-
-pub on_err_map : {T E : Type 0} (P Q : Type 0) (r : Result T E) → (P → Q) → OnErr r P → OnErr r Q
-on_err_map P Q (Ok v) f h = tt
-on_err_map P Q (Err e) f h = f h
 
 -- a sink that failed after none had
 pub failed_after : (out out' out'' err err' err'' : ℕ) → out' ≡ out → err' ≡ err → Rose out' out'' ⊎ Rose err' err'' → Rose out out'' ⊎ Rose err err''

@@ -1,6 +1,7 @@
 -- A text compiles to one program at most, or has one refusal.
-use Rattle.std.proofs.Common.{◌≡◌, ◌∙◌, ℕ, List, Some, None, length, sym, ap, subst, arith}
+use Rattle.std.proofs.Common.{◌≡◌, ◌∙◌, ℕ, List, Some, length, sym, ap, subst, arith}
 use Rattle.std.specs.Prelude.{slice_get}
+use Rattle.std.proofs.lemmas.Option.{none-some, same_Some}
 use Rattle.ijvm_image.specs.Image.{ImageView}
 use Rattle.verifier_facts.specs.Accepted.{VerifiedView}
 use Rattle.verifier_facts.specs.Facts.{IsMainCount}
@@ -15,30 +16,24 @@ use Rattle.tiny_compiler.specs.Image.{ExceedsBy, IsTooLarge}
 
 -- ---- images and limits
 
-some_is : {A : Type 0} → (x y : A) → Some x ≡ Some y → x ≡ y
-some_is x y e = cc
-
 image_once : (program : Program) (p q : ImageView) → IsCodeOf program p → IsCodeOf program q → p ≡ q
 image_once program p q one other =
-    let main : one.main ≡ other.main = some_is one.main other.main (sym one.main_is ∙ other.main_is) in
+    let main : one.main ≡ other.main = same_Some one.main other.main (sym one.main_is ∙ other.main_is) in
     let text : p.text ≡ q.text = one.text ∙ ap (text_of program) main ∙ sym other.text in
     let pool : p.pool ≡ q.pool = one.pool ∙ ap (pool_of program) main ∙ sym other.pool in
     λ i. record { text = text i; pool = pool i }
 
-some_apart : {A : Type 0} → (x : A) → None ≡ Some x → ⊥
-some_apart x e = cc
-
 fits : (program : Program) (image : ImageView) (main : Function) (e : TinyError) → IsCodeOf program image →
     slice_get program.functions program.main ≡ Some main → ExceedsBy program main e → ⊥
 fits program image main (PoolTooLong count) is at exceeds =
-    let same = some_is is.main main (sym is.main_is ∙ at) in
+    let same = same_Some is.main main (sym is.main_is ∙ at) in
     omega (arith, exceeds.0, exceeds.1, is.pool_fits, ap (λ (g : Function). length (pool_of program g)) same)
 fits program image main (TextTooLong size) is at exceeds =
-    let same = some_is is.main main (sym is.main_is ∙ at) in
+    let same = same_Some is.main main (sym is.main_is ∙ at) in
     omega (arith, exceeds.1, exceeds.2, is.text_fits, ap (λ (g : Function). length (text_of program g)) same)
 fits program image main (JumpTooFar line far) is at exceeds =
-    let same = some_is is.main main (sym is.main_is ∙ at) in
-    some_apart (line, far) (sym is.jumps_fit ∙ ap (λ (g : Function). first_far (jumps program g)) same ∙ exceeds.2)
+    let same = same_Some is.main main (sym is.main_is ∙ at) in
+    none-some (line, far) (sym is.jumps_fit ∙ ap (λ (g : Function). first_far (jumps program g)) same ∙ exceeds.2)
 fits program image main _ is at exceeds = exceeds
 
 -- ---- the first limit
@@ -56,7 +51,7 @@ one_limit program main (TextTooLong a) (JumpTooFar line far) f g = absurd (omega
 one_limit program main (JumpTooFar line far) (PoolTooLong b) f g = absurd (omega (arith, g.0, g.1, f.0))
 one_limit program main (JumpTooFar line far) (TextTooLong b) f g = absurd (omega (arith, g.1, g.2, f.1))
 one_limit program main (JumpTooFar line far) (JumpTooFar other more) f g =
-    ap (λ (j : Jump). JumpTooFar j.0 j.1) (some_is (line, far) (other, more) (sym f.2 ∙ g.2))
+    ap (λ (j : Jump). JumpTooFar j.0 j.1) (same_Some (line, far) (other, more) (sym f.2 ∙ g.2))
 one_limit program main (PoolTooLong a) _ f g = absurd g
 one_limit program main (TextTooLong a) _ f g = absurd g
 one_limit program main (JumpTooFar line far) _ f g = absurd g
@@ -90,5 +85,5 @@ module _
   refused_once text d e (TooLarge p spelled f) (TooLarge q spelled' g) =
       let same : p ≡ q = one_program text p q spelled spelled' in
       let f' : IsTooLarge q d = subst (λ (x : Program). IsTooLarge x d) same f in
-      let main : f'.0 ≡ g.0 = some_is f'.0 g.0 (sym f'.1 ∙ g.1) in
+      let main : f'.0 ≡ g.0 = same_Some f'.0 g.0 (sym f'.1 ∙ g.1) in
       one_limit q g.0 d e (subst (λ (x : Function). ExceedsBy q x d) main f'.2) g.2

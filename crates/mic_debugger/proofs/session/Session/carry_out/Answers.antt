@@ -1,4 +1,5 @@
 use Rattle.std.proofs.Common.{subst}
+use Rattle.std.proofs.lemmas.Result.{on_err_weaker, on_ok_weaker}
 use Rattle.cli_outside.specs.Outside.{sink_of}
 use Rattle.mic_debugger.specs.declared.plan.Plan.{Plan}
 use Rattle.mic_debugger.specs.declared.plan.Plan.TheVariants as plans
@@ -6,7 +7,6 @@ use Rattle.mic_debugger.specs.Obeys.{IsCarriedOut, IsPlanBroken}
 use Rattle.mic_debugger.specs.Outcome.{Streams, streams}
 use Rattle.mic_debugger.specs.View.{SessionView}
 use Rattle.mic_debugger.proofs.Breaking.{shown_broken, shown_carried}
-use Rattle.mic_debugger.proofs.Carrying.{on_err_map, on_ok_map}
 use Rattle.mic_debugger.proofs.session.Session.carry_out.Given.{Over}
 use Rattle.mic_debugger.proofs.session.Session.carry_out.Goals as goal
 
@@ -21,7 +21,7 @@ returns-in-Clock-clause-done g c =
     let plan : Plan = plans.Clock c.in-Clock.until c.in-Clock.times in
     let done = rw c.as_slice.ensures at c.clock.ensures.done in
     rw c.in-Clock.is
-    (on_ok_map _ _ c.clock.result
+    (on_ok_weaker c.clock.result
     (λ by. subst (λ (v : SessionView g.row.M.Denot). IsCarriedOut g.M.Clocked.state g.M.Clocked.meaning v c.clock.new.board at at' plan) c.self.view_is (by c.self.inside.watched)) done)
 
 pub returns-in-Clock-clause-broken : goal.returns-in-Clock-clause-broken
@@ -31,7 +31,7 @@ returns-in-Clock-clause-broken g c =
     let plan : Plan = plans.Clock c.in-Clock.until c.in-Clock.times in
     let broken = rw c.as_slice.ensures at c.clock.ensures.broken in
     rw c.in-Clock.is
-    (on_err_map _ _ c.clock.result
+    (on_err_weaker c.clock.result
     (λ by. subst (λ (v : SessionView g.row.M.Denot). IsPlanBroken g.M.Clocked.state g.M.Clocked.meaning v c.clock.new.board at at' plan) c.self.view_is (by c.self.inside.watched)) broken)
 
 pub returns-in-Ok-clause-done : goal.returns-in-Ok-clause-done
