@@ -1,7 +1,6 @@
 -- What a session shows of its board where nothing is clocked.
-use Rattle.std.specs.Prelude.{◌≡◌, ℕ, List, ◌++◌, Option, Result, codes}
+use Rattle.std.specs.Prelude.{ℕ, List, ◌++◌, Option, Result, codes}
 use Rattle.mic_base.specs.Streams.{Puts}
-use Rattle.console_port.specs.View.{BusView}
 use Rattle.mic_clock.specs.declared.registers.Registers.{Registers}
 use Rattle.mic_clock.specs.Meaning.{Meaning}
 use Rattle.mic_clock.specs.State.{state_line}
@@ -28,7 +27,3 @@ module _ {M State : Type 0} (state : M → State) (m : Meaning State) where
   PutsShown held v err err' result shown =
       ByBook v.listing (λ book.
       Puts (held err) (shown_text book v.listing.memory (registers_on v.board) v.board.counts v.board.bus.words shown) result (held err'))
-
--- a flush leaves the memory, and whether the end of input was met
-abbrev pub KeepsMemoryAndInput : BusView → BusView → Type 0
-KeepsMemoryAndInput bus bus' = (bus'.words ≡ bus.words) × (bus'.console.ended ≡ bus.console.ended)

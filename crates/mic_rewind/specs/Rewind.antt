@@ -16,10 +16,6 @@ pub record RewindView (M : Type 0) : Type 0 where
   pub board : BoardView M
   pub history : HistoryView
 
--- a flush leaves the memory, and whether the end of input was met
-abbrev pub KeepsMemoryAndInput : BusView → BusView → Type 0
-KeepsMemoryAndInput bus bus' = (bus'.words ≡ bus.words) × (bus'.console.ended ≡ bus.console.ended)
-
 -- where a flush fails, the bus stands for what it stood for, whatever the source may have left
 abbrev pub StandsOnErr : {K : Type 0} → (K → Option (List ℕ)) → K → BusView → K → BusView → Result Unit BusFault → Type 0
 StandsOnErr held sink bus sink' bus' result = (left : Option (List ℕ)) → IfErr result (Stands left (held sink) bus left (held sink') bus')

@@ -3,9 +3,10 @@
 ghost use Rattle.std.specs.Prelude.{◌≡◌, ◌≢◌, ◌≤◌, ◌<◌, ◌+◌, ◌^◌, [], Err, IfOk, IfErr, OnOk, true, false, length, slice_get};
 ghost use Rattle.console_port.specs.Console.{HasFaultCause};
 ghost use Rattle.console_port.specs.Streams.{SinkGoesOn};
+ghost use Rattle.console_port.specs.View.{KeepsMemoryAndInput};
 ghost use Rattle.mic_clock.specs.Board.{GoesOn, ShowsAs};
 ghost use Rattle.mic_rewind.specs.View.{GoesBack, history_of};
-ghost use Rattle.mic_rewind.specs.Rewind.{ClocksOn, KeepsMemoryAndInput, MovesOn, StandsOnErr, moment_of, state_of};
+ghost use Rattle.mic_rewind.specs.Rewind.{ClocksOn, MovesOn, StandsOnErr, moment_of, state_of};
 
 use crate::history::History;
 use crate::moment::Moment;
