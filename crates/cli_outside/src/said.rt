@@ -1,8 +1,8 @@
 //! Texts that are put to a sink.
 
-ghost use Rattle.std.specs.Prelude.{◌≡◌, ℕ, List, OnOk};
+ghost use Rattle.std.specs.Prelude.{◌≡◌, ℕ, OnOk};
 ghost use Rattle.mic_base.specs.Causes.{HasCause};
-ghost use Rattle.mic_base.specs.Streams.{Holds, IsFlushed};
+ghost use Rattle.mic_base.specs.Streams.{IsFlushed, KeepsFront};
 ghost use Rattle.cli_outside.specs.Status as exits;
 ghost use Rattle.cli_outside.specs.Messages.{message, out_of_memory};
 ghost use Rattle.cli_outside.specs.Outside.{PutsBehind, SaysTo, StaysPut};
@@ -19,7 +19,7 @@ pub fn put_after<E: Sink>(
     piece: &[u8],
 ) -> Result<(), SinkFailed>
     ensures puts { PutsBehind said (E.held err.old) piece.now result (E.held err.new) }
-    ensures keeps { (front : List ℕ) → Holds front (E.held err.old) → Holds front (E.held err.new) }
+    ensures keeps { KeepsFront (E.held err.old) (E.held err.new) }
     ensures passed { E.passed err.new ≡ E.passed err.old }
     ensures cause { (before : ℕ) → HasCause before (E.faults err.old) said → HasCause before (E.faults err.new) result }
 {

@@ -4,7 +4,7 @@ use Rattle.std.specs.Prelude.{OnErr, OnOk}
 use Rattle.std.specs.Option.{option_map}
 use Rattle.std.proofs.lemmas.List.{append-nil}
 use Rattle.std.proofs.Math.Seq.{take-length}
-use Rattle.mic_base.specs.Streams.{Holds, IsFlushed}
+use Rattle.mic_base.specs.Streams.{Holds, IsFlushed, KeepsFront}
 use Rattle.mic_base.specs.Causes.{HasCause, Rose}
 use Rattle.console_port.specs.Console.{IsLost}
 use Rattle.console_port.specs.World.{World}
@@ -109,8 +109,7 @@ module _ {M State : Type 0} (state : M → State) (m : Meaning State) where
   -- ---- a text that was put, and then passed on or not
 
   module _ (text : List ℕ) (v v' : RewindView M) (out out' err put err' : SinkState) (passed : IsPassedOn state m v v' out out')
-      (got : Got err.held text put.held) (keeps : (front : List ℕ) → Holds front err.held →
-      Holds front put.held) (quiet : put.faults ≡ err.faults) (same : err'.held ≡ put.held) where
+      (got : Got err.held text put.held) (keeps : KeepsFront err.held put.held) (quiet : put.faults ≡ err.faults) (same : err'.held ≡ put.held) where
     pub told_whole : {T E : Type 0} (r : Result T E) → OnOk r (IsFlushed err'.held err'.passed) → HasCause put.faults err'.faults r →
         OnOk r (IsTold state m text v v' out out' err err')
     told_whole (Ok u) flushed cause = record { passed = passed; got = same ∙ got; flushed = flushed; faults = cause.quiet ∙ quiet }

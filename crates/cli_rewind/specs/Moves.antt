@@ -3,7 +3,7 @@ use Rattle.std.specs.Prelude.{◌≡◌, ◌≢◌, ◌≤◌, ◌⊎◌, ◌+�
 use Rattle.console_port.specs.Console.{StaysFlushed}
 use Rattle.mic_base.specs.Causes.{Rose}
 use Rattle.mic_base.specs.Plain.{plain_left}
-use Rattle.mic_base.specs.Streams.{Holds, IsFlushed}
+use Rattle.mic_base.specs.Streams.{IsFlushed, KeepsFront}
 use Rattle.mic_base.specs.declared.plain.source.PlainSource.{PlainSource}
 use Rattle.mic_clock.specs.declared.end.End.{End}
 use Rattle.mic_clock.specs.declared.end.End.TheVariants as ends
@@ -42,12 +42,12 @@ module _ {M State : Type 0} (state : M → State) (m : Meaning State) where
     pub moved : IsMoved most old.rewind new.rewind
     pub flushed : StaysFlushed old.out.held old.out.passed new.out.held new.out.passed
     pub faults : new.out.faults ≡ old.out.faults
-    pub keeps : (front : List ℕ) → Holds front old.out.held → Holds front new.out.held
+    pub keeps : KeepsFront old.out.held new.out.held
 
   -- `out` failed. Of each stand that was shown this holds, by what `out` holds now.
   pub record WasCut (old new : Scene M) (Cuts : Stand State → Option (List ℕ) → Type 0) : Type 0 where
     pub cuts : (s : Stand State) → IsShown old s → Cuts s new.out.held
-    pub keeps : (front : List ℕ) → Holds front old.out.held → Holds front new.out.held
+    pub keeps : KeepsFront old.out.held new.out.held
     pub rose : Rose old.out.faults new.out.faults
 
   -- each stand that was shown is followed by the one this many cycles back, whatever the input has left and `out` holds
@@ -98,13 +98,13 @@ module _ {M State : Type 0} (state : M → State) (m : Meaning State) where
     pub kept : new.board.bus.console.kept ≡ []
     pub flushed : StaysFlushed out.held out.passed out'.held out'.passed
     pub faults : out'.faults ≡ out.faults
-    pub keeps : (front : List ℕ) → Holds front out.held → Holds front out'.held
+    pub keeps : KeepsFront out.held out'.held
 
   -- `out` holds a front of what was given, and what it held before
   pub record IsFront (old : RewindView M) (out out' : SinkState) : Type 0 where
     pub front : (left : Option (List ℕ)) (s : Stand State) → StandsAt state m left out.held old s →
         IsFrontOf out'.held (run_at m old.board.store.words s.start s.clocked).world.given
-    pub keeps : (front : List ℕ) → Holds front out.held → Holds front out'.held
+    pub keeps : KeepsFront out.held out'.held
 
   -- the text was put whole
   pub record IsTold (text : List ℕ) (old new : RewindView M) (out out' err err' : SinkState) : Type 0 where
@@ -117,7 +117,7 @@ module _ {M State : Type 0} (state : M → State) (m : Meaning State) where
   pub record IsToldInPart (text : List ℕ) (old : RewindView M) (out out' err err' : SinkState) : Type 0 where
     pub out_front : IsFront old out out'
     pub got : GotInPart err.held text err'.held
-    pub keeps : (front : List ℕ) → Holds front err.held → Holds front err'.held
+    pub keeps : KeepsFront err.held err'.held
     pub rose : Rose out.faults out'.faults ⊎ Rose err.faults err'.faults
 
 -- these relations for a sink, by what it shows of itself

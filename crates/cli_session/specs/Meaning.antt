@@ -1,7 +1,7 @@
 -- What the lines of a session do: where they lead it, one after the other, and what a failing sink leaves.
 use Rattle.std.specs.Prelude.{◌≡◌, ◌⊎◌, ℕ, suc, Bool, List, [], ◌∷◌, ◌++◌, Option, IfSome}
 use Rattle.mic_base.specs.Causes.{Rose}
-use Rattle.mic_base.specs.Streams.{Holds}
+use Rattle.mic_base.specs.Streams.{KeepsFront}
 use Rattle.console_port.specs.Console.{StaysFlushed}
 use Rattle.cli_outside.specs.Outside.{Got, LentView, OutsideView}
 
@@ -74,8 +74,8 @@ module _ {Seen Rules Stand : Type 0} (m : SessionMeaning Seen Rules Stand) where
   -- `out` or `err` failed in this line: both hold all that they held before it, and then fronts of what it gives and prints
   pub record IsCutShort (line : List ℕ) (old : Place Seen) (new : OutsideView) : Type 0 where
     pub breaks : BreaksOff line old new
-    pub keeps_out : (front : List ℕ) → Holds front old.seen.out.held → Holds front new.out.held
-    pub keeps_err : (front : List ℕ) → Holds front old.seen.err.held → Holds front new.err.held
+    pub keeps_out : KeepsFront old.seen.out.held new.out.held
+    pub keeps_err : KeepsFront old.seen.err.held new.err.held
     pub files : new.files ≡ old.seen.files
     pub rose : Rose old.seen.out.faults new.out.faults ⊎ Rose old.seen.err.faults new.err.faults
 

@@ -1,7 +1,7 @@
 -- How a call on the board of a session comes out, between the input of its program and the two sinks.
 use Rattle.std.specs.Prelude.{◌≡◌, ◌≢◌, ◌⊎◌, ℕ, List, Option, None, Some, Result, OnOk, OnErr}
 use Rattle.mic_base.specs.Causes.{Rose}
-use Rattle.mic_base.specs.Streams.{Holds}
+use Rattle.mic_base.specs.Streams.{KeepsFront}
 use Rattle.console_port.specs.Console.{StaysFlushed}
 use Rattle.mic_clock.specs.declared.end.End.TheVariants as ends
 use Rattle.mic_clock.specs.Run.{MicroRun}
@@ -24,8 +24,8 @@ streams left fails input held passed faults out held' passed' faults' err =
 
 -- what both sinks held stays in front
 pub record KeepFronts (out_old out_new err_old err_new : Option (List ℕ)) : Type 0 where
-  pub out : (front : List ℕ) → Holds front out_old → Holds front out_new
-  pub err : (front : List ℕ) → Holds front err_old → Holds front err_new
+  pub out : KeepsFront out_old out_new
+  pub err : KeepsFront err_old err_new
 
 -- No sink failed, and `out` has passed on all that it holds, where it had before
 pub record NoSinkFailed (old new : Streams) : Type 0 where

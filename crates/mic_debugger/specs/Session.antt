@@ -1,7 +1,7 @@
 -- Where a session leads a board, and what it prints.
 use Rattle.std.specs.Prelude.{◌≡◌, ◌≢◌, ◌⊎◌, ℕ, ◌+◌, ◌<◌, Bool, true, List, ◌++◌, Option, Some, None, Result, OnOk, OnErr, IfOk}
 use Rattle.mic_base.specs.Causes.{HasCause, Rose}
-use Rattle.mic_base.specs.Streams.{Holds, Puts}
+use Rattle.mic_base.specs.Streams.{KeepsFront, Puts}
 use Rattle.mic_clock.specs.declared.counts.Counts.{Counts}
 use Rattle.mic_clock.specs.declared.end.End.{End}
 use Rattle.mic_clock.specs.Meaning.{Meaning}
@@ -58,7 +58,7 @@ pub record IsPrinted {M State E X : Type 0} (state : M → State) (m : Meaning S
   pub front : OnErr result (board'.end ≢ Some ends.WriteFault → (book : Book) → IsBookOf listing book →
       GotInPart (held err) (text_between state m book breaks u board board') (held err'))
   pub silent : board'.end ≡ Some ends.WriteFault → err' ≡ err
-  pub keeps : (front : List ℕ) → Holds front (held err) → Holds front (held err')
+  pub keeps : KeepsFront (held err) (held err')
   pub cause : board'.end ≢ Some ends.WriteFault → HasCause (faults err) (faults err') result
 
 -- what a sink holds is a front of what each run gave that a board showed

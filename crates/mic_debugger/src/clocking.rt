@@ -1,9 +1,9 @@
 //! The clocking commands, turn by turn.
 
-ghost use Rattle.std.specs.Prelude.{◌≡◌, ◌⊎◌, ◌<◌, ◌≤◌, ◌+◌, ◌^◌, ◌==◌, ◌-◌, ℕ, List, Option, Some, None, OnOk, OnErr, IsSome, false, true};
+ghost use Rattle.std.specs.Prelude.{◌≡◌, ◌⊎◌, ◌<◌, ◌≤◌, ◌+◌, ◌^◌, ◌==◌, ◌-◌, ℕ, Option, Some, None, OnOk, OnErr, IsSome, false, true};
 ghost use Rattle.std.specs.List.{list_any};
 ghost use Rattle.mic_base.specs.Causes.{HasCause};
-ghost use Rattle.mic_base.specs.Streams.{Holds};
+ghost use Rattle.mic_base.specs.Streams.{KeepsFront};
 ghost use Rattle.mic_clock.specs.Run.{number_of};
 ghost use Rattle.mic_clock.specs.Board.{GoesOn, IsCountedTurn, IsTurned, RunIsCutByRead, TurnIsCut};
 ghost use Rattle.mic_debugger.specs.InTime.{InTime};
@@ -125,7 +125,7 @@ impl Clocking<'_> {
         requires { mpc < 512 }
         ensures puts { PutsTurn M.state M.meaning E.held self.now.listing.now self.now.breaks.now self.now.until
             mpc board.now err.old err.new result }
-        ensures keeps { (front : List ℕ) → Holds front (E.held err.old) → Holds front (E.held err.new) }
+        ensures keeps { KeepsFront (E.held err.old) (E.held err.new) }
         ensures passed { E.passed err.new ≡ E.passed err.old }
         ensures cause { HasCause (E.faults err.old) (E.faults err.new) result }
     {

@@ -1,8 +1,8 @@
 //! Lines of a session that are put to a sink.
 
-ghost use Rattle.std.specs.Prelude.{◌≡◌, ◌++◌, ◌<◌, ◌+◌, ◌^◌, ℕ, List};
+ghost use Rattle.std.specs.Prelude.{◌≡◌, ◌++◌, ◌<◌, ◌+◌, ◌^◌};
 ghost use Rattle.mic_base.specs.Causes.{HasCause};
-ghost use Rattle.mic_base.specs.Streams.{Holds, Puts};
+ghost use Rattle.mic_base.specs.Streams.{KeepsFront, Puts};
 ghost use Rattle.cli_session.specs.Texts.{word_line};
 ghost use Rattle.mic_debugger.specs.Lines.{registers_line, word_lines};
 
@@ -15,7 +15,7 @@ use mic_clock::{Registers, print_state};
 /// Puts one piece after another.
 pub(crate) fn put_two<E: Sink>(err: &mut E, first: &[u8], second: &[u8]) -> Result<(), SinkFailed>
     ensures puts { Puts (E.held err.old) (first.now ++ second.now) result (E.held err.new) }
-    ensures keeps { (front : List ℕ) → Holds front (E.held err.old) → Holds front (E.held err.new) }
+    ensures keeps { KeepsFront (E.held err.old) (E.held err.new) }
     ensures passed { E.passed err.new ≡ E.passed err.old }
     ensures cause { HasCause (E.faults err.old) (E.faults err.new) result }
 {
@@ -52,7 +52,7 @@ pub(crate) fn put_words<E: Sink>(
 ) -> Result<(), SinkFailed>
     requires { first + count < 2 ^ 32 }
     ensures puts { Puts (E.held err.old) (word_lines bus.now.words first count) result (E.held err.new) }
-    ensures keeps { (front : List ℕ) → Holds front (E.held err.old) → Holds front (E.held err.new) }
+    ensures keeps { KeepsFront (E.held err.old) (E.held err.new) }
     ensures passed { E.passed err.new ≡ E.passed err.old }
     ensures cause { HasCause (E.faults err.old) (E.faults err.new) result }
 {

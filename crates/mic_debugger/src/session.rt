@@ -1,8 +1,8 @@
 //! A session: a board, what names its words and instructions, and what the student has set.
 
-ghost use Rattle.std.specs.Prelude.{◌≡◌, ◌≤◌, ◌+◌, ◌^◌, ◌++◌, ℕ, List, [], Some, None, OnOk, OnErr, IfOk, IsErr, min, codes};
+ghost use Rattle.std.specs.Prelude.{◌≡◌, ◌≤◌, ◌+◌, ◌^◌, ◌++◌, ℕ, [], Some, None, OnOk, OnErr, IfOk, IsErr, min, codes};
 ghost use Rattle.mic_base.specs.Causes.{HasCause};
-ghost use Rattle.mic_base.specs.Streams.{Holds, IsFlushed, Puts};
+ghost use Rattle.mic_base.specs.Streams.{IsFlushed, KeepsFront, Puts};
 ghost use Rattle.store_placement.specs.Placement.{Places};
 ghost use Rattle.store_placement.specs.Program.{demands_of, IsFilled};
 ghost use Rattle.console_port.specs.Streams.{SinkGoesOn};
@@ -167,7 +167,7 @@ impl<M: Clocked> Session<M> {
     /// Puts the registers.
     fn put_registers<E: Sink>(&self, err: &mut E) -> Result<(), SinkFailed>
         ensures puts { Puts (E.held err.old) (registers_text M.state M.meaning self.now.board) result (E.held err.new) }
-        ensures keeps { (front : List ℕ) → Holds front (E.held err.old) → Holds front (E.held err.new) }
+        ensures keeps { KeepsFront (E.held err.old) (E.held err.new) }
         ensures cause { HasCause (E.faults err.old) (E.faults err.new) result }
     {
         let mpc = self.board.mpc();
@@ -179,7 +179,7 @@ impl<M: Clocked> Session<M> {
     /// Puts where the run stands.
     fn put_where<E: Sink>(&self, err: &mut E) -> Result<(), SinkFailed>
         ensures puts { PutsShown M.state M.meaning E.held self.now err.old err.new result Shown.Where }
-        ensures keeps { (front : List ℕ) → Holds front (E.held err.old) → Holds front (E.held err.new) }
+        ensures keeps { KeepsFront (E.held err.old) (E.held err.new) }
         ensures cause { HasCause (E.faults err.old) (E.faults err.new) result }
     {
         let mut line = Line::new();
@@ -192,7 +192,7 @@ impl<M: Clocked> Session<M> {
     #[tactic(auto, unfolding(crate::specs::Lines::stack_text))]
     fn put_stack<E: Sink>(&self, err: &mut E) -> Result<(), SinkFailed>
         ensures puts { Puts (E.held err.old) (stack_of M.state M.meaning self.now) result (E.held err.new) }
-        ensures keeps { (front : List ℕ) → Holds front (E.held err.old) → Holds front (E.held err.new) }
+        ensures keeps { KeepsFront (E.held err.old) (E.held err.new) }
         ensures cause { HasCause (E.faults err.old) (E.faults err.new) result }
     {
         let registers = self.board.registers();
@@ -204,7 +204,7 @@ impl<M: Clocked> Session<M> {
     /// Puts what is shown where nothing is clocked.
     fn show<E: Sink>(&self, shown: Shown, err: &mut E) -> Result<(), SinkFailed>
         ensures puts { PutsShown M.state M.meaning E.held self.now err.old err.new result shown }
-        ensures keeps { (front : List ℕ) → Holds front (E.held err.old) → Holds front (E.held err.new) }
+        ensures keeps { KeepsFront (E.held err.old) (E.held err.new) }
         ensures cause { HasCause (E.faults err.old) (E.faults err.new) result }
     {
         match shown {

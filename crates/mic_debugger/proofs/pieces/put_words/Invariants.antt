@@ -1,6 +1,6 @@
-use Rattle.std.proofs.Common.{◌≡◌, List, ℕ}
+use Rattle.std.proofs.Common.{◌≡◌}
 use Rattle.mic_base.specs.Causes.{HasCause}
-use Rattle.mic_base.specs.Streams.{Holds, Puts}
+use Rattle.mic_base.specs.Streams.{KeepsFront, Puts}
 use Rattle.mic_debugger.specs.Lines.{word_lines}
 use Rattle.mic_debugger.proofs.pieces.put_words.Given as goal
 
@@ -8,7 +8,7 @@ use Rattle.mic_debugger.proofs.pieces.put_words.Given as goal
 abbrev pub invariant-loop-n : goal.invariant-loop-n
 invariant-loop-n g l = record {
   puts : Puts (g.E.Sink.held l.fn.err) (word_lines l.bus.words l.first l.n) l.said (g.E.Sink.held l.err);
-  keeps : (front : List ℕ) → Holds front (g.E.Sink.held l.fn.err) → Holds front (g.E.Sink.held l.err);
+  keeps : KeepsFront (g.E.Sink.held l.fn.err) (g.E.Sink.held l.err);
   passed : g.E.Sink.passed l.err ≡ g.E.Sink.passed l.fn.err;
   cause : HasCause (g.E.Sink.faults l.fn.err) (g.E.Sink.faults l.err) l.said;
 }
