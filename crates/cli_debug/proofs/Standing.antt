@@ -18,6 +18,7 @@ use Rattle.mic_debugger.specs.declared.table.Verb.TheVariants as verbs
 use Rattle.cli_session.specs.declared.reading.CommandError.TheVariants.{BadCommand, BadNumber}
 use Rattle.cli_session.specs.declared.reading.Command.{Command}
 use Rattle.cli_session.specs.declared.reading.CommandError.{CommandError}
+use Rattle.cli_session.specs.Commands.{is_quit_in}
 use Rattle.cli_session.specs.Meaning.{Gone, place}
 use Rattle.mic_debugger.specs.Book.{IsBookOf}
 use Rattle.mic_debugger.specs.Commands.{command_of}
@@ -27,7 +28,7 @@ use Rattle.mic_debugger.specs.Session.{HasReadCause}
 use Rattle.mic_debugger.specs.View.{ListingView, SessionView}
 use Rattle.mic_debugger.specs.Stand.{Does, Rules, Stand, StandsAt, rules_of, stand_in}
 use Rattle.mic_debugger.specs.Outcome.{Streams}
-use Rattle.cli_debug.specs.Stand.{is_quit, is_quit_reply, is_quit_in, is_quit_verb}
+use Rattle.cli_debug.specs.Stand.{is_quit, is_quit_reply, is_quit_verb}
 use Rattle.cli_outside.specs.Outside.{OutsideView, source_state}
 use Rattle.cli_debug.specs.Debugging.{debugging, debugging_view}
 
@@ -82,7 +83,7 @@ verb_quits end breaks watched memory verbs.Break n = full_quits (is_full_for bre
 verb_quits end breaks watched memory _ n = refl
 
 line_quits : (end : Option End) (breaks : List ℕ) (watched : Option ℕ) (memory : List ℕ) (read : Result (Option (Command Verb)) CommandError) →
-    is_quit_reply (reply_of (plan_of end breaks watched memory read)) ≡ is_quit_in read
+    is_quit_reply (reply_of (plan_of end breaks watched memory read)) ≡ is_quit_in is_quit_verb read
 line_quits end breaks watched memory (Ok None) = refl
 line_quits end breaks watched memory (Ok (Some c)) = verb_quits end breaks watched memory c.verb c.number
 line_quits end breaks watched memory (Err BadCommand) = refl

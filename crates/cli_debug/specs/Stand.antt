@@ -1,15 +1,14 @@
 -- What a failing sink leaves of a line of the debugger, and which line ends it.
-use Rattle.std.specs.Prelude.{ℕ, Bool, true, false, List, Option, Some, None, Result, Ok, Err}
+use Rattle.std.specs.Prelude.{ℕ, Bool, true, false, List, Option}
 use Rattle.mic_clock.specs.Meaning.{Meaning}
 use Rattle.mic_clock.specs.Run.{MicroRun}
-use Rattle.cli_session.specs.declared.reading.Command.{Command}
-use Rattle.cli_session.specs.declared.reading.CommandError.{CommandError}
 use Rattle.mic_debugger.specs.declared.reply.Reply.{Reply}
 use Rattle.mic_debugger.specs.declared.reply.Reply.TheVariants as replies
 use Rattle.mic_debugger.specs.declared.table.Verb.{Verb}
 use Rattle.mic_debugger.specs.declared.table.Verb.TheVariants as verbs
 use Rattle.mic_debugger.specs.Commands.{command_of}
 use Rattle.mic_debugger.specs.Stand.{Carries, Does, IsPart, Rules, Stand, plan_at}
+use Rattle.cli_session.specs.Commands.{is_quit_in}
 use Rattle.cli_session.specs.Giving.{OnlyGives}
 use Rattle.cli_session.specs.Meaning.{IsFrontOf}
 use Rattle.cli_outside.specs.Outside.{GotInPart}
@@ -20,14 +19,9 @@ abbrev pub is_quit_verb : Verb → Bool
 is_quit_verb verbs.Quit = true
 is_quit_verb verb = false
 
-abbrev pub is_quit_in : Result (Option (Command Verb)) CommandError → Bool
-is_quit_in (Ok (Some c)) = is_quit_verb c.verb
-is_quit_in (Ok None) = false
-is_quit_in (Err e) = false
-
 -- whether a line quits, over a memory of this many words
 abbrev pub is_quit : ℕ → List ℕ → Bool
-is_quit memory line = is_quit_in (command_of memory line)
+is_quit memory line = is_quit_in is_quit_verb (command_of memory line)
 
 abbrev pub is_quit_reply : Reply → Bool
 is_quit_reply replies.Quit = true

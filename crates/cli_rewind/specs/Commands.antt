@@ -1,9 +1,9 @@
 -- The commands of a session that rewinds: their table, and how a line is read by it.
-use Rattle.std.specs.Prelude.{ℕ, Bool, true, false, List, [], ◌∷◌, Option, Some, None, Result, Ok, Err}
+use Rattle.std.specs.Prelude.{ℕ, Bool, true, false, List, [], ◌∷◌, Option, Result}
 use Rattle.cli_session.specs.declared.reading.Command.{Command}
 use Rattle.cli_session.specs.declared.reading.CommandError.{CommandError}
 use Rattle.cli_session.specs.declared.table.Argument.TheVariants as arguments
-use Rattle.cli_session.specs.Commands.{command_in}
+use Rattle.cli_session.specs.Commands.{command_in, is_quit_in}
 use Rattle.cli_session.specs.Table.{CommandForm, command_form}
 use Rattle.cli_rewind.specs.declared.table.Verb.{Verb}
 use Rattle.cli_rewind.specs.declared.table.Verb.TheVariants as verbs
@@ -28,11 +28,6 @@ abbrev pub is_quit_verb : Verb → Bool
 is_quit_verb verbs.Quit = true
 is_quit_verb verb = false
 
-abbrev pub is_quit_in : Result (Option (Command Verb)) CommandError → Bool
-is_quit_in (Ok (Some c)) = is_quit_verb c.verb
-is_quit_in (Ok None) = false
-is_quit_in (Err e) = false
-
 -- over a memory of this many words
 abbrev pub is_quit : ℕ → List ℕ → Bool
-is_quit memory line = is_quit_in (command_of memory line)
+is_quit memory line = is_quit_in is_quit_verb (command_of memory line)

@@ -1,7 +1,8 @@
 //! The table of a session's commands: the word of each, and what follows it.
 
 ghost use Rattle.std.specs.Prelude.{◌≡◌};
-ghost use Rattle.cli_rewind.specs.Commands.{command_of, is_quit_in};
+ghost use Rattle.cli_session.specs.Commands.{is_quit_in};
+ghost use Rattle.cli_rewind.specs.Commands.{command_of, is_quit_verb};
 
 use cli_session::{Argument, Command, CommandError, CommandRow};
 
@@ -48,7 +49,7 @@ pub(crate) fn read_command(line: &[u8], words: u32) -> Result<Option<Command<Ver
 
 /// Whether what was read ends the session.
 pub(crate) fn is_quit(read: Result<Option<Command<Verb>>, CommandError>) -> bool
-    ensures { result ≡ is_quit_in read }
+    ensures { result ≡ is_quit_in is_quit_verb read }
 {
     match read {
         Ok(Some(command)) => command.verb == Verb::Quit,

@@ -1,5 +1,5 @@
 -- How a line is read as a command of a table.
-use Rattle.std.specs.Prelude.{ℕ, ℤ, pos, negsuc, ◌==◌, ◌&&◌, ◌||◌, Bool, not, List, length, take, drop, nat_le, nat_lt, if◌then◌else◌, Option, Some, None, Result, Ok, Err}
+use Rattle.std.specs.Prelude.{ℕ, ℤ, pos, negsuc, ◌==◌, ◌&&◌, ◌||◌, Bool, false, not, List, length, take, drop, nat_le, nat_lt, if◌then◌else◌, Option, Some, None, Result, Ok, Err}
 use Rattle.std.specs.List.{prefix_len}
 use Rattle.mic_base.specs.Number.{number_of}
 use Rattle.mic_base.specs.declared.number.NumberError.{NumberError}
@@ -69,3 +69,9 @@ module _ {V : Type 0} where
       if is_empty (first_word line) then Ok None else
       if is_empty (first_word (behind_word (behind_word line))) then with_row words (row_in (first_word line) forms) (first_word (behind_word line))
       else Err BadCommand
+
+  -- whether what was read ends the session, by which verbs do
+  abbrev pub is_quit_in : (V → Bool) → Result (Option (Command V)) CommandError → Bool
+  is_quit_in ends (Ok (Some c)) = ends c.verb
+  is_quit_in ends (Ok None) = false
+  is_quit_in ends (Err e) = false
