@@ -6,6 +6,7 @@ mod answers;
 mod cache;
 mod job;
 mod laws;
+mod print;
 mod rewind;
 mod run;
 mod soak;

@@ -7,12 +7,13 @@ ghost use Rattle.cli_call.specs.CallEnds.{CallEnds, DoesAsked};
 
 use crate::cache::run_cached;
 use crate::job::run_job;
+use crate::print::print_asked;
 use crate::rewind::rewind_on;
 use crate::run::run_file;
 use crate::soak::soak_on;
 use crate::tiny::tiny_on;
 use crate::usage::misused;
-use cli_micro::{micro, print_micro, print_shipped};
+use cli_micro::micro;
 use cli_outside::{Outside, Status};
 use cli_programs::{assemble_file, list_file, verify_file};
 use cli_tiny::compile_file;
@@ -58,14 +59,7 @@ fn answer_request<F: Files, S: Source, K: Sink, E: Sink>(
             store,
             machine,
         } => micro(alloc, mal, store, machine, outside),
-        Request::PrintMicro {
-            file: Some(file),
-            machine,
-        } => print_micro(alloc, file, machine, outside),
-        Request::PrintMicro {
-            file: None,
-            machine,
-        } => print_shipped(machine, outside),
+        Request::PrintMicro { file, machine } => print_asked(alloc, file, machine, outside),
         Request::Soak {
             seed,
             size,

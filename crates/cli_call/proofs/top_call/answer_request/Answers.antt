@@ -1,4 +1,3 @@
-use Rattle.std.proofs.Common.{◌≡◌, Some, None}
 use Rattle.cli_call.proofs.top_call.answer_request.Goals as goal
 
 pub returns-in-Assemble : goal.returns-in-Assemble
@@ -19,17 +18,8 @@ returns-in-RunPipeline g c = rw c.in-RunPipeline.is c.run_file.ensures
 pub returns-in-Micro : goal.returns-in-Micro
 returns-in-Micro g c = rw c.in-Micro.is c.micro.ensures
 
-pub returns-in-PrintMicro-Some-default : goal.returns-in-PrintMicro-Some-default
-returns-in-PrintMicro-Some-default g c =
-    let p = c.in-PrintMicro-Some-default in
-    let named : p.file' ≡ Some p.file = rw p.is at p.file-is in
-    rw (p.is, named) c.print_micro.ensures
-
-pub returns-in-PrintMicro-None-default : goal.returns-in-PrintMicro-None-default
-returns-in-PrintMicro-None-default g c =
-    let p = c.in-PrintMicro-None-default in
-    let shipped : p.file ≡ None = rw p.is at p.file-is in
-    rw (p.is, shipped) c.print_shipped.ensures
+pub returns-in-PrintMicro : goal.returns-in-PrintMicro
+returns-in-PrintMicro g c = rw c.in-PrintMicro.is c.print_asked.ensures
 
 pub returns-in-Soak : goal.returns-in-Soak
 returns-in-Soak g c = rw c.in-Soak.is c.soak_on.ensures
