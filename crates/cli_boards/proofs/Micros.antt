@@ -1,57 +1,16 @@
--- Why there is no microprogram, and where one begins.
-use Rattle.std.proofs.Common.{◌≡◌, ◌∙◌, ℕ, List, [], ◌∷◌, ◌++◌, length, take, Some, false, refl, sym, ap, subst, arith}
+-- Whose a shipped microprogram is, and what a sink has that got nothing.
+use Rattle.std.proofs.Common.{◌≡◌, ◌∙◌, ℕ, List, [], ◌∷◌, ◌++◌, take, Some, refl, ap}
 use Rattle.mic_words.specs.declared.machine.Machine.{Machine}
 use Rattle.mic_words.specs.declared.machine.Machine.TheVariants.{Mic1, Mic2}
 use Rattle.mic_watched.specs.declared.cycle.Cycle.{Cycle}
 use Rattle.mic_watched.specs.Watched.{PrintsOf}
 use Rattle.cli_watchers.specs.Profile.{Profile, Silent, profile_after}
-use Rattle.cli_outside.specs.declared.refusal.Refusal.{Refusal}
 use Rattle.cli_outside.specs.Outside.{Got, GotInPart}
-use Rattle.cli_outside.specs.Work.{IsRefusal, refusal_by}
-use Rattle.cli_micro.specs.Answers.{IsRefusedText, NoProgram}
 use Rattle.mal_shipped.specs.Listing.{program1, program2, listed_program}
 use Rattle.std.proofs.Math.Seq.{take-nil}
-use Rattle.std.proofs.lemmas.List.{append-nil, length-map}
+use Rattle.std.proofs.lemmas.List.{append-nil}
 use Rattle.std.specs.Prelude.{Option, None, option_map}
-use Rattle.mal_parser.specs.declared.error.MalError.{MalError}
-use Rattle.mal_parser.specs.declared.error.MalError.TheVariants as mal
-use Rattle.mal_parser.specs.declared.statement.Statement.{Statement}
 use Rattle.mal_parser.specs.Program.{MalView}
-use Rattle.mal_parser.specs.Text.{IsRefused, is_memory}
-use Rattle.store_placement.specs.declared.refusal.PlaceError.{PlaceError}
-use Rattle.store_placement.specs.declared.refusal.PlaceError.TheVariants as place
-use Rattle.store_placement.specs.Program.{demands_of}
-use Rattle.store_placement.specs.Refusals as placing
-use Rattle.cli_micro.specs.Reasons.{mal_reason, NamesStatements}
-
--- what has a reason is a refusal
-is_refusal : (e : MalError) (reason : List ℕ) → Some reason ≡ mal_reason e → is_memory e ≡ false
-is_refusal mal.OutOfMemory reason h = cc
-is_refusal _ reason h = refl
-
--- why a text is no microprogram
-pub no_program : (machine : Machine) (bytes : List ℕ) (e : MalError) (refusal : Refusal) → (is_memory e ≡ false → IsRefused machine bytes e) →
-    refusal ≡ refusal_by (mal_reason e) → IsRefusal (IsRefusedText machine) bytes refusal
-no_program machine bytes e refusal refused is = subst (IsRefusal (IsRefusedText machine) bytes) (sym is) (by (mal_reason e) refl)
-  where
-    by : (reason : Option (List ℕ)) → mal_reason e ≡ reason → IsRefusal (IsRefusedText machine) bytes (refusal_by reason)
-    by None h = tt
-    by (Some reason) h = NoProgram e (refused (is_refusal e reason (sym h))) h
-
--- each statement has its demand
-length_fixed : (program : MalView) → length (demands_of program).fixed ≡ length program.statements
-unfolding demands_of
-length_fixed program = length-map program.statements (λ (s : Statement). s.fixed)
-
-refused_inside : (program : MalView) (e : PlaceError) → placing.Refuses (demands_of program) e → NamesStatements (length (demands_of program).fixed) e
-refused_inside program (place.PairClash s) h = h.inside
-refused_inside program (place.FixedWrongHalf s) h = h.1.inside
-refused_inside program (place.FixedClash s t) h = (omega (arith, h.2.first.ordered, h.2.first.inside), h.2.first.inside)
-refused_inside program place.NoRoom h = tt
-
--- the statements that a refusal names are those of the program
-pub names_inside : (program : MalView) (e : PlaceError) → placing.Refuses (demands_of program) e → NamesStatements (length program.statements) e
-names_inside program e h = let P : ℕ → Type 0 = λ n. NamesStatements n e in subst P (length_fixed program) (refused_inside program e h)
 
 -- each shipped microprogram is its machine's
 pub shipped_machine : (machine : Machine) (p : MalView) → p ≡ listed_program machine → p.machine ≡ machine
