@@ -1,13 +1,13 @@
 -- What a failing sink leaves of a line, as the definition has it.
-use Rattle.std.proofs.Common.{◌≡◌, inl, inr, ◌∙◌, ℕ, zero, suc, ◌≤◌, Bool, true, false, List, [], ◌++◌, length, take, min, if◌then◌else◌, Option, Some, None, IsSome, Result, Ok, Err, refl, sym, ap, subst, append_assoc, arith}
+use Rattle.std.proofs.Common.{◌≡◌, inl, inr, ◌∙◌, ℕ, zero, suc, ◌≤◌, Bool, true, false, List, [], ◌++◌, length, take, min, if◌then◌else◌, Option, Some, None, IsSome, Result, Ok, Err, refl, sym, ap, subst, arith}
 use Rattle.std.specs.Prelude.{OnErr, nat_le}
 use Rattle.std.specs.Option.{option_map}
 use Rattle.std.proofs.lemmas.Bool.{cases_lt}
-use Rattle.std.proofs.lemmas.List.{append-nil, take_min, take-append-le}
+use Rattle.std.proofs.lemmas.List.{take_min, take-append-le}
 use Rattle.console_port.specs.World.{World}
 use Rattle.mic_clock.specs.declared.end.End.{End}
-use Rattle.mic_clock.specs.Meaning.{Meaning, Outcome, Done, Refused}
-use Rattle.mic_clock.specs.Run.{MicroRun, bounded, bounded_by, end_before, after_end_or_step, after_step, turn, turn_by, word_at}
+use Rattle.mic_clock.specs.Meaning.{Meaning}
+use Rattle.mic_clock.specs.Run.{MicroRun, bounded, bounded_by, turn}
 use Rattle.mic_debugger.specs.declared.plan.Plan.{Plan}
 use Rattle.mic_debugger.specs.declared.plan.Plan.TheVariants as plans
 use Rattle.mic_debugger.specs.declared.until.Until.{Until}
@@ -21,24 +21,12 @@ use Rattle.cli_session.specs.Meaning.{IsCutShort, IsFrontOf, place}
 use Rattle.mic_debugger.specs.View.{SessionView}
 use Rattle.cli_outside.specs.Outside.{GotInPart, OutsideView}
 use Rattle.cli_session.specs.Giving.{OnlyGives}
+use Rattle.cli_session.specs.Fronts.{IsFront, front_same, front_then, held_front, turn_gives}
 use Rattle.cli_debug.specs.Stand.{IsBrokenOff}
 use Rattle.cli_debug.specs.Debugging.{debugging, debugging_view}
 use Rattle.cli_debug.proofs.Standing.{leads_on, no_rise, same_stand, streams_at}
 
 -- ---- fronts
-
-abbrev IsFront : List ℕ → List ℕ → Type 0
-IsFront a b = (more : List ℕ) × (b ≡ a ++ more)
-
-front_same : (a : List ℕ) → IsFront a a
-front_same a = ([], sym (append-nil a))
-
-front_then : (a b c : List ℕ) → IsFront a b → IsFront b c → IsFront a c
-front_then a b c p q = (p.0 ++ q.0, q.1 ∙ ap (λ (x : List ℕ). x ++ q.0) p.1 ∙ append_assoc a p.0 q.0)
-
-held_front : (held : Option (List ℕ)) (a b : List ℕ) → IsFrontOf held a → IsFront a b → IsFrontOf held b
-held_front None a b p q = tt
-held_front (Some h) a b p q = front_then h a b p q
 
 got_front : (said said' : Option (List ℕ)) (a b : List ℕ) → GotInPart said a said' → IsFront a b → GotInPart said b said'
 got_front said said' a b p q =
@@ -65,22 +53,10 @@ module _ {State : Type 0} (m : Meaning State) (book : Book) (words breaks : List
   bounded_world None r = stopped_world (m.is_boundary r.state) (nat_le bound r.counts.cycles) r _ refl
 
   module _ (only : OnlyGives m) where
-    stepped_gives : (r : MicroRun State) (o : Outcome State) → m.step (word_at m words r.state) r.state r.world ≡ o → IsFront r.world.given (after_step m words r o).world.given
-    stepped_gives r (Done s w) is = only (word_at m words r.state) r.state s r.world w is
-    stepped_gives r (Refused why) is = front_same r.world.given
-
-    gone_gives : (e : Option End) (r : MicroRun State) → IsFront r.world.given (after_end_or_step m words e r).world.given
-    gone_gives (Some e) r = front_same r.world.given
-    gone_gives None r = stepped_gives r (m.step (word_at m words r.state) r.state r.world) refl
-
-    turn_gives : (e : Option End) (r : MicroRun State) → IsFront r.world.given (turn_by m words e r).world.given
-    turn_gives (Some e) r = front_same r.world.given
-    turn_gives None r = gone_gives (end_before m r.state r.counts) r
-
     one_gives : (r : MicroRun State) → IsFront r.world.given (turn m words (bounded m (Some bound) r)).world.given
     one_gives r =
         let x = bounded m (Some bound) r in
-        let given = turn_gives x.end x in
+        let given = turn_gives m words only x.end x in
         (given.0, given.1 ∙ ap (λ (w : World). w.given ++ given.0) (bounded_world r.end r))
 
     more_given : (k n : ℕ) (r : MicroRun State) → k ≤ n → IsFront (after m book words breaks bound u k r).world.given (after m book words breaks bound u n r).world.given

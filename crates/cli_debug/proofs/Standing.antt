@@ -3,7 +3,6 @@ use Rattle.std.proofs.Common.{◌≡◌, ◌∙◌, ℕ, Bool, true, false, List
 use Rattle.std.specs.Prelude.{OnOk, IfOk, if◌then◌else◌}
 use Rattle.std.proofs.lemmas.List.{append-nil}
 use Rattle.mic_base.specs.Causes.{Rose}
-use Rattle.console_port.specs.Console.{Untaken}
 use Rattle.mic_clock.specs.declared.end.End.{End}
 use Rattle.mic_clock.specs.Meaning.{Meaning}
 use Rattle.mic_clock.specs.Run.{MicroRun}
@@ -19,6 +18,7 @@ use Rattle.cli_session.specs.declared.reading.CommandError.TheVariants.{BadComma
 use Rattle.cli_session.specs.declared.reading.Command.{Command}
 use Rattle.cli_session.specs.declared.reading.CommandError.{CommandError}
 use Rattle.cli_session.specs.Commands.{is_quit_in}
+use Rattle.cli_session.specs.Fronts.{is_untaken, one_untaken, untaken_of}
 use Rattle.cli_session.specs.Meaning.{Gone, place}
 use Rattle.mic_debugger.specs.Book.{IsBookOf}
 use Rattle.mic_debugger.specs.Commands.{command_of}
@@ -36,19 +36,6 @@ use Rattle.cli_debug.specs.Debugging.{debugging, debugging_view}
 pub no_rise : Rose 0 0 → ⊥
 no_rise rose = absurd (omega (arith, rose))
 
--- only one list may be untaken of a source whose rest is known
-abbrev untaken_of : List ℕ → Bool → List ℕ
-untaken_of left true = []
-untaken_of left false = left
-
-told : (left : List ℕ) (ended : Bool) → Untaken (Some left) ended (untaken_of left ended)
-told left true = refl
-told left false = refl
-
-one : (left : List ℕ) (ended : Bool) (a b : List ℕ) → Untaken (Some left) ended a → Untaken (Some left) ended b → a ≡ b
-one left true a b x y = x ∙ sym y
-one left false a b x y = x ∙ sym y
-
 -- what the debugger's library sees of a call's outside, with what its program's input has left
 abbrev pub streams_at : List ℕ → OutsideView → Streams
 streams_at left o = record { input = source_state (Some left) 0; out = o.out; err = o.err }
@@ -58,8 +45,8 @@ module _ {M State : Type 0} (state : M → State) (left left' : List ℕ) (held 
   pub leads_on : (P : MicroRun State → List ℕ → Type 0) → IsLedTo state (Some left) held v.board (Some left') board' P → (rest : List ℕ) × P s.run rest
   leads_on P led =
       let rest = untaken_of left' board'.bus.console.ended in
-      let far = led rest (told left' board'.bus.console.ended) in
-      (rest, far.2 s.run here.run (one left v.board.bus.console.ended s.run.world.untaken far.0 here.run.world.untaken far.1))
+      let far = led rest (is_untaken left' board'.bus.console.ended) in
+      (rest, far.2 s.run here.run (one_untaken left v.board.bus.console.ended s.run.world.untaken far.0 here.run.world.untaken far.1))
 
   pub same_stand : stand_in v s.run ≡ s
   same_stand = λ i. record { run = s.run; breaks = sym here.breaks i; watched = sym here.watched i }

@@ -1,9 +1,7 @@
 -- The output of a line, and what is passed on after it.
-use Rattle.std.proofs.Common.{◌≡◌, ◌≢◌, inl, inr, ◌-◌, ◌^◌, ◌++◌, ℕ, zero, suc, List, [], ◌∷◌, length, Option, Some, None, Result, Ok, Err, refl, sym, ap, subst, ◌∙◌, arith}
+use Rattle.std.proofs.Common.{◌≡◌, ◌≢◌, inl, inr, ◌-◌, ◌^◌, ℕ, zero, suc, List, [], ◌∷◌, Option, Some, None, Result, Ok, Err, refl, sym, ap, subst, ◌∙◌, arith}
 use Rattle.std.specs.Prelude.{OnErr, OnOk}
-use Rattle.std.specs.Option.{option_map}
 use Rattle.std.proofs.lemmas.List.{append-nil}
-use Rattle.std.proofs.Math.Seq.{take-length}
 use Rattle.mic_base.specs.Streams.{Holds, IsFlushed, KeepsFront}
 use Rattle.mic_base.specs.Causes.{HasCause, Rose}
 use Rattle.console_port.specs.Console.{IsLost}
@@ -17,9 +15,10 @@ use Rattle.mic_clock.specs.Board.{ShowsAs, ShowsRun}
 use Rattle.micro_word.specs.ControlStore.{ControlStore}
 use Rattle.mic_rewind.specs.View.{HistoryView}
 use Rattle.mic_rewind.specs.Rewind.{RewindView, state_of}
-use Rattle.cli_outside.specs.Outside.{FilesState, Got, GotInPart, SinkState, SourceState, outside_view}
+use Rattle.cli_outside.specs.Outside.{FilesState, Got, SinkState, SourceState, outside_view}
 use Rattle.cli_session.specs.declared.reading.Command.{Command}
 use Rattle.cli_session.specs.declared.reading.CommandError.{CommandError}
+use Rattle.cli_session.specs.Fronts.{front_given, front_lost, in_part}
 use Rattle.cli_session.specs.Meaning.{Gone, IsCutShort, IsFrontOf, place}
 use Rattle.cli_rewind.specs.declared.table.Verb.{Verb}
 use Rattle.cli_rewind.specs.Commands.{command_of}
@@ -27,16 +26,7 @@ use Rattle.cli_rewind.specs.Stand.{Cut, Does, Follows, IsBrokenOff, IsCutIn, Sta
 use Rattle.cli_rewind.specs.Moves.{IsFront, IsMoved, IsPassedOn, IsTold, IsToldInPart, WasCut, Went, scene}
 use Rattle.cli_rewind.specs.Rewinding.{Lasts, RewindingRules, RewindingView, rewinding, rewinding_view, rules_of}
 use Rattle.cli_rewind.proofs.Turning.{end_leaves}
-use Rattle.cli_rewind.proofs.Stepping.{front_given, front_lost, stands_with}
-
--- a text that was put whole was put in part
-pub in_part : (said said' : Option (List ℕ)) (text : List ℕ) → Got said text said' → GotInPart said text said'
-in_part said said' text is = (length text, is ∙ ap (λ (x : List ℕ). option_map (λ (h : List ℕ). h ++ x) said) (sym (take-length text)))
-
--- what holds anyway holds after an Err
-pub on_err_of : {T E : Type 0} (P : Type 0) (r : Result T E) → P → OnErr r P
-on_err_of P (Ok v) p = tt
-on_err_of P (Err e) p = p
+use Rattle.cli_rewind.proofs.Stepping.{stands_with}
 
 -- what holds of all files and consoles after a line holds of these
 pub on_ok_at : {T E A B : Type 0} (P : A → B → Type 0) (r : Result T E) (a : A) (b : B) → OnOk r ((x : A) (y : B) → P x y) → OnOk r (P a b)

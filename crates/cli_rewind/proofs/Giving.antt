@@ -1,43 +1,17 @@
 -- What is given before a cycle that was cut is a front of what is given where all is done.
-use Rattle.std.proofs.Common.{◌≡◌, ◌<◌, ◌≤◌, inl, inr, ◌++◌, ℕ, zero, suc, List, [], Option, Some, None, refl, sym, ap, subst, ◌∙◌, append_assoc, arith}
+use Rattle.std.proofs.Common.{◌≡◌, ◌<◌, ◌≤◌, inl, inr, ℕ, zero, suc, List, Option, Some, None, sym, subst, ◌∙◌, arith}
 use Rattle.std.proofs.lemmas.Bool.{cases_lt}
-use Rattle.std.proofs.lemmas.List.{append-nil}
 use Rattle.mic_clock.specs.declared.end.End.{End}
-use Rattle.mic_clock.specs.Meaning.{Meaning, Outcome, Done, Refused}
-use Rattle.mic_clock.specs.Run.{MicroRun, after_end_or_step, after_step, end_before, turn_by, word_at}
+use Rattle.mic_clock.specs.Meaning.{Meaning}
+use Rattle.mic_clock.specs.Run.{MicroRun}
 use Rattle.cli_session.specs.Meaning.{IsFrontOf}
 use Rattle.cli_session.specs.Giving.{OnlyGives}
+use Rattle.cli_session.specs.Fronts.{IsFront, front_same, front_then, held_front, turn_gives}
 use Rattle.cli_rewind.specs.Stand.{GoesForward, Stand, StopsBy, run_at}
 use Rattle.cli_rewind.proofs.Turning.{earlier, turned}
 
-abbrev IsFront : List ℕ → List ℕ → Type 0
-IsFront a b = (more : List ℕ) × (b ≡ a ++ more)
-
-front_same : (a : List ℕ) → IsFront a a
-front_same a = ([], sym (append-nil a))
-
-front_then : (a b c : List ℕ) → IsFront a b → IsFront b c → IsFront a c
-front_then a b c p q = (p.0 ++ q.0, q.1 ∙ ap (λ (x : List ℕ). x ++ q.0) p.1 ∙ append_assoc a p.0 q.0)
-
-held_front : (held : Option (List ℕ)) (a b : List ℕ) → IsFrontOf held a → IsFront a b → IsFrontOf held b
-held_front None a b p q = tt
-held_front (Some h) a b p q = front_then h a b p q
-
 module _ {State : Type 0} (m : Meaning State) (words : List ℕ) where
   module _ (only : OnlyGives m) where
-    stepped_gives : (r : MicroRun State) (o : Outcome State) → m.step (word_at m words r.state) r.state r.world ≡ o →
-        IsFront r.world.given (after_step m words r o).world.given
-    stepped_gives r (Done s w) is = only (word_at m words r.state) r.state s r.world w is
-    stepped_gives r (Refused why) is = front_same r.world.given
-
-    gone_gives : (e : Option End) (r : MicroRun State) → IsFront r.world.given (after_end_or_step m words e r).world.given
-    gone_gives (Some e) r = front_same r.world.given
-    gone_gives None r = stepped_gives r (m.step (word_at m words r.state) r.state r.world) refl
-
-    turn_gives : (e : Option End) (r : MicroRun State) → IsFront r.world.given (turn_by m words e r).world.given
-    turn_gives (Some e) r = front_same r.world.given
-    turn_gives None r = gone_gives (end_before m r.state r.counts) r
-
     more_given : (k n : ℕ) (r : MicroRun State) → k ≤ n → IsFront (run_at m words r k).world.given (run_at m words r n).world.given
     more_given k zero r le = let e : zero ≡ k = omega (arith, le) in subst (λ (j : ℕ). IsFront (run_at m words r j).world.given r.world.given) e
         (front_same r.world.given)
@@ -46,7 +20,7 @@ module _ {State : Type 0} (m : Meaning State) (words : List ℕ) where
           | inl below ↦
               (let before = run_at m words r n in
               front_then (run_at m words r k).world.given before.world.given (run_at m words r (suc n)).world.given (more_given k n r (omega (arith, below)))
-              (subst (λ (x : MicroRun State). IsFront before.world.given x.world.given) (sym (turned m words n r)) (turn_gives before.end before)))
+              (subst (λ (x : MicroRun State). IsFront before.world.given x.world.given) (sym (turned m words n r)) (turn_gives m words only before.end before)))
           | inr above ↦
               (let e : suc n ≡ k = omega (arith, le, above) in
               subst (λ (j : ℕ). IsFront (run_at m words r j).world.given (run_at m words r (suc n)).world.given) e (front_same (run_at m words r

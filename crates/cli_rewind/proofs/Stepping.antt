@@ -1,8 +1,6 @@
 -- What a call of the rewind is at each stand that it shows.
-use Rattle.std.proofs.Common.{◌≡◌, ◌≢◌, ◌≤◌, ◌⊎◌, inl, inr, ◌+◌, ◌-◌, ◌++◌, ℕ, zero, suc, Bool, true, false, List, [], ◌∷◌, take, drop, Option, Some, None, IsSome, refl, sym, ap, subst, ◌∙◌, append_assoc, arith}
-use Rattle.std.proofs.lemmas.List.{take-append-drop}
+use Rattle.std.proofs.Common.{◌≡◌, ◌≢◌, ◌≤◌, ◌⊎◌, inl, inr, ◌+◌, ◌-◌, ◌++◌, ℕ, zero, suc, List, [], ◌∷◌, Option, Some, None, IsSome, refl, sym, ap, subst, ◌∙◌, arith}
 use Rattle.mic_base.specs.Causes.{Rose}
-use Rattle.console_port.specs.Console.{Given, IsLost, Untaken}
 use Rattle.console_port.specs.declared.fault.BusFault.TheVariants as faults
 use Rattle.mic_clock.specs.declared.end.End.{End}
 use Rattle.mic_clock.specs.declared.end.End.TheVariants as ends
@@ -14,6 +12,7 @@ use Rattle.mic_clock.specs.Board.{IsCutByFault, IsTurned, NoFault, ShowsRun}
 use Rattle.mic_rewind.specs.States.{Snapshot}
 use Rattle.mic_rewind.specs.View.{GoesBack, HistoryView, appended}
 use Rattle.mic_rewind.specs.Rewind.{Keeps, RewindView, state_of}
+use Rattle.cli_session.specs.Fronts.{front_lost, is_untaken, one_untaken, untaken_of}
 use Rattle.cli_session.specs.Meaning.{IsFrontOf}
 use Rattle.cli_rewind.specs.Stand.{GoesForward, IsCutForward, Stand, StandsAt, history_at, kept, run_at, shown_run, state_at, states_from}
 use Rattle.cli_rewind.specs.Moves.{IsMoved}
@@ -30,34 +29,6 @@ pub no_fault : (old new : Option End) → (old ≡ None → new ≢ Some ends.Re
 no_fault None (Some ends.ReadFault) read write = absurd (read refl refl)
 no_fault None (Some ends.WriteFault) read write = absurd (write refl)
 no_fault _ _ read write = tt
-
--- only one list may be untaken of a source whose rest is known
-abbrev untaken_of : List ℕ → Bool → List ℕ
-untaken_of left true = []
-untaken_of left false = left
-
-told : (left : List ℕ) (ended : Bool) → Untaken (Some left) ended (untaken_of left ended)
-told left true = refl
-told left false = refl
-
-one : (left : List ℕ) (ended : Bool) (a b : List ℕ) → Untaken (Some left) ended a → Untaken (Some left) ended b → a ≡ b
-one left true a b x y = x ∙ sym y
-one left false a b x y = x ∙ sym y
-
--- ---- what `out` holds is a front of what was given
-
-pub front_given : (held : Option (List ℕ)) (kept given : List ℕ) → Given held kept given → IsFrontOf held given
-front_given None kept given is = tt
-front_given (Some h) kept given is = (kept, is)
-
-pub front_lost : (held held' : Option (List ℕ)) (kept kept' given : List ℕ) → IsLost held kept held' kept' → Given held kept given → IsFrontOf held' given
-front_lost None held' kept kept' given lost is = subst (λ (o : Option (List ℕ)). IsFrontOf o given) (sym lost.prefix.1) tt
-front_lost (Some h) held' kept kept' given lost is =
-    subst (λ (o : Option (List ℕ)). IsFrontOf o given) (sym lost.prefix.1) (
-      drop lost.prefix.0 kept,
-      is ∙ ap (λ (k : List ℕ). h ++ k) (sym (take-append-drop lost.prefix.0 kept))
-          ∙ sym (append_assoc h (take lost.prefix.0 kept) (drop lost.prefix.0 kept)),
-    )
 
 -- a rewind stands where its states and its run say, over the words and the depth that it has
 pub stands_with : {M State : Type 0} (state : M → State) (m : Meaning State) (left held : Option (List ℕ)) (v : RewindView M) (s : Stand State)
@@ -89,8 +60,8 @@ module _ {M State : Type 0} (state : M → State) (m : Meaning State) (left left
       ShowsRun state (Some left') held' v'.board (turn m words r)
   leads_on r here well is =
       let rest = untaken_of left' v'.board.bus.console.ended in
-      let far = is well rest (told left' v'.board.bus.console.ended) in
-      (far.2 r here (one left v.board.bus.console.ended r.world.untaken far.0 here.world.untaken far.1)).0
+      let far = is well rest (is_untaken left' v'.board.bus.console.ended) in
+      (far.2 r here (one_untaken left v.board.bus.console.ended r.world.untaken far.0 here.world.untaken far.1)).0
 
   abbrev Ended : Type 0
   Ended = (e : End) → v.board.end ≡ Some e → v'.board ≡ v.board

@@ -2,6 +2,7 @@ pub mod Told
 pub mod Lines
 pub mod Meaning
 pub mod Giving
+pub mod Fronts
 pub mod Goes
 pub mod Table
 pub mod Commands

@@ -1,8 +1,6 @@
 -- Where a failing sink breaks a line off.
-use Rattle.std.proofs.Common.{◌≡◌, ◌≢◌, ◌⊎◌, inl, inr, zero, suc, ℕ, ◌+◌, ◌<◌, List, ◌++◌, take, drop, append_assoc, Option, Some, None, IsSome, refl, sym, ◌∙◌, ap, subst, arith, Result, Ok, Err}
-use Rattle.std.specs.Prelude.{OnOk, OnErr, IfErr}
-use Rattle.std.proofs.Math.ListN.{take-append-drop}
-use Rattle.console_port.specs.Console.{Given, IsLost}
+use Rattle.std.proofs.Common.{◌≡◌, ◌≢◌, ◌⊎◌, inl, inr, zero, suc, ℕ, ◌+◌, ◌<◌, List, ◌++◌, append_assoc, Option, Some, None, IsSome, refl, sym, ◌∙◌, ap, subst, arith, Result, Ok, Err}
+use Rattle.std.specs.Prelude.{OnOk, IfErr}
 use Rattle.console_port.specs.Bus.{Stands}
 use Rattle.console_port.specs.declared.fault.BusFault.{BusFault}
 use Rattle.console_port.specs.declared.fault.BusFault.TheVariants as faults
@@ -25,6 +23,7 @@ use Rattle.mic_debugger.specs.Obeys.{IsBrokenAt, IsCarriedOut, IsPlanBroken, pla
 use Rattle.mic_debugger.specs.Outcome.{IsBrokenOff, SinkFailed, Streams}
 use Rattle.mic_debugger.specs.Plans.{shown_text}
 use Rattle.mic_debugger.specs.Stand.{Carries, IsPart, IsWhole, Rules, Stand, plan_at, rules_of, stand_in}
+use Rattle.cli_session.specs.Fronts.{front_given, front_lost, in_part}
 use Rattle.cli_session.specs.Meaning.{IsFrontOf}
 use Rattle.mic_debugger.specs.Session.{HoldsFront, IsBroken, IsUnderway, StandsAfter, text_between}
 use Rattle.mic_debugger.specs.View.{SessionView}
@@ -54,11 +53,6 @@ either_end end f g = elim (write_or_not end) [
 
 -- ---- fronts
 
--- what a sink holds that shows a run is a front of what was given
-pub front_given : (held : Option (List ℕ)) (kept given : List ℕ) → Given held kept given → IsFrontOf held given
-front_given None kept given told = tt
-front_given (Some h) kept given told = (kept, told)
-
 front_shown : (left held : Option (List ℕ)) {M State : Type 0} (state : M → State) (board : BoardView M) (r : MicroRun State) → ShowsRun state left held board r → IsFrontOf held r.world.given
 front_shown left held state board r shows = front_given held board.bus.console.kept r.world.given shows.world.given
 
@@ -66,16 +60,6 @@ front_shown left held state board r shows = front_given held board.bus.console.k
 pub stands_shown : (left held : Option (List ℕ)) {M State : Type 0} (state : M → State) (board : BoardView M) (r : MicroRun State) → ShowsRun state left held board r → StandsAfter state board r
 stands_shown left held state board r shows =
     record { its_state = shows.its_state; memory = shows.world.words; counts = shows.counts; its_end = inl shows.its_end }
-
-front_lost : (held held' : Option (List ℕ)) (kept kept' given : List ℕ) → IsLost held kept held' kept' → Given held kept given → IsFrontOf held' given
-front_lost None held' kept kept' given lost told = subst (λ (o : Option (List ℕ)). IsFrontOf o given) (sym lost.prefix.1) tt
-front_lost (Some h) held' kept kept' given lost told =
-    subst (λ (o : Option (List ℕ)). IsFrontOf o given) (sym lost.prefix.1)
-    (drop lost.prefix.0 kept, told ∙ ap (λ (k : List ℕ). h ++ k) (sym (take-append-drop lost.prefix.0 kept)) ∙ sym (append_assoc h (take lost.prefix.0 kept) (drop lost.prefix.0 kept)))
-
--- a text that was put whole was put in part
-pub in_part : (said said' : Option (List ℕ)) (text : List ℕ) → Got said text said' → GotInPart said text said'
-in_part said said' text prints = puts_passed {E = ℕ} said said' said' text (Err 0) prints refl
 
 -- what was put whole is one part and then another
 got_split : (said said' : Option (List ℕ)) (a b : List ℕ) → Got said (a ++ b) said' → (mid : Option (List ℕ)) × Got said a mid × Got mid b said'
@@ -336,8 +320,3 @@ pub front_flushed : {M State : Type 0} (state : M → State) (held held' : Optio
 front_flushed state held held' board board' (Ok done) shows err is left r here = front_shown left held' state board' r (shows left r here)
 front_flushed state held held' board board' (Err e) shows err is left r here =
     front_lost held held' board.bus.console.kept board'.bus.console.kept r.world.given ((err left).lost is) here.world.given
-
--- what holds anyway holds after an Err
-pub on_err_of : {T E : Type 0} (P : Type 0) (r : Result T E) → P → OnErr r P
-on_err_of P (Ok v) p = tt
-on_err_of P (Err e) p = p

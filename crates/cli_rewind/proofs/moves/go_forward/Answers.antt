@@ -3,7 +3,7 @@ use Rattle.mic_base.specs.Plain.{plain_left}
 use Rattle.cli_outside.specs.Outside.{sink_of, SinkState}
 use Rattle.cli_rewind.specs.Stand.{GoesForward}
 use Rattle.cli_rewind.specs.Moves.{Went, scene}
-use Rattle.cli_rewind.proofs.Answering.{on_err_of}
+use Rattle.cli_session.specs.Fronts.{on_err_of}
 use Rattle.cli_rewind.proofs.Composing.{goes_cut, goes_end, goes_next, none_by, went_still}
 use Rattle.cli_rewind.proofs.Stepping.{goes_nowhere}
 use Rattle.cli_rewind.proofs.moves.go_forward.Given.{Over}

@@ -6,7 +6,8 @@ use Rattle.mic_debugger.specs.Outcome.{streams}
 use Rattle.mic_debugger.specs.Session.{text_between}
 use Rattle.mic_debugger.proofs.Putting.{puts_nothing, puts_then}
 use Rattle.mic_debugger.proofs.Timing.{InTime-step}
-use Rattle.mic_debugger.proofs.Breaking.{broken_more, either_end, no_fault, on_err_of}
+use Rattle.cli_session.specs.Fronts.{on_err_of}
+use Rattle.mic_debugger.proofs.Breaking.{broken_more, either_end, no_fault}
 use Rattle.mic_debugger.proofs.Underway.{underway_start, underway_more, underway_stopped, clocked_of}
 use Rattle.mic_debugger.proofs.Carrying.{clocked_broken, failed_after}
 use Rattle.mic_debugger.proofs.InputCauses.{cause_start, cause_more}

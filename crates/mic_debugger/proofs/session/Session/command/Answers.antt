@@ -10,7 +10,8 @@ use Rattle.mic_debugger.specs.Obeys.{IsCarriedOut, IsPlanBroken, plan_in}
 use Rattle.mic_debugger.specs.Outcome.{Streams, streams}
 use Rattle.mic_debugger.specs.Plans.{breaks_after, plan_of, watched_after}
 use Rattle.mic_debugger.specs.View.{SessionView}
-use Rattle.mic_debugger.proofs.Breaking.{flush_broken, on_err_of, plan_broken, stands_flushed}
+use Rattle.cli_session.specs.Fronts.{on_err_of}
+use Rattle.mic_debugger.proofs.Breaking.{flush_broken, plan_broken, stands_flushed}
 use Rattle.mic_debugger.proofs.Carrying.{failed_after, through_flushed}
 use Rattle.mic_debugger.proofs.session.Session.command.Given.{Over}
 use Rattle.mic_debugger.proofs.session.Session.command.Goals as goal

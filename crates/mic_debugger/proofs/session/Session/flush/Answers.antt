@@ -1,4 +1,5 @@
-use Rattle.mic_debugger.proofs.Breaking.{front_flushed, on_err_of}
+use Rattle.cli_session.specs.Fronts.{on_err_of}
+use Rattle.mic_debugger.proofs.Breaking.{front_flushed}
 use Rattle.mic_debugger.proofs.session.Session.flush.Goals as goal
 
 pub returns-clause-front : goal.returns-clause-front
