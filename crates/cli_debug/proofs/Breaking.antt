@@ -4,6 +4,7 @@ use Rattle.std.specs.Prelude.{OnErr, nat_le}
 use Rattle.std.specs.Option.{option_map}
 use Rattle.std.proofs.lemmas.Bool.{cases_lt}
 use Rattle.std.proofs.lemmas.List.{take_min, take-append-le}
+use Rattle.mic_base.specs.Causes.{no_rise}
 use Rattle.console_port.specs.World.{World}
 use Rattle.mic_clock.specs.declared.end.End.{End}
 use Rattle.mic_clock.specs.Meaning.{Meaning}
@@ -24,7 +25,7 @@ use Rattle.cli_session.specs.Giving.{OnlyGives}
 use Rattle.cli_session.specs.Fronts.{IsFront, front_same, front_then, held_front, turn_gives}
 use Rattle.cli_debug.specs.Stand.{IsBrokenOff}
 use Rattle.cli_debug.specs.Debugging.{debugging, debugging_view}
-use Rattle.cli_debug.proofs.Standing.{leads_on, no_rise, same_stand, streams_at}
+use Rattle.cli_debug.proofs.Standing.{leads_on, same_stand, streams_at}
 
 -- ---- fronts
 

@@ -1,8 +1,8 @@
 -- What the debugger's library says of a line, as the definition has it.
-use Rattle.std.proofs.Common.{◌≡◌, ◌∙◌, ℕ, Bool, true, false, List, [], ◌∷◌, Option, Some, None, Result, Ok, Err, refl, sym, ap, subst, arith}
+use Rattle.std.proofs.Common.{◌≡◌, ◌∙◌, ℕ, Bool, true, false, List, [], ◌∷◌, Option, Some, None, Result, Ok, Err, refl, sym, ap, subst}
 use Rattle.std.specs.Prelude.{OnOk, IfOk, if◌then◌else◌}
 use Rattle.std.proofs.lemmas.List.{append-nil}
-use Rattle.mic_base.specs.Causes.{Rose}
+use Rattle.mic_base.specs.Causes.{no_rise}
 use Rattle.mic_clock.specs.declared.end.End.{End}
 use Rattle.mic_clock.specs.Meaning.{Meaning}
 use Rattle.mic_clock.specs.Run.{MicroRun}
@@ -31,10 +31,6 @@ use Rattle.mic_debugger.specs.Outcome.{Streams}
 use Rattle.cli_debug.specs.Stand.{is_quit, is_quit_reply, is_quit_verb}
 use Rattle.cli_outside.specs.Outside.{OutsideView, source_state}
 use Rattle.cli_debug.specs.Debugging.{debugging, debugging_view}
-
--- a count that stays did not rise
-pub no_rise : Rose 0 0 → ⊥
-no_rise rose = absurd (omega (arith, rose))
 
 -- what the debugger's library sees of a call's outside, with what its program's input has left
 abbrev pub streams_at : List ℕ → OutsideView → Streams

@@ -1,6 +1,5 @@
 -- What a call of the rewind is at each stand that it shows.
 use Rattle.std.proofs.Common.{◌≡◌, ◌≢◌, ◌≤◌, ◌⊎◌, inl, inr, ◌+◌, ◌-◌, ◌++◌, ℕ, zero, suc, List, [], ◌∷◌, Option, Some, None, IsSome, refl, sym, ap, subst, ◌∙◌, arith}
-use Rattle.mic_base.specs.Causes.{Rose}
 use Rattle.console_port.specs.declared.fault.BusFault.TheVariants as faults
 use Rattle.mic_clock.specs.declared.end.End.{End}
 use Rattle.mic_clock.specs.declared.end.End.TheVariants as ends
@@ -19,10 +18,6 @@ use Rattle.cli_rewind.specs.Moves.{IsMoved}
 use Rattle.cli_rewind.proofs.Turning.{earlier, stays, turned}
 use Rattle.cli_rewind.proofs.Giving.{cut_whole}
 use Rattle.cli_rewind.proofs.Snapshots.{latest, same_states, states_kept, states_more, states_none, states_split}
-
--- a count that stays did not rise
-pub no_rise : Rose 0 0 → ⊥
-no_rise rose = absurd (omega (arith, rose))
 
 -- a board that came to no fault
 pub no_fault : (old new : Option End) → (old ≡ None → new ≢ Some ends.ReadFault) → new ≢ Some ends.WriteFault → NoFault old new

@@ -1,6 +1,6 @@
 -- How `soak` ends: a plain source and a plain sink never fail, so the run is never cut.
-use Rattle.std.proofs.Common.{◌≡◌, ◌∙◌, ℕ, List, [], length, Option, Some, None, refl, sym, subst, arith}
-use Rattle.mic_base.specs.Causes.{Rose}
+use Rattle.std.proofs.Common.{◌≡◌, ◌∙◌, ℕ, List, [], length, Option, Some, None, refl, sym, subst}
+use Rattle.mic_base.specs.Causes.{no_rise}
 use Rattle.mic_clock.specs.declared.end.End.{End}
 use Rattle.mic_clock.specs.declared.end.End.TheVariants as ends
 use Rattle.mic_clock.specs.Meaning.{Meaning}
@@ -18,9 +18,6 @@ use Rattle.cli_soak.specs.SoakEnds.{soak_bound, IsGenerated, SoakEnds, Ran}
 
 some_is : {A : Type 0} → (x y : A) → Some x ≡ Some y → x ≡ y
 some_is x y e = cc
-
-no_rise : Rose 0 0 → ⊥
-no_rise r = omega (arith, r)
 
 unfailed : (end : Option End) → HasEndCause 0 0 0 0 None end → NoFault None end
 unfailed (Some ends.ReadFault) c = no_rise (c.read refl refl)

@@ -28,7 +28,7 @@ use Rattle.cli_session.specs.Meaning.{IsFrontOf}
 use Rattle.mic_debugger.specs.Session.{HoldsFront, IsBroken, IsUnderway, StandsAfter, text_between}
 use Rattle.mic_debugger.specs.View.{SessionView}
 use Rattle.mic_debugger.proofs.Carrying.{led_on, same_plan, same_shown}
-use Rattle.mic_debugger.proofs.Putting.{puts_first, puts_nothing, puts_passed, puts_then}
+use Rattle.mic_base.specs.Putting.{puts_first, puts_nothing, puts_passed, puts_then}
 use Rattle.mic_debugger.proofs.Uncounted.{uncounted}
 use Rattle.mic_debugger.proofs.Underway.{after-suc, going_more}
 

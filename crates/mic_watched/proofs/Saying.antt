@@ -1,29 +1,11 @@
 -- The texts of a watcher for cycles one after the other.
-use Rattle.std.proofs.Common.{◌≡◌, ℕ, ◌+◌, List, [], ◌∷◌, ◌++◌, length, take, ap, sym, ◌∙◌, append_assoc, refl, subst, Result, Ok, Err, Option, Some, None}
-use Rattle.std.specs.Option.{option_map}
-use Rattle.std.proofs.Math.Seq.{take-append-add}
+use Rattle.std.proofs.Common.{◌≡◌, ℕ, List, [], ◌∷◌, ◌++◌, ap, sym, ◌∙◌, append_assoc, refl, subst, Result, Ok, Option}
 use Rattle.std.proofs.lemmas.List.{append-nil}
+use Rattle.mic_base.specs.Putting.{puts_nothing, puts_then}
 use Rattle.mic_base.specs.Streams.{Puts}
 use Rattle.mic_base.specs.Causes.{HasCause}
 use Rattle.mic_watched.specs.declared.cycle.Cycle.{Cycle}
 use Rattle.mic_watched.specs.Watched.{kept_of, PrintsOf, Saw}
-
--- a text that is put after another
-puts_then : {E : Type 0} (old mid new : Option (List ℕ)) (p q : List ℕ) (result : Result Unit E) →
-    mid ≡ option_map (λ held. held ++ p) old → Puts mid q result new → Puts old (p ++ q) result new
-puts_then None mid new p q (Ok done) e h = h ∙ ap (option_map (λ (held : List ℕ). held ++ q)) e
-puts_then (Some held) mid new p q (Ok done) e h =
-    h ∙ ap (option_map (λ (front : List ℕ). front ++ q)) e ∙ ap Some (append_assoc held p q)
-puts_then None mid new p q (Err x) e h = (0, h.1 ∙ ap (option_map (λ (front : List ℕ). front ++ take h.0 q)) e)
-puts_then (Some held) mid new p q (Err x) e h = (
-  length p + h.0,
-  h.1 ∙ ap (option_map (λ (front : List ℕ). front ++ take h.0 q)) e ∙ ap Some (append_assoc held p (take h.0 q))
-      ∙ ap (λ (more : List ℕ). Some (held ++ more)) (sym (take-append-add p q h.0)),
-)
-
-pub puts_nothing : (old : Option (List ℕ)) → old ≡ option_map (λ held. held ++ []) old
-puts_nothing None = refl
-puts_nothing (Some held) = ap Some (sym (append-nil held))
 
 module _ {Kept : Type 0} (keeps : Kept → Cycle → Kept) (Prints : Kept → Cycle → List ℕ → Type 0) where
   pub kept-append : (k : Kept) (cs ds : List Cycle) → kept_of keeps Prints k (cs ++ ds) ≡ kept_of keeps Prints (kept_of keeps Prints k cs) ds

@@ -4,7 +4,7 @@ use Rattle.mic_clock.specs.Run.{word_at}
 use Rattle.mic_debugger.specs.Obeys.{session_at}
 use Rattle.mic_debugger.specs.Outcome.{streams}
 use Rattle.mic_debugger.specs.Session.{text_between}
-use Rattle.mic_debugger.proofs.Putting.{puts_nothing, puts_then}
+use Rattle.mic_base.specs.Putting.{puts_nothing, puts_then}
 use Rattle.mic_debugger.proofs.Timing.{InTime-step}
 use Rattle.cli_session.specs.Fronts.{on_err_of}
 use Rattle.mic_debugger.proofs.Breaking.{broken_more, either_end, no_fault}
