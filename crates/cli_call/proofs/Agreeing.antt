@@ -1,7 +1,6 @@
 -- `run` and `reference` of one program agree.
-use Rattle.std.proofs.Common.{◌≡◌, ◌≢◌, ◌∙◌, ℕ, zero, suc, Bool, true, false, List, ◌++◌, Some, Option, refl, sym, ap, subst, nat_le}
+use Rattle.std.proofs.Common.{◌≡◌, ◌≢◌, ◌∙◌, ℕ, false, List, ◌++◌, Some, Option, refl, sym, ap, subst}
 use Rattle.std.specs.Prelude.{codes, IfSome}
-use Rattle.std.proofs.lemmas.Option.{same_Some}
 use Rattle.mic_base.specs.Causes.{Rose}
 use Rattle.console_port.specs.Console.{Untaken}
 use Rattle.mic_clock.specs.declared.end.End.{End}
@@ -11,9 +10,8 @@ use Rattle.mic_clock.specs.Meaning.{Meaning}
 use Rattle.mic_clock.specs.View.{BoardView}
 use Rattle.ijvm_meaning.specs.declared.run.RunEnd.{RunEnd}
 use Rattle.ijvm_meaning.specs.declared.run.RunEnd.TheVariants as defined
-use Rattle.ijvm_meaning.specs.Step.{StepOutcome, Goes, Halts, Errs, Limits, Stuck, step_outcome}
 use Rattle.ijvm_meaning.specs.Cost.{timing_of}
-use Rattle.ijvm_meaning.specs.Run.{TimedImage, Point, Finish, EndsBy, finish_from, after_test, after_outcome, first_point, point_after}
+use Rattle.ijvm_meaning.specs.Run.{TimedImage, Point, Finish, EndsBy, first_point}
 use Rattle.ijvm_reference.specs.declared.plain.PlainReport.{PlainReport}
 use Rattle.ijvm_reference.specs.Plain.{Reports, HasRun as HasPlainRun}
 use Rattle.ijvm_reference.specs.Plain as plain
@@ -31,30 +29,7 @@ use Rattle.cli_programs.specs.Reference as reference
 use Rattle.cli_boards.specs.Runs.{report_on}
 use Rattle.cli_call.specs.ClockedEnd.{ClockedEnd, CutByRead, CutByWrite, NoRoom, Ran}
 use Rattle.cli_call.specs.Agree.{Agrees, IsQuiet}
-
--- At a stack limit the definition's cycles are those of the last boundary.
-
-abbrev OfLimit : Finish → Type 0
-OfLimit f = f.end ≡ defined.StackLimit → f.cycles ≡ f.last.cycles
-
-by_outcome : (p : TimedImage) (bound points : ℕ) (at : Point) (o : StepOutcome) (f : Finish) →
-    ((next : Point) → finish_from p bound points next ≡ Some f → OfLimit f) →
-    after_outcome (finish_from p bound points) p at o ≡ Some f → OfLimit f
-by_outcome p bound points at (Goes to) f more e = more (point_after p at to) e
-by_outcome p bound points at Halts f more e = subst OfLimit (same_Some _ f e) (λ q. cc)
-by_outcome p bound points at Errs f more e = subst OfLimit (same_Some _ f e) (λ q. cc)
-by_outcome p bound points at (Limits left) f more e = subst OfLimit (same_Some _ f e) (λ q. refl)
-by_outcome p bound points at Stuck f more e = absurd (cc)
-
-by_test : (p : TimedImage) (bound points : ℕ) (at : Point) (t : Bool) (f : Finish) →
-    ((next : Point) → finish_from p bound points next ≡ Some f → OfLimit f) →
-    after_test (finish_from p bound points) p at t ≡ Some f → OfLimit f
-by_test p bound points at true f more e = subst OfLimit (same_Some _ f e) (λ q. cc)
-by_test p bound points at false f more e = by_outcome p bound points at (step_outcome p.image p.stack_end at.state) f more e
-
-of_limit : (p : TimedImage) (bound points : ℕ) (at : Point) (f : Finish) → finish_from p bound points at ≡ Some f → OfLimit f
-of_limit p bound zero at f e = absurd (cc)
-of_limit p bound (suc points) at f e = by_test p bound points at (nat_le bound at.cycles) f (λ next. of_limit p bound points next f) e
+use Rattle.cli_call.proofs.AtLimit.{OfLimit, cycles_at_last}
 
 -- Both reports have the same head.
 
@@ -123,7 +98,8 @@ module _ {M S : Type 0} (state : M → S) (m : Meaning S) (IsReady : ℕ → Lis
         let reports : Reports r f.cycles f.instructions f.last = subst (λ (g : Finish). Reports r g.cycles g.instructions g.last) (sym same) plainly.report in
         let given : IfSome told.out.held (λ h. h ≡ plain.told_of old.out.held ++ f.left.given) =
         subst (λ (g : Finish). IfSome told.out.held (λ h. h ≡ plain.told_of old.out.held ++ g.left.given)) (sym same) plainly.given in
-        let limit : OfLimit f = of_limit (program_on (timing_of m.machine) program) bound run.begins.finishes.0 (first_point (program_on (timing_of m.machine) program) program.main_locals run.begins.input) f run.begins.finishes.1 in
+        let limit : OfLimit f =
+        cycles_at_last (program_on (timing_of m.machine) program) bound (first_point (program_on (timing_of m.machine) program) program.main_locals run.begins.input) f run.begins.finishes in
         let counts = run.at.counts in
         let heads : clocked_head (board_end f.end) board.counts ≡ plain_head r =
         clocked_is board.counts f limit (λ q. sym (ap (λ (c : Counts). c.cycles) counts) ∙ run.agrees.cycles q)

@@ -3,3 +3,4 @@ pub mod Step
 pub mod Cost
 pub mod Run
 pub mod Safe
+pub mod Limited

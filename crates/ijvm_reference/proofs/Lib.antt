@@ -2,7 +2,6 @@ pub mod Stacks
 pub mod Placed
 pub mod Calls
 pub mod Turned
-pub mod Limited
 pub mod SafeLemmas
 pub mod Costs
 pub mod Keeping

@@ -20,13 +20,13 @@ use Rattle.ijvm_reference.specs.declared.plain.Counts.{Counts}
 use Rattle.ijvm_image.specs.Image.{ImageView}
 use Rattle.ijvm_meaning.specs.Frames.{State}
 use Rattle.ijvm_meaning.specs.Step.{StepOutcome, Goes, Halts, Errs, Limits, step_outcome}
+use Rattle.ijvm_meaning.specs.Limited.{limits-same, same_frames}
 use Rattle.ijvm_meaning.specs.Cost.{timing_of, next_cost}
 use Rattle.ijvm_meaning.specs.Run.{TimedImage, Point, Finish, point_after, completed, stopped, after_outcome, after_test, finish_from, EndsBy, Passes, Start, More}
 use Rattle.ijvm_reference.specs.Machine.{MachineView, KeepsProgram, state_of}
 use Rattle.ijvm_reference.specs.Steps.{IsLedOn, Does, IsCutOff, IsMetBy}
 use Rattle.ijvm_reference.proofs.Costs.{next_cost-least}
 use Rattle.ijvm_reference.proofs.SafeLemmas.{some_untaken, some_given}
-use Rattle.ijvm_reference.proofs.Limited.{limits-same, same_frames}
 use Rattle.ijvm_reference.specs.Kept.{HasKept}
 use Rattle.ijvm_reference.proofs.Keeping.{next_kept}
 use Rattle.ijvm_reference.specs.Runs.{program_of, point_at, RunEndsWith, EndsIn, IsAllBut, IsAtBoundary, IsCut, ComesFurther, StoppedBy, IsShown, ShownBy, LedTo, TurnsTo, GoesOn, counts_after, stop_by, Reaches, Begins, Onward, cut_by}
@@ -82,7 +82,7 @@ limit_ends bound machine old new counts u g u' g' under boundary does =
         boundary = sym boundary;
         cycles = refl;
         instructions = refl;
-        last = limits-same p.image p.stack_end at.state left does;
+        last = (limits-same p.image p.stack_end at.state left does).frames;
         left = refl;
       },
       refl,

@@ -9,10 +9,10 @@ use Rattle.ijvm_instr.specs.declared.instr.Instr.{Instr}
 use Rattle.ijvm_image.specs.Image.{ImageView}
 use Rattle.ijvm_meaning.specs.Frames.{State}
 use Rattle.ijvm_meaning.specs.Step.{Goes, step_outcome}
+use Rattle.ijvm_meaning.specs.Limited.{limits-same}
 use Rattle.ijvm_meaning.specs.Safe.{SameFrames, ComesTo, Here, On, NeverStuck}
 use Rattle.ijvm_reference.specs.Machine.{MachineView, KeepsProgram, state_of}
 use Rattle.ijvm_reference.specs.Steps.{IsLedOn, Does, Turns, StepFails}
-use Rattle.ijvm_reference.proofs.Limited.{limits-same}
 
 same_on : (s t u : State) → SameFrames s t → SameFrames t u → SameFrames s u
 same_on s t u first then_ = record { running = then_.running ∙ first.running; callers = then_.callers ∙ first.callers; at = then_.at ∙ first.at }
@@ -71,7 +71,8 @@ never_by ends.Err old new u g u' g' never does =
     never_as old.image old.stack_end (state_of old [] []) (state_of new [] []) never
     (same_as (state_of old [] []) (state_of old u g) (state_of new u' g') (state_of new [] []) (same_frames old [] [] u g) (sym does.1) (same_frames new u' g' [] []))
 never_by ends.StackLimit old new u g u' g' never does =
-    let stays : SameFrames (state_of old u g) (state_of new u' g') = limits-same old.image old.stack_end (state_of old u g) (state_of new u' g') does in
+    let stays : SameFrames (state_of old u g) (state_of new u' g') =
+    (limits-same old.image old.stack_end (state_of old u g) (state_of new u' g') does).frames in
     never_as old.image old.stack_end (state_of old [] []) (state_of new [] []) never
     (same_on (state_of old [] []) (state_of new u' g') (state_of new [] []) (same_on (state_of old [] []) (state_of old u g) (state_of new u' g') (same_frames old [] [] u g) stays) (same_frames new u' g' [] []))
 

@@ -7,7 +7,8 @@ use Rattle.ijvm_instr.specs.Instructions.{instr_at}
 use Rattle.ijvm_image.specs.Image.{ImageView}
 use Rattle.ijvm_meaning.specs.Frames.{State, frames_of, base}
 use Rattle.ijvm_meaning.specs.Step.{Goes, Halts, Limits, Stuck, limited, step, step_if_any, step_outcome}
-use Rattle.ijvm_meaning.specs.Safe.{SameFrames, ComesTo, Here, On, NeverStuck}
+use Rattle.ijvm_meaning.specs.Limited.{same_frames}
+use Rattle.ijvm_meaning.specs.Safe.{ComesTo, Here, On, NeverStuck}
 use Rattle.tiny_tree.specs.Meaning.{Meaning, Ended, Cut}
 pub use Rattle.tiny_runs.specs.AsMeant.{output, IsPrefix}
 
@@ -29,9 +30,6 @@ pub data Led (image : ImageView) (stack_end : ℕ) (m : Meaning) : ℕ → State
 pub record Follows (image : ImageView) (stack_end : ℕ) (m : Meaning) (k : ℕ) (s : State) : Type 0 where
   pub prefix : IsPrefix s.given (output m)
   pub led : NeverStuck image stack_end s → Led image stack_end m k s
-
-same_frames : (s : State) → SameFrames s s
-same_frames s = record { running = refl; callers = refl; at = refl }
 
 module _ (image : ImageView) (stack_end : ℕ) where
   abbrev Fol : Meaning → ℕ → State → Type 0
