@@ -2,3 +2,4 @@ pub mod DigitLemmas
 pub mod NameLemmas
 pub mod NumberLemmas
 pub mod FileLemmas
+pub mod ReadLemmas

@@ -1,6 +1,6 @@
 //! What each answer of the runtime becomes, and which of them are counted as faults.
 
-ghost use Rattle.std.specs.Prelude.{◌≡◌, ◌≢◌, ◌≤◌, ◌<◌, ◌↔◌, length, Some, None, Ok, Err, IsOk, IsErr, IfOk, IfErr};
+ghost use Rattle.std.specs.Prelude.{◌≡◌, ◌≢◌, ◌≤◌, ◌<◌, ◌↔◌, length, Ok, Err, IsOk, IsErr, IfOk, IfErr};
 ghost use Rattle.std.specs.IoError.{error_kind};
 ghost use Rattle.mic_base.specs.Causes.{HasCause};
 ghost use Rattle.mic_base.specs.Files.{HasFileCause, most_bytes};
@@ -11,20 +11,17 @@ use crate::source::SourceFailed;
 use std::io;
 use std::io::ErrorKind;
 
-/// The answer to a `read_exact` of one byte. At the end of input, the runtime reports an unexpected end of the file.
+/// The read of a byte, or none at the end of input.
 pub(super) fn byte_read(
-    answer: io::Result<()>,
-    byte: u8,
+    answer: io::Result<Option<u8>>,
     faults: &mut u64,
 ) -> Result<Option<u8>, SourceFailed>
-    ensures byte { IsOk answer → result ≡ Ok (Some byte) }
-    ensures end { IfErr answer (λ e. error_kind e ≡ ErrorKind.UnexpectedEof → result ≡ Ok None) }
-    ensures failed { IfErr answer (λ e. error_kind e ≢ ErrorKind.UnexpectedEof → IsErr result) }
+    ensures next { IfOk answer (λ next. result ≡ Ok next) }
+    ensures failed { IsErr answer → IsErr result }
     ensures cause { HasCause faults.old faults.new result }
 {
     match answer {
-        Ok(()) => Ok(Some(byte)),
-        Err(error) if error.kind() == ErrorKind::UnexpectedEof => Ok(None),
+        Ok(next) => Ok(next),
         Err(_) => {
             *faults = faults.saturating_add(1);
             Err(SourceFailed)

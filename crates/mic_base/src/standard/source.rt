@@ -2,11 +2,12 @@
 
 ghost use Rattle.std.specs.Prelude.{◌≡◌, None};
 ghost use Rattle.mic_base.specs.Causes.{HasCause};
-ghost use Rattle.mic_base.specs.Streams.{Takes};
+ghost use Rattle.mic_base.specs.Streams.{ReadsNext, Takes};
 
 use super::answers::byte_read;
 use crate::source::{Source, SourceFailed};
-use std::io::Read;
+use std::io;
+use std::io::{ErrorKind, Read};
 
 /// The bytes of a reader, such as standard input.
 #[derive(Drop)]
@@ -27,7 +28,7 @@ impl<R> StdSource<R> {
 }
 
 impl<R: Read> Source for StdSource<R> {
-    ghost use Rattle.mic_base.specs.Standard.{reader_faults, reader_of, ReadsNext};
+    ghost use Rattle.mic_base.specs.Standard.{reader_faults, reader_of};
 
     ghost left = { λ s. None };
 
@@ -37,11 +38,29 @@ impl<R: Read> Source for StdSource<R> {
         ensures takes { Takes None result None }
         ensures cause { HasCause (reader_faults self.old) (reader_faults self.new) result }
 
-        // A byte is the reader's next one, where that is known.
+        // What is read is the reader's next byte, and the end is the reader's, where its bytes are known.
         ensures read { ReadsNext (R.remaining (reader_of self.old)) result (R.remaining (reader_of self.new)) }
     {
-        let mut byte = [0];
-        let answer = self.reader.read_exact(&mut byte);
-        byte_read(answer, byte[0], &mut self.faults)
+        byte_read(next_byte(&mut self.reader), &mut self.faults)
     }
+}
+
+/// The reader's next byte, or none at its end. A read that a signal interrupts is tried again.
+fn next_byte<R: Read>(reader: &mut R) -> io::Result<Option<u8>>
+    ensures { ReadsNext (R.remaining reader.old) result (R.remaining reader.new) }
+{
+    // A loop is proved to end, so this one counts its turns.
+    for _ in 0..u64::MAX {
+        let mut byte = [0];
+        match reader.read(&mut byte) {
+            Ok(0) => return Ok(None),
+            Ok(_) => return Ok(Some(byte[0])),
+            Err(error) => {
+                if error.kind() != ErrorKind::Interrupted {
+                    return Err(error);
+                }
+            }
+        }
+    }
+    Err(io::Error::from(ErrorKind::TimedOut))
 }

@@ -1,0 +1,5 @@
+use Rattle.mic_base.proofs.ReadLemmas.{reads_as}
+use Rattle.mic_base.proofs.standard.source.StdSourceSource.get.Goals as goal
+
+pub returns-clause-read : goal.returns-clause-read
+returns-clause-read g c = reads_as _ _ c.next_byte.result c.byte_read.result c.byte_read.ensures.next c.byte_read.ensures.failed c.next_byte.ensures
