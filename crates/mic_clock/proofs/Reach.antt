@@ -25,6 +25,11 @@ module _ {M State : Type 0} (state : M → State) (left0 held0 : Option (List �
   IsLedTo-stays left left' board board' P same_left same_end led rest fits =
       led rest (subst (λ (o : Option (List ℕ)). Untaken o board.bus.console.ended rest) same_left (subst (λ (b : Bool). Untaken left' b rest) same_end fits))
 
+-- what is known after a call that changed neither the board nor the sink is known of both as they were
+pub unstopped : {M K : Type 0} (held : K → Option (List ℕ)) (board board' : BoardView M) (sink sink' : K) → (board' ≡ board) × (sink' ≡ sink) →
+    (P : BoardView M → Option (List ℕ) → Type 0) → P board' (held sink') → P board (held sink)
+unstopped held board board' sink sink' same P p = subst (λ k. P board (held k)) same.1 (subst (λ b. P b (held sink')) same.0 p)
+
 -- what holds of a step holds of the same step of a run
 same_step : {State : Type 0} (m : Meaning State) (P : ℕ → State → Type 0) (words words' : List ℕ) (s s' : State) → words ≡ words' → s' ≡ s →
     P (word_at m words s) s → P (word_at m words' s') s'

@@ -1,9 +1,11 @@
 use Rattle.std.proofs.Common.{◌≡◌, ◌≤◌, ◌+◌, ℕ, None, Some, IsSome, Option, List, suc, ◌∙◌, ap, subst, sym, refl, rules}
+use Rattle.mic_clock.specs.declared.end.End.{End}
 use Rattle.mic_clock.specs.View.{BoardView}
 use Rattle.mic_clock.specs.Run.{MicroRun, bounded, last_cycles}
 use Rattle.mic_clock.specs.Board.{ShowsAs, NoFault, IsLegRun, LegIsCutByRead, LegIsCutByWrite}
-use Rattle.mic_clock.proofs.Reach.{IsLedTo-map, Leads-start, Leads-turn, bound-cut, TurnIsCut-run, IsTurned-ended, buses_of-ended}
+use Rattle.mic_clock.proofs.Reach.{IsLedTo-map, Leads-start, Leads-turn, bound-cut, TurnIsCut-run, IsTurned-ended, buses_of-ended, unstopped}
 use Rattle.mic_clock.proofs.Strides.{stride-run, stride-read, stride-write}
+use Rattle.mic_clock.proofs.board.Board.stride.Given.{Over}
 use Rattle.mic_clock.proofs.board.Board.stride.Goals as goal
 
 -- the bound ends the board
@@ -44,65 +46,49 @@ returns-then-is_some-clause-in_time g c =
     let late : new.end ≡ None → ⊥ = λ q. absurd (let still = subst IsSome q over in cc) in
     record { within = near; near = c.stop_at.ensures.in_time.1; ordered = c.stop_at.ensures.in_time.2; onward = λ _ q. absurd (late q); boundary = λ q. absurd (late q) }
 
--- the bound does not end it, and an instruction follows
+-- The bound does not end the board, which is then as it was, with the sink, and an instruction follows.
+here : (g : Over) → (c : goal.After-instruction g) → (P : BoardView g.row.M.Denot → Option (List ℕ) → Type 0) →
+    P c.stop_at.new.self (g.K.Sink.held c.stop_at.new.sink) → P c.args.self.now (g.K.Sink.held c.args.sink.now)
+here g c = let none : c.stop_at.result ≡ None = search rules in unstopped g.K.Sink.held _ _ _ _ (c.stop_at.ensures.stays.0 none)
+
+shows : (g : Over) → (c : goal.After-instruction g) →
+    ShowsAs g.M.Clocked.state (g.K.Sink.held c.args.sink.now) c.args.self.now (g.K.Sink.held c.args.sink.now) c.args.self.now
+    (bounded g.M.Clocked.meaning (Some c.args.bound))
+shows g c =
+    let board = c.args.self.now in
+    let held = g.K.Sink.held c.args.sink.now in
+    here g c (λ b h. NoFault board.end b.end → ShowsAs g.M.Clocked.state held board h b (bounded g.M.Clocked.meaning (Some c.args.bound)))
+    c.stop_at.ensures.run (subst (λ (e : Option End). NoFault e e) (sym c.requires.running) tt)
 
 pub returns-clause-run : goal.returns-clause-run
 returns-clause-run g c = λ plain.
     let state = g.M.Clocked.state in
     let m = g.M.Clocked.meaning in
-    let board = c.args.self.now in
     let left = g.S.Source.left c.args.source.now in
-    let held = g.K.Sink.held c.args.sink.now in
     let left' = g.S.Source.left c.instruction.new.source in
     let held' = g.K.Sink.held c.instruction.new.sink in
     let new = c.instruction.new.self in
-    let none : c.stop_at.result ≡ None = search rules in
-    let stays = c.stop_at.ensures.stays.0 none in
-    let same_held : g.K.Sink.held c.stop_at.new.sink ≡ held = ap g.K.Sink.held stays.1 in
-    let here : (P : BoardView g.row.M.Denot → Option (List ℕ) → Type 0) → P c.stop_at.new.self (g.K.Sink.held c.stop_at.new.sink) → P board held =
-    λ P p. subst (λ b. P b held) stays.0 (subst (λ h. P c.stop_at.new.self h) same_held p) in
-    let shows : NoFault board.end board.end → ShowsAs state held board held board (bounded m (Some c.args.bound)) =
-    here (λ b h. NoFault board.end b.end → ShowsAs state held board h b (bounded m (Some c.args.bound))) c.stop_at.ensures.run in
-    let not_ended : board.end ≡ None = search rules in
-    stride-run state m c.args.bound left held board (shows (search rules)) left' held' new
-    (here (λ b h. IsLegRun state m left h b left' held' new) c.instruction.ensures.run not_ended plain)
+    stride-run state m c.args.bound left _ c.args.self.now (shows g c) left' held' new
+    (here g c (λ b h. IsLegRun state m left h b left' held' new) c.instruction.ensures.run c.requires.running plain)
 
 pub returns-clause-read : goal.returns-clause-read
 returns-clause-read g c = λ not_ended p.
     let state = g.M.Clocked.state in
     let m = g.M.Clocked.meaning in
-    let board = c.args.self.now in
     let left = g.S.Source.left c.args.source.now in
-    let held = g.K.Sink.held c.args.sink.now in
     let left' = g.S.Source.left c.instruction.new.source in
     let held' = g.K.Sink.held c.instruction.new.sink in
     let new = c.instruction.new.self in
-    let none : c.stop_at.result ≡ None = search rules in
-    let stays = c.stop_at.ensures.stays.0 none in
-    let same_held : g.K.Sink.held c.stop_at.new.sink ≡ held = ap g.K.Sink.held stays.1 in
-    let here : (P : BoardView g.row.M.Denot → Option (List ℕ) → Type 0) → P c.stop_at.new.self (g.K.Sink.held c.stop_at.new.sink) → P board held =
-    λ P p. subst (λ b. P b held) stays.0 (subst (λ h. P c.stop_at.new.self h) same_held p) in
-    let shows : NoFault board.end board.end → ShowsAs state held board held board (bounded m (Some c.args.bound)) =
-    here (λ b h. NoFault board.end b.end → ShowsAs state held board h b (bounded m (Some c.args.bound))) c.stop_at.ensures.run in
-    stride-read state m c.args.bound left held board (shows (search rules)) left' held' new
-    (here (λ b h. LegIsCutByRead state m left h b left' held' new) c.instruction.ensures.read not_ended p)
+    stride-read state m c.args.bound left _ c.args.self.now (shows g c) left' held' new
+    (here g c (λ b h. LegIsCutByRead state m left h b left' held' new) c.instruction.ensures.read not_ended p)
 
 pub returns-clause-write : goal.returns-clause-write
 returns-clause-write g c = λ not_ended p.
     let state = g.M.Clocked.state in
     let m = g.M.Clocked.meaning in
-    let board = c.args.self.now in
     let left = g.S.Source.left c.args.source.now in
-    let held = g.K.Sink.held c.args.sink.now in
     let left' = g.S.Source.left c.instruction.new.source in
     let held' = g.K.Sink.held c.instruction.new.sink in
     let new = c.instruction.new.self in
-    let none : c.stop_at.result ≡ None = search rules in
-    let stays = c.stop_at.ensures.stays.0 none in
-    let same_held : g.K.Sink.held c.stop_at.new.sink ≡ held = ap g.K.Sink.held stays.1 in
-    let here : (P : BoardView g.row.M.Denot → Option (List ℕ) → Type 0) → P c.stop_at.new.self (g.K.Sink.held c.stop_at.new.sink) → P board held =
-    λ P p. subst (λ b. P b held) stays.0 (subst (λ h. P c.stop_at.new.self h) same_held p) in
-    let shows : NoFault board.end board.end → ShowsAs state held board held board (bounded m (Some c.args.bound)) =
-    here (λ b h. NoFault board.end b.end → ShowsAs state held board h b (bounded m (Some c.args.bound))) c.stop_at.ensures.run in
-    stride-write state m c.args.bound left held board (shows (search rules)) left' held' new
-    (here (λ b h. LegIsCutByWrite state m left h b left' held' new) c.instruction.ensures.write not_ended p)
+    stride-write state m c.args.bound left _ c.args.self.now (shows g c) left' held' new
+    (here g c (λ b h. LegIsCutByWrite state m left h b left' held' new) c.instruction.ensures.write not_ended p)

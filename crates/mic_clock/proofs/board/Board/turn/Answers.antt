@@ -1,9 +1,11 @@
-use Rattle.std.proofs.Common.{◌≡◌, ℕ, None, Some, Option, List, ◌∙◌, ap, subst, refl, rules}
+use Rattle.std.proofs.Common.{◌≡◌, ℕ, None, Some, Option, List, ◌∙◌, ap, sym, subst, refl, rules}
 use Rattle.console_port.specs.declared.fault.BusFault.TheVariants as faults
+use Rattle.mic_clock.specs.declared.end.End.{End}
 use Rattle.mic_clock.specs.View.{BoardView}
 use Rattle.mic_clock.specs.Run.{MicroRun, bounded}
 use Rattle.mic_clock.specs.Board.{ShowsAs, IsTurned, IsCutByFault, NoFault}
-use Rattle.mic_clock.proofs.Reach.{IsLedTo-map, Leads-start, Leads-read, bound-cut, cycle-cut, IsTurned-bounded}
+use Rattle.mic_clock.proofs.Reach.{IsLedTo-map, Leads-start, Leads-read, bound-cut, cycle-cut, IsTurned-bounded, unstopped}
+use Rattle.mic_clock.proofs.board.Board.turn.Given.{Over}
 use Rattle.mic_clock.proofs.board.Board.turn.Goals as goal
 
 pub returns-in-Some-clause-write : goal.returns-in-Some-clause-write
@@ -11,25 +13,33 @@ returns-in-Some-clause-write g c = λ not_ended p.
     bound-cut g.M.Clocked.state g.M.Clocked.meaning c.args.bound _ _ c.args.self.now _ c.stop_at.new.self c.stop_at.ensures.same.input not_ended p
     (ap (λ (b : BoardView g.row.M.Denot). b.buses) c.stop_at.ensures.same.same) (c.stop_at.ensures.write _)
 
+-- The bound does not end the board, which is then as it was, with the sink.
+here : (g : Over) → (c : goal.After-cycle g) → (P : BoardView g.row.M.Denot → Option (List ℕ) → Type 0) →
+    P c.stop_at.new.self (g.K.Sink.held c.stop_at.new.sink) → P c.args.self.now (g.K.Sink.held c.args.sink.now)
+here g c = let none : c.stop_at.result ≡ None = search rules in unstopped g.K.Sink.held _ _ _ _ (c.stop_at.ensures.stays.0 none)
+
+shows : (g : Over) → (c : goal.After-cycle g) →
+    ShowsAs g.M.Clocked.state (g.K.Sink.held c.args.sink.now) c.args.self.now (g.K.Sink.held c.args.sink.now) c.args.self.now
+    (bounded g.M.Clocked.meaning (Some c.args.bound))
+shows g c =
+    let board = c.args.self.now in
+    let held = g.K.Sink.held c.args.sink.now in
+    let none : c.stop_at.result ≡ None = search rules in
+    let same_end = ap (λ (b : BoardView g.row.M.Denot). b.end) (c.stop_at.ensures.stays.0 none).0 in
+    let not_ended : board.end ≡ None = sym same_end ∙ (sym c.stop_at.ensures.value ∙ none) in
+    here g c (λ b h. NoFault board.end b.end → ShowsAs g.M.Clocked.state held board h b (bounded g.M.Clocked.meaning (Some c.args.bound)))
+    c.stop_at.ensures.run (subst (λ (e : Option End). NoFault e e) (sym not_ended) tt)
+
 pub returns-clause-turn : goal.returns-clause-turn
 returns-clause-turn g c =
     let state = g.M.Clocked.state in
     let m = g.M.Clocked.meaning in
-    let board = c.args.self.now in
     let left = g.S.Source.left c.args.source.now in
-    let held = g.K.Sink.held c.args.sink.now in
     let left' = g.S.Source.left c.cycle.new.source in
     let held' = g.K.Sink.held c.cycle.new.sink in
     let new = c.cycle.new.self in
-    let none : c.stop_at.result ≡ None = search rules in
-    let stays = c.stop_at.ensures.stays.0 none in
-    let same_held : g.K.Sink.held c.stop_at.new.sink ≡ held = ap g.K.Sink.held stays.1 in
-    let here : (P : BoardView g.row.M.Denot → Option (List ℕ) → Type 0) → P c.stop_at.new.self (g.K.Sink.held c.stop_at.new.sink) → P board held =
-    λ P p. subst (λ b. P b held) stays.0 (subst (λ h. P c.stop_at.new.self h) same_held p) in
-    let shows : NoFault board.end board.end → ShowsAs state held board held board (bounded m (Some c.args.bound)) =
-    here (λ b h. NoFault board.end b.end → ShowsAs state held board h b (bounded m (Some c.args.bound))) c.stop_at.ensures.run in
-    λ plain. IsTurned-bounded state m c.args.bound left held board left' held' new (shows (search rules))
-    (here (λ b h. IsTurned state m left h b left' held' new None) c.cycle.ensures.turn) plain
+    IsTurned-bounded state m c.args.bound left _ c.args.self.now left' held' new (shows g c)
+    (here g c (λ b h. IsTurned state m left h b left' held' new None) c.cycle.ensures.turn)
 
 pub returns-clause-read : goal.returns-clause-read
 returns-clause-read g c = λ not_ended p.
@@ -41,35 +51,19 @@ returns-clause-read g c = λ not_ended p.
     let left' = g.S.Source.left c.cycle.new.source in
     let held' = g.K.Sink.held c.cycle.new.sink in
     let new = c.cycle.new.self in
-    let none : c.stop_at.result ≡ None = search rules in
-    let stays = c.stop_at.ensures.stays.0 none in
-    let same_held : g.K.Sink.held c.stop_at.new.sink ≡ held = ap g.K.Sink.held stays.1 in
-    let here : (P : BoardView g.row.M.Denot → Option (List ℕ) → Type 0) → P c.stop_at.new.self (g.K.Sink.held c.stop_at.new.sink) → P board held =
-    λ P p. subst (λ b. P b held) stays.0 (subst (λ h. P c.stop_at.new.self h) same_held p) in
-    let shows : NoFault board.end board.end → ShowsAs state held board held board (bounded m (Some c.args.bound)) =
-    here (λ b h. NoFault board.end b.end → ShowsAs state held board h b (bounded m (Some c.args.bound))) c.stop_at.ensures.run in
-    let cut = here (λ b h. IsCutByFault state m left h b left' held' new) c.cycle.ensures.cut faults.ReadFault not_ended tt p in
+    let cut = here g c (λ b h. IsCutByFault state m left h b left' held' new) c.cycle.ensures.cut faults.ReadFault not_ended tt p in
     let Along : ℕ → MicroRun g.M.Clocked.State → Type 0 = λ n r. Unit {0} in
     IsLedTo-map state left held board left' new _ _ (λ r rest at. (at.0, at.2))
     (Leads-read state m board.store.words (Some c.args.bound) left held board Along left held board left' held' new refl (Leads-start state m c.args.bound left held board)
-    not_ended cut (λ r s. (shows (search rules) left r s).its_end ∙ not_ended))
+    not_ended cut (λ r s. (shows g c left r s).its_end ∙ not_ended))
 
 pub returns-clause-write : goal.returns-clause-write
 returns-clause-write g c = λ not_ended p.
     let state = g.M.Clocked.state in
     let m = g.M.Clocked.meaning in
-    let board = c.args.self.now in
     let left = g.S.Source.left c.args.source.now in
-    let held = g.K.Sink.held c.args.sink.now in
     let left' = g.S.Source.left c.cycle.new.source in
     let held' = g.K.Sink.held c.cycle.new.sink in
     let new = c.cycle.new.self in
-    let none : c.stop_at.result ≡ None = search rules in
-    let stays = c.stop_at.ensures.stays.0 none in
-    let same_held : g.K.Sink.held c.stop_at.new.sink ≡ held = ap g.K.Sink.held stays.1 in
-    let here : (P : BoardView g.row.M.Denot → Option (List ℕ) → Type 0) → P c.stop_at.new.self (g.K.Sink.held c.stop_at.new.sink) → P board held =
-    λ P p. subst (λ b. P b held) stays.0 (subst (λ h. P c.stop_at.new.self h) same_held p) in
-    let shows : NoFault board.end board.end → ShowsAs state held board held board (bounded m (Some c.args.bound)) =
-    here (λ b h. NoFault board.end b.end → ShowsAs state held board h b (bounded m (Some c.args.bound))) c.stop_at.ensures.run in
-    let cut = here (λ b h. IsCutByFault state m left h b left' held' new) c.cycle.ensures.cut faults.WriteFault not_ended tt p in
-    cycle-cut state m c.args.bound left held board left' held' new not_ended p (shows (search rules)) cut
+    let cut = here g c (λ b h. IsCutByFault state m left h b left' held' new) c.cycle.ensures.cut faults.WriteFault not_ended tt p in
+    cycle-cut state m c.args.bound left _ c.args.self.now left' held' new not_ended p (shows g c) cut
