@@ -35,27 +35,26 @@ unwrap-cycle-requires c =
     let copied : IsSome (option_copied c.get.result) = subst (λ (o : Option KeptCycle). IsSome o) (sym c.get.ensures) there in
     search rules
 
+-- the kept cycle before the cursor
+got : (c : goal.After-undo) →
+    slice_get c.self.inside.cycles.items (length c.self.inside.cycles.items - c.self.inside.behind - 1) ≡ Some c.unwrap-cycle.result.now
+got c =
+    subst (λ (n : ℕ). slice_get c.self.inside.cycles.items (n - c.self.inside.behind - 1) ≡ Some c.unwrap-cycle.result.now) c.len.ensures.len
+    (sym c.get.ensures ∙ ap option_copied c.unwrap-cycle.ensures)
+
+some : (c : goal.After-undo) → 0 < length c.self.inside.cycles.items - c.self.inside.behind
+some c = let len = c.len.ensures.len in omega arith
+
 pub invariant_of-self : goal.invariant_of-self
 invariant_of-self c =
     let h = c.self.inside in
-    let cycle = c.unwrap-cycle.result.now in
-    let len = c.len.ensures.len in
-    let got : slice_get h.cycles.items (length h.cycles.items - h.behind - 1) ≡ Some cycle =
-    subst (λ (n : ℕ). slice_get h.cycles.items (n - h.behind - 1) ≡ Some cycle) len (sym c.get.ensures ∙ ap option_copied c.unwrap-cycle.ensures) in
-    let some : 0 < length h.cycles.items - h.behind = omega arith in
-    let is = placed_back h.first h.cycles h.behind h.memory.items cycle c.self.invariant some got in
-    subst (λ (ws : List ℕ). AreKept h.first h.cycles (h.behind + 1) ws) (sym c.undo.ensures) is
+    subst (λ (ws : List ℕ). AreKept h.first h.cycles (h.behind + 1) ws) (sym c.undo.ensures)
+    (placed_back h.first h.cycles h.behind h.memory.items c.unwrap-cycle.result.now c.self.invariant (some c) (got c))
 
 pub returns-clause-went : goal.returns-clause-went
 returns-clause-went c =
     let h = c.self.inside in
-    let cycle = c.unwrap-cycle.result.now in
-    let len = c.len.ensures.len in
-    let got : slice_get h.cycles.items (length h.cycles.items - h.behind - 1) ≡ Some cycle =
-    subst (λ (n : ℕ). slice_get h.cycles.items (n - h.behind - 1) ≡ Some cycle) len (sym c.get.ensures ∙ ap option_copied c.unwrap-cycle.ensures) in
-    let some : 0 < length h.cycles.items - h.behind = omega arith in
-    let went = goes_back h.first h.cycles h.behind h.memory.items cycle c.self.invariant some got in
-    let b = begun_at h.first h.cycles in
+    let went = goes_back h.first h.cycles h.behind h.memory.items c.unwrap-cycle.result.now c.self.invariant (some c) (got c) in
     λ e.
     subst (λ (v : HistoryView). GoesBack v (view_from h.first h.cycles (h.behind + 1) c.undo.new.memory.items)) c.self.view_is
     (subst (λ (ws : List ℕ). GoesBack (view_from h.first h.cycles h.behind h.memory.items) (view_from h.first h.cycles (h.behind + 1) ws)) (sym c.undo.ensures) went)

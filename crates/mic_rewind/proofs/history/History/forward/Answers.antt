@@ -29,42 +29,35 @@ unwrap-cycle-requires c =
     let copied : IsSome (option_copied c.get.result) = subst (λ (o : Option KeptCycle). IsSome o) (sym c.get.ensures) there in
     search rules
 
+-- the kept cycle after the cursor
+got : (c : goal.After-redo) →
+    slice_get c.self.inside.cycles.items (length c.self.inside.cycles.items - c.self.inside.behind) ≡ Some c.unwrap-cycle.result.now
+got c =
+    subst (λ (n : ℕ). slice_get c.self.inside.cycles.items (n - c.self.inside.behind) ≡ Some c.unwrap-cycle.result.now) c.len.ensures.len
+    (sym c.get.ensures ∙ ap option_copied c.unwrap-cycle.ensures)
+
+some : (c : goal.After-redo) → 0 < c.self.inside.behind
+some c =
+    let h = c.self.inside in
+    let was : 0 < length (view_from h.first h.cycles h.behind h.memory.items).after = subst (λ (v : HistoryView). 0 < length v.after) (sym c.self.view_is) c.requires in
+    let l = behind-length (begun_at h.first h.cycles) h.behind h.memory.items c.self.invariant.cursor in
+    omega arith
+
 pub invariant_of-self : goal.invariant_of-self
 invariant_of-self c =
     let h = c.self.inside in
-    let b = begun_at h.first h.cycles in
-    let cycle = c.unwrap-cycle.result.now in
-    let got : slice_get h.cycles.items (length h.cycles.items - h.behind) ≡ Some cycle =
-    subst (λ (n : ℕ). slice_get h.cycles.items (n - h.behind) ≡ Some cycle) c.len.ensures.len (sym c.get.ensures ∙ ap option_copied c.unwrap-cycle.ensures) in
-    let was : 0 < length (view_from h.first h.cycles h.behind h.memory.items).after = subst (λ (v : HistoryView). 0 < length v.after) (sym c.self.view_is) c.requires in
-    let l = behind-length b h.behind h.memory.items c.self.invariant.cursor in
-    let some : 0 < h.behind = omega arith in
-    let is = placed_on h.first h.cycles h.behind h.memory.items cycle c.self.invariant some got in
-    subst (λ (ws : List ℕ). AreKept h.first h.cycles (h.behind - 1) ws) (sym c.redo.ensures) is
+    subst (λ (ws : List ℕ). AreKept h.first h.cycles (h.behind - 1) ws) (sym c.redo.ensures)
+    (placed_on h.first h.cycles h.behind h.memory.items c.unwrap-cycle.result.now c.self.invariant (some c) (got c))
 
 pub returns-clause-went : goal.returns-clause-went
 returns-clause-went c =
     let h = c.self.inside in
-    let b = begun_at h.first h.cycles in
-    let cycle = c.unwrap-cycle.result.now in
-    let got : slice_get h.cycles.items (length h.cycles.items - h.behind) ≡ Some cycle =
-    subst (λ (n : ℕ). slice_get h.cycles.items (n - h.behind) ≡ Some cycle) c.len.ensures.len (sym c.get.ensures ∙ ap option_copied c.unwrap-cycle.ensures) in
-    let was : 0 < length (view_from h.first h.cycles h.behind h.memory.items).after = subst (λ (v : HistoryView). 0 < length v.after) (sym c.self.view_is) c.requires in
-    let l = behind-length b h.behind h.memory.items c.self.invariant.cursor in
-    let some : 0 < h.behind = omega arith in
-    let went = goes_on h.first h.cycles h.behind h.memory.items cycle c.self.invariant some got in
+    let went = goes_on h.first h.cycles h.behind h.memory.items c.unwrap-cycle.result.now c.self.invariant (some c) (got c) in
     subst (λ (v : HistoryView). GoesBack (view_from h.first h.cycles (h.behind - 1) c.redo.new.memory.items) v) c.self.view_is
     (subst (λ (ws : List ℕ). GoesBack (view_from h.first h.cycles (h.behind - 1) ws) (view_from h.first h.cycles h.behind h.memory.items)) (sym c.redo.ensures) went)
 
 pub returns-clause-tick : goal.returns-clause-tick
 returns-clause-tick c =
     let h = c.self.inside in
-    let b = begun_at h.first h.cycles in
-    let cycle = c.unwrap-cycle.result.now in
-    let got : slice_get h.cycles.items (length h.cycles.items - h.behind) ≡ Some cycle =
-    subst (λ (n : ℕ). slice_get h.cycles.items (n - h.behind) ≡ Some cycle) c.len.ensures.len (sym c.get.ensures ∙ ap option_copied c.unwrap-cycle.ensures) in
-    let was : 0 < length (view_from h.first h.cycles h.behind h.memory.items).after = subst (λ (v : HistoryView). 0 < length v.after) (sym c.self.view_is) c.requires in
-    let l = behind-length b h.behind h.memory.items c.self.invariant.cursor in
-    let some : 0 < h.behind = omega arith in
-    let t = tick_on h.first h.cycles h.behind h.memory.items cycle c.self.invariant some got in
-    t ∙ ap (λ (v : HistoryView). tick_of v.here.moment.counts (moment_at h.first h.cycles.items (h.behind - 1)).counts None) c.self.view_is
+    tick_on h.first h.cycles h.behind h.memory.items c.unwrap-cycle.result.now c.self.invariant (some c) (got c)
+    ∙ ap (λ (v : HistoryView). tick_of v.here.moment.counts (moment_at h.first h.cycles.items (h.behind - 1)).counts None) c.self.view_is
