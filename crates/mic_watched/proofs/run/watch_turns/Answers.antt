@@ -3,10 +3,12 @@ use Rattle.micro_word.specs.ControlStore.{ControlStore}
 use Rattle.mic_clock.specs.Run.{last_cycles, word_at}
 use Rattle.mic_watched.specs.declared.cycle.Cycle.{Cycle}
 use Rattle.mic_watched.specs.Cycles.{shown_on}
+use Rattle.mic_watched.specs.Watched.{ShowsCycles}
 use Rattle.mic_watched.proofs.Shown.{over-start, one-turn, shows-then}
 use Rattle.mic_watched.proofs.Saying.{saw-nothing, saw-then, cause-then}
 use Rattle.mic_watched.proofs.InTime.{InTime-step}
 use Rattle.mic_watched.proofs.GoesOn.{goes-nowhere, goes-then}
+use Rattle.mic_watched.proofs.run.watch_turns.Given.{Over}
 use Rattle.mic_watched.proofs.run.watch_turns.Goals as goal
 
 pub turns-init : goal.turns-init
@@ -30,33 +32,40 @@ turns-init g c =
       in_time = record { cycles = omega arith; ordered = c.requires.board.ordered; last = λ _. inl (omega arith) };
     }
 
+-- the cycle that the last turn shows, and the run with it
+abbrev last : (g : Over) → goal.After-turn g → List Cycle
+last g c = shown_on g.M.Clocked.state g.M.Clocked.meaning c.mpc-mpc.result c.turn.new.self
+
+shows : (g : Over) → (c : goal.After-turn g) →
+    ShowsCycles g.M.Clocked.state g.M.Clocked.meaning c.args.bound (g.S.Source.left c.args.source.now) (g.K.Sink.held c.args.sink.now) c.args.board.now
+    (g.S.Source.left c.turn.new.source) (g.K.Sink.held c.turn.new.sink) c.turn.new.self (c.turns.invariant.watched.cycles ++ last g c) c.turn.new.self.end
+shows g c =
+    let state = g.M.Clocked.state in
+    let m = g.M.Clocked.meaning in
+    let old = c.turns.board in
+    let inv = c.turns.invariant in
+    let not_ended : old.end ≡ None = search rules in
+    let program = ap (λ (s : ControlStore). s.words) inv.goes_on.store in
+    shows-then state m c.args.bound _ _ c.args.board.now _ _ old _ _ c.turn.new.self inv.watched.cycles (last g c) program not_ended inv.watched.run
+    (one-turn state m c.args.bound _ _ old _ _ c.turn.new.self c.mpc-mpc.result c.mpc-mpc.ensures.value inv.in_time.ordered not_ended
+    c.turn.ensures.counted c.turn.ensures.turn c.turn.ensures.read c.turn.ensures.write)
+
 pub turns-preserved : goal.turns-preserved
 turns-preserved g c =
     let state = g.M.Clocked.state in
     let m = g.M.Clocked.meaning in
-    let first = c.args.board.now in
     let old = c.turns.board in
     let new = c.turn.new.self in
-    let left0 = g.S.Source.left c.args.source.now in
-    let held0 = g.K.Sink.held c.args.sink.now in
-    let left = g.S.Source.left c.turns.source in
-    let held = g.K.Sink.held c.turns.sink in
-    let left' = g.S.Source.left c.turn.new.source in
-    let held' = g.K.Sink.held c.turn.new.sink in
     let inv = c.turns.invariant in
+    let turned = (goal.at.turns-preserved g c).After-turn in
     let not_ended : old.end ≡ None = search rules in
-    let program : old.store.words ≡ first.store.words = ap (λ (s : ControlStore). s.words) inv.goes_on.store in
-    let top : ℕ = max c.args.bound (last_cycles first.counts.boundary) in
-    let cs : List Cycle = inv.watched.cycles in
-    let ds : List Cycle = shown_on state m c.mpc-mpc.result new in
+    let top : ℕ = max c.args.bound (last_cycles c.args.board.now.counts.boundary) in
     record {
       watched = record {
-        cycles = cs ++ ds;
-        run = shows-then state m c.args.bound left0 held0 first left held old left' held' new cs ds program not_ended inv.watched.run
-            (one-turn state m c.args.bound left held old left' held' new c.mpc-mpc.result c.mpc-mpc.ensures.value inv.in_time.ordered not_ended
-            c.turn.ensures.counted c.turn.ensures.turn c.turn.ensures.read c.turn.ensures.write);
+        cycles = inv.watched.cycles ++ last g turned;
+        run = shows g turned;
         saw = saw-then g.W.Watcher.keeps g.W.Watcher.Prints (g.W.Watcher.kept c.args.watcher.now) (g.W.Watcher.kept c.turns.watcher) (g.W.Watcher.kept c.show.new.watcher)
-            (g.E.Sink.held c.args.err.now) (g.E.Sink.held c.turns.err) (g.E.Sink.held c.show.new.err) cs ds (Ok (tt {0})) inv.watched.saw c.in-Ok.ensures.saw;
+            (g.E.Sink.held c.args.err.now) (g.E.Sink.held c.turns.err) (g.E.Sink.held c.show.new.err) inv.watched.cycles (last g turned) (Ok (tt {0})) inv.watched.saw c.in-Ok.ensures.saw;
       };
       goes_on = goes-then c.requires.board.not_ended inv.goes_on not_ended c.turn.ensures.goes_on;
       said = cause-then (g.E.Sink.faults c.args.err.now) (g.E.Sink.faults c.turns.err) (g.E.Sink.faults c.show.new.err) tt (Ok (tt {0})) inv.said c.in-Ok.ensures.cause;
@@ -66,29 +75,13 @@ turns-preserved g c =
 
 pub returns-in-Err-clause-watched : goal.returns-in-Err-clause-watched
 returns-in-Err-clause-watched g c =
-    let state = g.M.Clocked.state in
-    let m = g.M.Clocked.meaning in
-    let first = c.args.board.now in
-    let old = c.turns.board in
-    let new = c.turn.new.self in
-    let left0 = g.S.Source.left c.args.source.now in
-    let held0 = g.K.Sink.held c.args.sink.now in
-    let left = g.S.Source.left c.turns.source in
-    let held = g.K.Sink.held c.turns.sink in
-    let left' = g.S.Source.left c.turn.new.source in
-    let held' = g.K.Sink.held c.turn.new.sink in
     let inv = c.turns.invariant in
-    let not_ended : old.end ≡ None = search rules in
-    let program : old.store.words ≡ first.store.words = ap (λ (s : ControlStore). s.words) inv.goes_on.store in
-    let cs : List Cycle = inv.watched.cycles in
-    let ds : List Cycle = shown_on state m c.mpc-mpc.result new in
+    let turned = (goal.at.returns-in-Err-clause-watched g c).After-turn in
     record {
-      cycles = cs ++ ds;
-      run = shows-then state m c.args.bound left0 held0 first left held old left' held' new cs ds program not_ended inv.watched.run
-          (one-turn state m c.args.bound left held old left' held' new c.mpc-mpc.result c.mpc-mpc.ensures.value inv.in_time.ordered not_ended
-          c.turn.ensures.counted c.turn.ensures.turn c.turn.ensures.read c.turn.ensures.write);
+      cycles = inv.watched.cycles ++ last g turned;
+      run = shows g turned;
       saw = saw-then g.W.Watcher.keeps g.W.Watcher.Prints (g.W.Watcher.kept c.args.watcher.now) (g.W.Watcher.kept c.turns.watcher) (g.W.Watcher.kept c.show.new.watcher)
-          (g.E.Sink.held c.args.err.now) (g.E.Sink.held c.turns.err) (g.E.Sink.held c.show.new.err) cs ds (Err c.in-Err.failed) inv.watched.saw c.in-Err.ensures.saw;
+          (g.E.Sink.held c.args.err.now) (g.E.Sink.held c.turns.err) (g.E.Sink.held c.show.new.err) inv.watched.cycles (last g turned) (Err c.in-Err.failed) inv.watched.saw c.in-Err.ensures.saw;
     }
 
 pub returns-in-Err-clause-goes_on : goal.returns-in-Err-clause-goes_on
