@@ -210,6 +210,13 @@ pub record AreCounts (c : Counts) (end : Option End) : Type 0 where
   pub boundary : last_cycles c.boundary ≤ c.cycles
   pub since : c.cycles ≤ last_cycles c.boundary + 1024
 
+-- At most 1,024 cycles follow the last boundary, which is at cycle `top` or before, unless the board stands there or has ended.
+pub record InTime (top : ℕ) (c : Counts) (is_boundary : Bool) (end : Option End) : Type 0 where
+  pub cycles : c.cycles ≤ top + 1024
+  pub ordered : last_cycles c.boundary ≤ c.cycles
+  pub near : c.cycles ≤ last_cycles c.boundary + 1024
+  pub last : end ≡ None → (last_cycles c.boundary ≤ top) ⊎ (is_boundary ≡ true)
+
 -- as it was, except for what the console keeps and the end
 pub record IsOnlyFlushed {M : Type 0} (board board' : BoardView M) : Type 0 where
   pub same : board' ≡ record board { bus = board'.bus; end = board'.end }
@@ -234,6 +241,12 @@ module _ {M State : Type 0} (state : M → State) (m : Meaning State) (board boa
     pub room : HasRoom board board'
     pub still : EndsUncounted board board'
     pub buses : ShowsBuses state m board board'
+
+  -- A turn with this bound keeps the board in time.
+  abbrev pub KeepsInTime : ℕ → Type 0
+  KeepsInTime bound =
+      (top : ℕ) → bound ≤ top → board.end ≡ None → InTime top board.counts (m.is_boundary (state board.machine)) board.end →
+      InTime top board'.counts (m.is_boundary (state board'.machine)) board'.end
 
   -- Turns that do not end come to a boundary after at least one cycle, and none clocks on for more than 1,024 cycles without one.
   pub record ComesInTime : Type 0 where

@@ -4,9 +4,9 @@ use Rattle.micro_word.specs.ControlStore.{ControlStore}
 use Rattle.mic_clock.specs.Run.{MicroRun, IsLeg, word_at, last_cycles}
 use Rattle.mic_clock.specs.declared.running.Running.{Running}
 use Rattle.mic_clock.specs.View.{BoardView}
-use Rattle.mic_clock.specs.Board.{NoFault, IsTurned, IsCutByFault, GoesOn}
+use Rattle.mic_clock.specs.Board.{NoFault, IsTurned, IsCutByFault, GoesOn, InTime}
 use Rattle.mic_clock.specs.Parts.{board_of, ChangesByTurn}
-use Rattle.mic_clock.proofs.InTime.{InTime, InTime-step, InLeg-step}
+use Rattle.mic_clock.proofs.InTime.{InTime-step, InLeg-step}
 use Rattle.mic_clock.proofs.GoesOn.{GoesOn-step}
 use Rattle.mic_clock.proofs.Legs.{leg-start, leg-inside}
 use Rattle.mic_clock.proofs.Reach.{IsLedTo-map, Leads-turn, Leads-read, Leads-write}
@@ -38,7 +38,8 @@ inside-init g c =
     let ordered : last_cycles first.counts.boundary ≤ first.counts.cycles = search rules in
     let near : first.counts.cycles ≤ top + 1024 = omega arith in
     let behind : last_cycles first.counts.boundary ≤ top = omega arith in
-    let in_time : InTime top first.counts false first.end = record { cycles = near; ordered = ordered; last = λ _. inl behind } in
+    let in_time : InTime top first.counts false first.end =
+    record { cycles = near; ordered = ordered; near = c.requires.parts.counts.since; last = λ _. inl behind } in
     let led = leg-start state m words left0 held0 first in
     record {
       parts = search rules;

@@ -38,7 +38,8 @@ strides-preserved g c =
           words program led (c.stride.ensures.write not_ended p);
       goes_on = GoesOn-step _ _ _ _ _ _ _ first _ _ old _ _ new first_not_ended not_ended c.strides.invariant.goes_on c.stride.ensures.goes_on;
       in_time = InTime-stride top c.args.bound old.counts new.counts (m.is_boundary (state old.machine)) (m.is_boundary (state new.machine)) old.end new.end not_ended le
-          c.strides.invariant.in_time c.stride.ensures.in_time.ordered c.stride.ensures.in_time.within c.stride.ensures.growth c.stride.ensures.in_time.boundary;
+          c.strides.invariant.in_time c.stride.ensures.in_time.ordered c.stride.ensures.in_time.near c.stride.ensures.in_time.within
+          c.stride.ensures.growth c.stride.ensures.in_time.boundary;
     }
 
 pub returns-clause-run : goal.returns-clause-run

@@ -1,9 +1,10 @@
-use Rattle.std.proofs.Common.{◌≡◌, ℕ, None, Some, Option, List, ◌∙◌, ap, sym, subst, refl, rules}
+use Rattle.std.proofs.Common.{◌≡◌, ℕ, None, Some, IsSome, Option, List, ◌∙◌, ap, sym, subst, refl, rules}
 use Rattle.console_port.specs.declared.fault.BusFault.TheVariants as faults
 use Rattle.mic_clock.specs.declared.end.End.{End}
 use Rattle.mic_clock.specs.View.{BoardView}
-use Rattle.mic_clock.specs.Run.{MicroRun, bounded}
-use Rattle.mic_clock.specs.Board.{ShowsAs, IsTurned, IsCutByFault, NoFault}
+use Rattle.mic_clock.specs.Run.{MicroRun, bounded, word_at}
+use Rattle.mic_clock.specs.Board.{ShowsAs, IsTurned, IsCutByFault, NoFault, IsCountedTurn, InTime}
+use Rattle.mic_clock.proofs.InTime.{InTime-step}
 use Rattle.mic_clock.proofs.Reach.{IsLedTo-map, Leads-start, Leads-read, bound-cut, cycle-cut, IsTurned-bounded, unstopped}
 use Rattle.mic_clock.proofs.board.Board.turn.Given.{Over}
 use Rattle.mic_clock.proofs.board.Board.turn.Goals as goal
@@ -12,6 +13,14 @@ pub returns-in-Some-clause-write : goal.returns-in-Some-clause-write
 returns-in-Some-clause-write g c = λ not_ended p.
     bound-cut g.M.Clocked.state g.M.Clocked.meaning c.args.bound _ _ c.args.self.now _ c.stop_at.new.self c.stop_at.ensures.same.input not_ended p
     (ap (λ (b : BoardView g.row.M.Denot). b.buses) c.stop_at.ensures.same.same) (c.stop_at.ensures.write _)
+
+pub returns-in-Some-clause-in_time : goal.returns-in-Some-clause-in_time
+returns-in-Some-clause-in_time g c = λ top le not_ended t.
+    let new = c.stop_at.new.self in
+    let over : IsSome new.end = search rules in
+    let same = ap (λ (b : BoardView g.row.M.Denot). b.counts) c.stop_at.ensures.same.same in
+    subst (λ x. InTime top x (g.M.Clocked.meaning.is_boundary (g.M.Clocked.state new.machine)) new.end) (sym same)
+    (record { cycles = t.cycles; ordered = t.ordered; near = t.near; last = λ q. absurd (let still = subst IsSome q over in cc) })
 
 -- The bound does not end the board, which is then as it was, with the sink.
 here : (g : Over) → (c : goal.After-cycle g) → (P : BoardView g.row.M.Denot → Option (List ℕ) → Type 0) →
@@ -67,3 +76,15 @@ returns-clause-write g c = λ not_ended p.
     let new = c.cycle.new.self in
     let cut = here g c (λ b h. IsCutByFault state m left h b left' held' new) c.cycle.ensures.cut faults.WriteFault not_ended tt p in
     cycle-cut state m c.args.bound left _ c.args.self.now left' held' new not_ended p (shows g c) cut
+
+pub returns-clause-in_time : goal.returns-clause-in_time
+returns-clause-in_time g c = λ top le not_ended t.
+    let state = g.M.Clocked.state in
+    let m = g.M.Clocked.meaning in
+    let board = c.args.self.now in
+    let new = c.cycle.new.self in
+    let none : c.stop_at.result ≡ None = search rules in
+    let counted = subst (λ b. IsCountedTurn state m b new) (c.stop_at.ensures.stays.0 none).0 c.cycle.ensures.counted in
+    InTime-step m top c.args.bound board.counts new.counts (m.is_boundary (state board.machine))
+    (m.drives (word_at m board.store.words (state board.machine)) (state board.machine)).stalled (state new.machine) board.end new.end not_ended le t
+    counted.still counted.room (λ q. (counted.clocked q).1) (λ _. c.stop_at.ensures.in_time.0 none)
