@@ -1,12 +1,11 @@
 use Rattle.std.proofs.Common.{◌≡◌, ◌++◌, ℕ, max, List, [], None, Ok, Err, inl, refl, ap, rules, arith}
 use Rattle.micro_word.specs.ControlStore.{ControlStore}
-use Rattle.mic_clock.specs.Run.{last_cycles, word_at}
+use Rattle.mic_clock.specs.Run.{last_cycles}
 use Rattle.mic_watched.specs.declared.cycle.Cycle.{Cycle}
 use Rattle.mic_watched.specs.Cycles.{shown_on}
 use Rattle.mic_watched.specs.Watched.{ShowsCycles}
 use Rattle.mic_watched.proofs.Shown.{over-start, one-turn, shows-then}
 use Rattle.mic_watched.proofs.Saying.{saw-nothing, saw-then, cause-then}
-use Rattle.mic_watched.proofs.InTime.{InTime-step}
 use Rattle.mic_watched.proofs.GoesOn.{goes-nowhere, goes-then}
 use Rattle.mic_watched.proofs.run.watch_turns.Given.{Over}
 use Rattle.mic_watched.proofs.run.watch_turns.Goals as goal
@@ -29,7 +28,7 @@ turns-init g c =
       };
       goes_on = goes-nowhere not_ended;
       said = record { later = omega arith; failed = tt; quiet = refl };
-      in_time = record { cycles = omega arith; ordered = c.requires.board.ordered; last = λ _. inl (omega arith) };
+      in_time = record { cycles = omega arith; ordered = c.requires.board.ordered; near = c.requires.board.near; last = λ _. inl (omega arith) };
     }
 
 -- the cycle that the last turn shows, and the run with it
@@ -52,13 +51,9 @@ shows g c =
 
 pub turns-preserved : goal.turns-preserved
 turns-preserved g c =
-    let state = g.M.Clocked.state in
-    let m = g.M.Clocked.meaning in
-    let old = c.turns.board in
-    let new = c.turn.new.self in
     let inv = c.turns.invariant in
     let turned = (goal.at.turns-preserved g c).After-turn in
-    let not_ended : old.end ≡ None = search rules in
+    let not_ended : c.turns.board.end ≡ None = search rules in
     let top : ℕ = max c.args.bound (last_cycles c.args.board.now.counts.boundary) in
     record {
       watched = record {
@@ -69,8 +64,7 @@ turns-preserved g c =
       };
       goes_on = goes-then c.requires.board.not_ended inv.goes_on not_ended c.turn.ensures.goes_on;
       said = cause-then (g.E.Sink.faults c.args.err.now) (g.E.Sink.faults c.turns.err) (g.E.Sink.faults c.show.new.err) tt (Ok (tt {0})) inv.said c.in-Ok.ensures.cause;
-      in_time = InTime-step m top c.args.bound old.counts new.counts (m.is_boundary (state old.machine)) (m.drives (word_at m old.store.words (state old.machine)) (state old.machine)).stalled (state new.machine) old.end new.end not_ended (omega arith) inv.in_time
-          c.turn.ensures.counted.still c.turn.ensures.counted.room (λ q. (c.turn.ensures.counted.clocked q).1) c.turn.ensures.below;
+      in_time = c.turn.ensures.in_time top (omega arith) not_ended inv.in_time;
     }
 
 pub returns-in-Err-clause-watched : goal.returns-in-Err-clause-watched
