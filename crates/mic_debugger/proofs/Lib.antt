@@ -1,6 +1,5 @@
 pub mod Starting
 pub mod Placing
-pub mod Timing
 pub mod Underway
 pub mod Carrying
 pub mod InputCauses

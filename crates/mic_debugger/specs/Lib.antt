@@ -7,6 +7,5 @@ pub mod Outcome
 pub mod Session
 pub mod Plans
 pub mod Shown
-pub mod InTime
 pub mod Stand
 pub mod Obeys

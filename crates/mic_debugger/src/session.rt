@@ -45,8 +45,8 @@ pub struct Session<M: Clocked> {
 
 impl<M: Clocked> Model for Session<M> {
     ghost use Rattle.std.specs.Prelude.{◌≤◌, ◌^◌};
+    ghost use Rattle.mic_clock.specs.Board.{InTime};
     ghost use Rattle.mic_debugger.specs.View.{SessionView};
-    ghost use Rattle.mic_debugger.specs.InTime.{InTime};
 
     ghost Value = { SessionView M };
 

@@ -1,11 +1,9 @@
 use Rattle.std.proofs.Common.{◌≡◌, ◌⊎◌, ◌+◌, ◌<◌, ◌++◌, ◌∙◌, ◌^◌, ℕ, [], None, Ok, IsSome, refl, sym, ap, rules}
 use Rattle.micro_word.specs.ControlStore.{ControlStore}
-use Rattle.mic_clock.specs.Run.{word_at}
 use Rattle.mic_debugger.specs.Obeys.{session_at}
 use Rattle.mic_debugger.specs.Outcome.{streams}
 use Rattle.mic_debugger.specs.Session.{text_between}
 use Rattle.mic_base.specs.Putting.{puts_nothing, puts_then}
-use Rattle.mic_debugger.proofs.Timing.{InTime-step}
 use Rattle.cli_session.specs.Fronts.{on_err_of}
 use Rattle.mic_debugger.proofs.Breaking.{broken_more, either_end, no_fault}
 use Rattle.mic_debugger.proofs.Underway.{underway_start, underway_more, underway_stopped, clocked_of}
@@ -92,8 +90,7 @@ turns-preserved g c =
         out = λ front h. goes_on.sink_goes_on.keeps front (inv.keeps.out front h);
         err = λ front h. printed.keeps front (inv.keeps.err front h);
       };
-      in_time = InTime-step m (2 ^ 62) self.bound old.counts new.counts (m.is_boundary (state old.machine)) (m.drives (word_at m old.store.words (state old.machine)) (state old.machine)).stalled (state new.machine) old.end new.end live c.requires.bound inv.in_time
-          c.turn.ensures.counted.still c.turn.ensures.counted.room (λ q. (c.turn.ensures.counted.clocked q).1) c.turn.ensures.below;
+      in_time = c.turn.ensures.in_time (2 ^ 62) c.requires.bound live inv.in_time;
     }
 
 pub returns-clause-done : goal.returns-clause-done
