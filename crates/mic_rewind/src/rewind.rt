@@ -1,6 +1,7 @@
 //! A board with a cursor at it, or some cycles before it.
 
-ghost use Rattle.std.specs.Prelude.{◌≡◌, ◌≢◌, ◌≤◌, ◌<◌, ◌+◌, ◌^◌, [], Err, IfOk, IfErr, OnOk, true, false, length, slice_get};
+ghost use Rattle.std.specs.Prelude.{◌≡◌, ◌≢◌, ◌≤◌, ◌<◌, ◌+◌, ◌^◌, [], Err, IsOk, IfOk, IfErr, OnOk, true, false, length, slice_get};
+ghost use Rattle.mic_base.specs.Streams.{IsFlushed};
 ghost use Rattle.console_port.specs.Console.{HasFaultCause};
 ghost use Rattle.console_port.specs.Streams.{SinkGoesOn};
 ghost use Rattle.console_port.specs.View.{KeepsMemoryAndInput};
@@ -115,7 +116,11 @@ impl<M: Clocked> Rewind<M> {
         ensures err { StandsOnErr K.held sink.old self.old.board.bus sink.new self.new.board.bus result }
         ensures fault { IfErr result (λ e. e ≡ BusFault.WriteFault) }
         ensures kept { self.new.board.bus.console.kept ≡ [] }
+        ensures empty { self.old.board.bus.console.kept ≡ [] →
+            IsOk result × (self.new ≡ self.old) × (sink.new ≡ sink.old) }
         ensures sink { SinkGoesOn K.held K.passed (result ≡ Err BusFault.WriteFault) sink.old sink.new }
+        ensures flushed { OnOk result ((self.old.board.bus.console.kept ≡ [] →
+            IsFlushed (K.held sink.old) (K.passed sink.old)) → IsFlushed (K.held sink.new) (K.passed sink.new)) }
         ensures cause { HasFaultCause 0 0 (K.faults sink.old) (K.faults sink.new) result }
     {
         self.board.flush(sink)
