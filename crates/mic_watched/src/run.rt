@@ -81,6 +81,7 @@ pub fn run_watched<M: Clocked, W: Watcher, S: Source, K: Sink, E: Sink>(
         (K.held sink.old) board.old (S.left source.new) (K.held sink.new) board.new
         (W.kept watcher.old) (W.kept watcher.new) (E.held err.old) (E.held err.new) (end_in result) (done result) }
     ensures end { IfOk result (λ e. e ≢ End.WriteFault → board.new.end ≡ Some e) }
+    ensures not_ended { OnErr result (board.new.end ≡ None) }
     ensures kept { IfOk result (λ e. board.new.bus.console.kept ≡ []) }
     ensures growth { board.new.counts.cycles ≤ max bound board.old.counts.cycles + 1024 }
 
