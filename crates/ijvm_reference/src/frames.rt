@@ -86,18 +86,9 @@ pub fn turn<S: Source, K: Sink>(
     match instr {
         Instr::Halt => Ok(Some(StepEnd::Halt)),
         Instr::Err => Ok(Some(StepEnd::Err)),
-        Instr::In => match read_in(machine, console, source, sink) {
-            Ok(effect) => Ok(step_end(effect)),
-            Err(error) => Err(error),
-        },
-        Instr::Out => match write_out(machine, console, sink) {
-            Ok(effect) => Ok(step_end(effect)),
-            Err(error) => Err(error),
-        },
-        _ => match compute(machine, instr) {
-            Ok(effect) => Ok(step_end(effect)),
-            Err(error) => Err(error.into()),
-        },
+        Instr::In => Ok(step_end(read_in(machine, console, source, sink)?)),
+        Instr::Out => Ok(step_end(write_out(machine, console, sink)?)),
+        _ => Ok(step_end(compute(machine, instr)?)),
     }
 }
 
