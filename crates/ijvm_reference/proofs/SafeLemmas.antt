@@ -1,18 +1,16 @@
 -- A run that never gets stuck goes on so after each step.
-use Rattle.std.proofs.Common.{◌≡◌, ℕ, List, [], ◌++◌, Bool, true, false, Option, Some, None, Result, Ok, Err, IfOk, IfErr, refl, sym, subst, ◌∙◌}
+use Rattle.std.proofs.Common.{◌≡◌, ℕ, List, [], ◌++◌, Bool, true, false, Option, Some, None, IsSome, refl, sym, subst, ◌∙◌}
 use Rattle.console_port.specs.View.{ConsoleView}
 use Rattle.console_port.specs.Console.{Untaken, Given}
 use Rattle.ijvm_reference.specs.declared.frames.StepEnd.{StepEnd}
 use Rattle.ijvm_reference.specs.declared.frames.StepEnd.TheVariants as ends
-use Rattle.ijvm_reference.specs.declared.frames.StepError.{StepError}
-use Rattle.ijvm_instr.specs.declared.instr.Instr.{Instr}
 use Rattle.ijvm_image.specs.Image.{ImageView}
 use Rattle.ijvm_meaning.specs.Frames.{State}
 use Rattle.ijvm_meaning.specs.Step.{Goes, step_outcome}
 use Rattle.ijvm_meaning.specs.Limited.{limits-same}
 use Rattle.ijvm_meaning.specs.Safe.{SameFrames, ComesTo, Here, On, NeverStuck}
 use Rattle.ijvm_reference.specs.Machine.{MachineView, KeepsProgram, state_of}
-use Rattle.ijvm_reference.specs.Steps.{IsLedOn, Does, Turns, StepFails}
+use Rattle.ijvm_reference.specs.Steps.{IsLedOn, Does, Turns}
 
 same_on : (s t u : State) → SameFrames s t → SameFrames t u → SameFrames s u
 same_on s t u first then_ = record { running = then_.running ∙ first.running; callers = then_.callers ∙ first.callers; at = then_.at ∙ first.at }
@@ -53,6 +51,10 @@ never_none left held c left' held' c' old new never led =
     let next = first.2 given.0 given.1 in
     never (state_of old first.0 given.0) (Here _ (same_frames old [] [] first.0 given.0)) next.2
 
+pub some_of : {A : Type 0} (o : Option A) → (o ≡ None → ⊥) → IsSome o
+some_of (Some x) some = refl
+some_of None some = absurd (some refl)
+
 -- other frames that are the same
 never_as : (image : ImageView) (stack_end : ℕ) (s t : State) → NeverStuck image stack_end s → SameFrames s t → NeverStuck image stack_end t
 never_as image stack_end s t never same = λ to comes. never to (comes_on image stack_end s t to (Here t same) comes)
@@ -86,13 +88,3 @@ never_after left held c left' held' c' end old new never led keeps =
     let next = first.2 given.0 given.1 in
     let same : NeverStuck old.image old.stack_end (state_of new [] []) = never_by end old new first.0 given.0 rest.0 next.0 never next.2 in
     subst (λ (n : ℕ). NeverStuck new.image n (state_of new [] [])) (sym keeps.stack_end) (subst (λ (image : ImageView). NeverStuck image old.stack_end (state_of new [] [])) (sym keeps.image) same)
-
--- whatever a turn of the machine returns
-pub never_turned : (left held : Option (List ℕ)) (c : ConsoleView) (left' held' : Option (List ℕ)) (c' : ConsoleView) (i : Option Instr) (r : Result (Option StepEnd) StepError) (old new : MachineView) →
-    NeverStuck old.image old.stack_end (state_of old [] []) → IfOk r (λ end. IsLedOn left held c left' held' c' (Turns end old new)) →
-    IfErr r (StepFails i left held c left' held' c' old new) → KeepsProgram old new →
-    NeverStuck new.image new.stack_end (state_of new [] [])
-never_turned left held c left' held' c' i (Ok None) old new never led failed keeps = absurd (never_none left held c left' held' c' old new never led)
-never_turned left held c left' held' c' i (Ok (Some end)) old new never led failed keeps = never_after left held c left' held' c' end old new never led keeps
-never_turned left held c left' held' c' i (Err e) old new never led failed keeps =
-    subst (λ (m : MachineView). NeverStuck m.image m.stack_end (state_of m [] [])) (sym failed.frames) never

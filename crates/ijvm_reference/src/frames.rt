@@ -140,11 +140,7 @@ impl Frames {
         ensures sink { SinkGoesOn K.held K.passed (result ≡ Err StepError.WriteFault) sink.old sink.new }
         ensures cause { FailsByCause S.faults K.faults source.old sink.old source.new sink.new result }
     {
-        match turn(&mut self.machine, console, source, sink) {
-            Ok(Some(end)) => Ok(end),
-            Ok(None) => unreachable!(),
-            Err(error) => Err(error),
-        }
+        Ok(turn(&mut self.machine, console, source, sink)?.unwrap())
     }
 
     /// The byte address of the next instruction.
