@@ -57,10 +57,7 @@ fn watch_turns<M: Clocked, W: Watcher, S: Source, K: Sink, E: Sink>(
     'turns: while board.ended().is_none() {
         let mpc = board.mpc();
         board.turn(bound, source, sink);
-        match show(board, mpc, watcher, err) {
-            Ok(()) => {}
-            Err(failed) => return Err(failed),
-        }
+        show(board, mpc, watcher, err)?;
     }
     Ok(())
 }
@@ -90,9 +87,7 @@ pub fn run_watched<M: Clocked, W: Watcher, S: Source, K: Sink, E: Sink>(
         (record board.new { end = end_in result }) }
     ensures said { HasCause (E.faults err.old) (E.faults err.new) result }
 {
-    if let Err(failed) = watch_turns(board, bound, watcher, source, sink, err) {
-        return Err(failed);
-    }
+    watch_turns(board, bound, watcher, source, sink, err)?;
     let end = board.ended().unwrap();
     match board.flush(sink) {
         Ok(()) => Ok(end),

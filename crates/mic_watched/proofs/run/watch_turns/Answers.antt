@@ -1,4 +1,5 @@
-use Rattle.std.proofs.Common.{◌≡◌, ◌++◌, ℕ, max, List, [], None, Ok, Err, inl, refl, ap, rules, arith}
+use Rattle.std.proofs.Common.{◌≡◌, ◌++◌, ℕ, max, List, [], None, Ok, inl, refl, ap, rules, arith}
+use Rattle.std.proofs.lemmas.Result.{err_from_is_err_and}
 use Rattle.micro_word.specs.ControlStore.{ControlStore}
 use Rattle.mic_clock.specs.Run.{last_cycles}
 use Rattle.mic_watched.specs.declared.cycle.Cycle.{Cycle}
@@ -60,25 +61,26 @@ turns-preserved g c =
         cycles = inv.watched.cycles ++ last g turned;
         run = shows g turned;
         saw = saw-then g.W.Watcher.keeps g.W.Watcher.Prints (g.W.Watcher.kept c.args.watcher.now) (g.W.Watcher.kept c.turns.watcher) (g.W.Watcher.kept c.show.new.watcher)
-            (g.E.Sink.held c.args.err.now) (g.E.Sink.held c.turns.err) (g.E.Sink.held c.show.new.err) inv.watched.cycles (last g turned) (Ok (tt {0})) inv.watched.saw c.in-Ok.ensures.saw;
+            (g.E.Sink.held c.args.err.now) (g.E.Sink.held c.turns.err) (g.E.Sink.held c.show.new.err) inv.watched.cycles (last g turned) (Ok (tt {0})) inv.watched.saw c.in_ok-show.ensures.saw;
       };
       goes_on = goes-then c.requires.board.not_ended inv.goes_on not_ended c.turn.ensures.goes_on;
-      said = cause-then (g.E.Sink.faults c.args.err.now) (g.E.Sink.faults c.turns.err) (g.E.Sink.faults c.show.new.err) tt (Ok (tt {0})) inv.said c.in-Ok.ensures.cause;
+      said = cause-then (g.E.Sink.faults c.args.err.now) (g.E.Sink.faults c.turns.err) (g.E.Sink.faults c.show.new.err) tt (Ok (tt {0})) inv.said c.in_ok-show.ensures.cause;
       in_time = c.turn.ensures.in_time top (omega arith) not_ended inv.in_time;
     }
 
-pub returns-in-Err-clause-watched : goal.returns-in-Err-clause-watched
-returns-in-Err-clause-watched g c =
+pub returns-in_err-show-clause-watched : goal.returns-in_err-show-clause-watched
+returns-in_err-show-clause-watched g c =
     let inv = c.turns.invariant in
-    let turned = (goal.at.returns-in-Err-clause-watched g c).After-turn in
-    record {
+    let turned = (goal.at.returns-in_err-show-clause-watched g c).After-turn in
+    let p = err_from_is_err_and c.from_residual.result c.from_residual.ensures.1 in
+    rw (p.1, p.2) (record {
       cycles = inv.watched.cycles ++ last g turned;
       run = shows g turned;
       saw = saw-then g.W.Watcher.keeps g.W.Watcher.Prints (g.W.Watcher.kept c.args.watcher.now) (g.W.Watcher.kept c.turns.watcher) (g.W.Watcher.kept c.show.new.watcher)
-          (g.E.Sink.held c.args.err.now) (g.E.Sink.held c.turns.err) (g.E.Sink.held c.show.new.err) inv.watched.cycles (last g turned) (Err c.in-Err.failed) inv.watched.saw c.in-Err.ensures.saw;
-    }
+          (g.E.Sink.held c.args.err.now) (g.E.Sink.held c.turns.err) (g.E.Sink.held c.show.new.err) inv.watched.cycles (last g turned) _ inv.watched.saw c.in_err-show.ensures.saw;
+    })
 
-pub returns-in-Err-clause-goes_on : goal.returns-in-Err-clause-goes_on
-returns-in-Err-clause-goes_on g c =
+pub returns-in_err-show-clause-goes_on : goal.returns-in_err-show-clause-goes_on
+returns-in_err-show-clause-goes_on g c =
     let not_ended : c.turns.board.end ≡ None = search rules in
     goes-then c.requires.board.not_ended c.turns.invariant.goes_on not_ended c.turn.ensures.goes_on
