@@ -1,12 +1,15 @@
 -- The counts and the turns of `Run` are those of the rule.
 use Rattle.std.proofs.Common.{◌≡◌, ◌≢◌, ℕ, ◌+◌, ◌≤◌, Bool, true, false, ◌&&◌, ◌==◌, if◌then◌else◌, List, Option, Some, None, IsSome, is_some, add-zero, refl, sym, ◌∙◌, ap, subst, arith}
 use Rattle.std.specs.Prelude.{nat_le}
+use Rattle.std.proofs.lemmas.Bool.{eq-eqb, ne_eqb}
 use Rattle.std.proofs.lemmas.Bool.Decides.{nat_tests}
 use Rattle.console_port.specs.World.{fault_of}
 use Rattle.mic_clock.specs.declared.counts.Boundary.{Boundary}
 use Rattle.mic_clock.specs.declared.counts.Counts.{Counts}
 use Rattle.mic_clock.specs.declared.end.End.{End}
 use Rattle.mic_clock.specs.declared.end.End.TheVariants as ends
+use Rattle.mic_clock.specs.declared.end.Tick.TheVariants as ticks
+use Rattle.mic_clock.specs.Board.{tick_of}
 use Rattle.mic_clock.specs.Meaning.{Meaning, Outcome, Done, Refused}
 use Rattle.mic_clock.specs.Run.{MicroRun, number_of, since, completes, end_by, counts_ended, counts_after, counts_at, counts_between, end_before, word_at, after_step, after_end_or_step, turn, turn_by}
 use Rattle.mic_clock.specs.Rule.{EndsBefore, CountsEnd, CountsCycle, EndsAt, StepsTo, IsTurn}
@@ -57,6 +60,16 @@ counts_ended-rule old e = record { cycles = refl; stalls = refl; boundary = refl
     by_end : (b : Bool) → (if b then old.instructions + number_of (is_some old.boundary) else old.instructions) ≡ old.instructions + number_of (b && is_some old.boundary)
     by_end true = refl
     by_end false = sym (add-zero old.instructions)
+
+-- what a clocked cycle did is seen of the stalls
+pub tick_counted : (old new : Counts) (stalled : Bool) → new.stalls ≡ old.stalls + number_of stalled →
+    tick_of old new None ≡ (if stalled then ticks.Stalled else ticks.Clocked)
+tick_counted old new true h =
+    let more : new.stalls ≡ old.stalls + 1 = h in
+    ap (λ (b : Bool). if b then ticks.Clocked else ticks.Stalled) (ne_eqb old.stalls new.stalls (λ e. omega (arith, e, more)))
+tick_counted old new false h =
+    let same : new.stalls ≡ old.stalls + 0 = h in
+    ap (λ (b : Bool). if b then ticks.Clocked else ticks.Stalled) (eq-eqb old.stalls new.stalls (omega (arith, same)))
 
 module _ {State : Type 0} (m : Meaning State) where
   pub end_before-rule : (s : State) (c : Counts) → EndsBefore (m.registers s).mpc c (end_before m s c)

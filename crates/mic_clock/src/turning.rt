@@ -1,6 +1,6 @@
 //! The turns of an instruction, over the parts of a board.
 
-ghost use Rattle.std.specs.Prelude.{◌≡◌, ◌≤◌, ◌+◌, ◌^◌, None};
+ghost use Rattle.std.specs.Prelude.{◌≡◌, ◌≤◌, ◌+◌, ◌^◌, if◌then◌else◌, None};
 ghost use Rattle.mic_clock.specs.Board.{tick_of, IsTurned, IsCutByFault, GoesOn, IsLegRun, LegIsCutByRead, LegIsCutByWrite, ComesInTime};
 ghost use Rattle.mic_clock.specs.Edge.{LetsBytesWait};
 ghost use Rattle.mic_clock.specs.Parts.{counts_of, board_of, AreParts, ChangesByTurn};
@@ -13,6 +13,14 @@ use crate::running::{Running, Tally};
 use console_port::Bus;
 use mic_base::{Sink, Source};
 use micro_word::Store;
+
+/// What a clocked cycle did.
+#[inline(always)]
+fn ticked(stalled: bool) -> Tick
+    ensures { result ≡ (if stalled then Tick.Stalled else Tick.Clocked) }
+{
+    if stalled { Tick::Stalled } else { Tick::Clocked }
+}
 
 /// One turn without the test of the bound: an end that comes before a cycle, or a cycle.
 #[inline(always)]
@@ -59,11 +67,7 @@ pub fn turn_once<M: Clocked, S: Source, K: Sink>(
             tally.computed.c = computed.c;
             // After the stores, so that a run tests once whether it is at a boundary.
             count(running, tally, drive.stalled, machine);
-            if drive.stalled {
-                Tick::Stalled
-            } else {
-                Tick::Clocked
-            }
+            ticked(drive.stalled)
         }
         Err(fault) => {
             let end = fault_end(fault);

@@ -6,9 +6,9 @@ use Rattle.mic_clock.specs.Meaning.{refusal_in}
 use Rattle.mic_clock.specs.Run.{end_before, counts_after, word_at}
 use Rattle.mic_clock.specs.declared.buses.Drive.{Drive}
 use Rattle.mic_clock.specs.Rule.{EndsBefore}
-use Rattle.mic_clock.specs.Board.{NoFault}
-use Rattle.mic_clock.specs.Parts.{board_of}
-use Rattle.mic_clock.proofs.Rules.{ends_as_ruled, ended_as_ruled, counted_as_ruled}
+use Rattle.mic_clock.specs.Board.{NoFault, tick_of}
+use Rattle.mic_clock.specs.Parts.{board_of, counts_of}
+use Rattle.mic_clock.proofs.Rules.{ends_as_ruled, ended_as_ruled, counted_as_ruled, tick_counted}
 use Rattle.mic_clock.proofs.Turns.{led-refused, led-done, no_fault}
 use Rattle.mic_clock.proofs.turning.turn_once.Goals as goal
 
@@ -36,8 +36,8 @@ returns-in-Err-clause-turn g c =
     refusal_in (m.step (word_at m board.store.words (state board.machine)) (state board.machine) w) ≡ Some c.in-Err.fault = search rules in
     led-refused state m _ _ _ (g.K.Sink.held c.clock.new.sink) board _ c.in-Err.fault not_ended no_end refused other (search rules) (search rules) (search rules) (search rules)
 
-pub returns-then-drive-clause-turn : goal.returns-then-drive-clause-turn
-returns-then-drive-clause-turn g c =
+pub returns-in-Ok-clause-turn : goal.returns-in-Ok-clause-turn
+returns-in-Ok-clause-turn g c =
     let state = g.M.Clocked.state in
     let m = g.M.Clocked.meaning in
     let board = board_of c.args.machine.now c.args.store.now c.args.bus.now c.args.running.now c.args.tally.now in
@@ -48,14 +48,9 @@ returns-then-drive-clause-turn g c =
     (λ q. led-done state m _ _ _ _ _ _ not_ended no_end c.in-Ok.ensures.edge.ok
     (counted ∙ ap (λ (d : Drive). counts_after m board.counts d.stalled (state c.clock.new.self)) c.in-Ok.ensures.seen.0) (search rules))
 
-pub returns-else-drive-clause-turn : goal.returns-else-drive-clause-turn
-returns-else-drive-clause-turn g c =
-    let state = g.M.Clocked.state in
-    let m = g.M.Clocked.meaning in
-    let board = board_of c.args.machine.now c.args.store.now c.args.bus.now c.args.running.now c.args.tally.now in
-    let rule : EndsBefore (m.registers (state board.machine)).mpc board.counts None = search rules in
-    let no_end : end_before m (state board.machine) board.counts ≡ None = sym (ends_as_ruled m _ _ _ rule) in
-    let not_ended : board.end ≡ None = search rules in
-    let counted = counted_as_ruled m _ _ _ _ c.count.ensures.counts in
-    (λ q. led-done state m _ _ _ _ _ _ not_ended no_end c.in-Ok.ensures.edge.ok
-    (counted ∙ ap (λ (d : Drive). counts_after m board.counts d.stalled (state c.clock.new.self)) c.in-Ok.ensures.seen.0) (search rules))
+pub returns-in-Ok-clause-tick : goal.returns-in-Ok-clause-tick
+returns-in-Ok-clause-tick g c =
+    let old = counts_of c.args.running.now c.args.tally.now in
+    let new = counts_of c.count.new.running c.count.new.tally in
+    let none : c.count.new.running.end ≡ None = search rules in
+    c.ticked.ensures ∙ (sym (tick_counted old new _ c.count.ensures.counts.stalls) ∙ ap (λ (e : Option End). tick_of old new e) (sym none))
