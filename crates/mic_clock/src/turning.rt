@@ -6,6 +6,7 @@ ghost use Rattle.mic_clock.specs.Edge.{LetsBytesWait};
 ghost use Rattle.mic_clock.specs.Parts.{counts_of, board_of, AreParts, ChangesByTurn};
 ghost use Rattle.mic_clock.specs.Run.{word_at};
 
+use crate::buses::{Computed, Drive};
 use crate::clocked::Clocked;
 use crate::counting::{count, end_before, end_here, fault_end};
 use crate::end::Tick;
@@ -13,6 +14,20 @@ use crate::running::{Running, Tally};
 use console_port::Bus;
 use mic_base::{Sink, Source};
 use micro_word::Store;
+
+/// Keeps the bus values of a clocked cycle, each in a store of its own.
+#[inline(always)]
+fn keep_buses(tally: &mut Tally, drive: Drive, computed: Computed)
+    ensures { tally.new ≡ record tally.old { drive = drive; computed = computed } }
+{
+    tally.drive.a = drive.a;
+    tally.drive.b = drive.b;
+    tally.drive.stalled = drive.stalled;
+    tally.computed.alu.value = computed.alu.value;
+    tally.computed.alu.n = computed.alu.n;
+    tally.computed.alu.z = computed.alu.z;
+    tally.computed.c = computed.c;
+}
 
 /// What a clocked cycle did.
 #[inline(always)]
@@ -58,13 +73,7 @@ pub fn turn_once<M: Clocked, S: Source, K: Sink>(
     }
     match machine.clock(store, bus, source, sink) {
         Ok((drive, computed)) => {
-            tally.drive.a = drive.a;
-            tally.drive.b = drive.b;
-            tally.drive.stalled = drive.stalled;
-            tally.computed.alu.value = computed.alu.value;
-            tally.computed.alu.n = computed.alu.n;
-            tally.computed.alu.z = computed.alu.z;
-            tally.computed.c = computed.c;
+            keep_buses(tally, drive, computed);
             // After the stores, so that a run tests once whether it is at a boundary.
             count(running, tally, drive.stalled, machine);
             ticked(drive.stalled)

@@ -44,7 +44,7 @@ returns-in-Ok-clause-turn g c =
     let rule : EndsBefore (m.registers (state board.machine)).mpc board.counts None = search rules in
     let no_end : end_before m (state board.machine) board.counts ≡ None = sym (ends_as_ruled m _ _ _ rule) in
     let not_ended : board.end ≡ None = search rules in
-    let counted = counted_as_ruled m _ _ _ _ c.count.ensures.counts in
+    let counted = counted_as_ruled m _ _ _ _ (rw c.keep_buses.ensures at c.count.ensures.counts) in
     (λ q. led-done state m _ _ _ _ _ _ not_ended no_end c.in-Ok.ensures.edge.ok
     (counted ∙ ap (λ (d : Drive). counts_after m board.counts d.stalled (state c.clock.new.self)) c.in-Ok.ensures.seen.0) (search rules))
 
@@ -53,4 +53,5 @@ returns-in-Ok-clause-tick g c =
     let old = counts_of c.args.running.now c.args.tally.now in
     let new = counts_of c.count.new.running c.count.new.tally in
     let none : c.count.new.running.end ≡ None = search rules in
-    c.ticked.ensures ∙ (sym (tick_counted old new _ c.count.ensures.counts.stalls) ∙ ap (λ (e : Option End). tick_of old new e) (sym none))
+    let counts = rw c.keep_buses.ensures at c.count.ensures.counts in
+    c.ticked.ensures ∙ (sym (tick_counted old new _ counts.stalls) ∙ ap (λ (e : Option End). tick_of old new e) (sym none))
