@@ -57,6 +57,14 @@ module _ {M State : Type 0} (state : M → State) where
       (left : Option (List ℕ)) (r : MicroRun State) → ShowsRun left held board r → ShowsRun left held' board' (run_of r)
 
   module _ (m : Meaning State) where
+    -- a board is at an instruction boundary
+    abbrev pub IsAtBoundary : BoardView M → Type 0
+    IsAtBoundary board = m.is_boundary (state board.machine) ≡ true
+
+    -- if a board is at a boundary, its cycles are below the bound
+    abbrev pub IsBelow : ℕ → BoardView M → Type 0
+    IsBelow bound board = IsAtBoundary board → board.counts.cycles < bound
+
     -- over whatever world a bus shows, a board shows the run at its reset there
     abbrev pub IsReset : ℕ → ℕ → BusView → BoardView M → Type 0
     IsReset first sp bus board = (left held : Option (List ℕ)) (w : World) → Shows left held bus w → ShowsRun left held board (start_run m first sp w)

@@ -8,7 +8,7 @@ ghost use Rattle.console_port.specs.Streams.{SinkGoesOn};
 ghost use Rattle.mic_clock.specs.Edge.{LetsBytesWait};
 ghost use Rattle.mic_clock.specs.Run.{MicroRun, start_counts, start_buses, bounded, word_at, last_cycles};
 ghost use Rattle.mic_clock.specs.Board.{ShowsAs, IsReset, NoFault, HasEndCause, tick_of, IsTurned, IsCutByFault, IsReached, IsRun, RunIsCutByRead, RunIsCutByWrite, BoundIsCutByWrite, IsLegRun, LegIsCutByRead, LegIsCutByWrite};
-ghost use Rattle.mic_clock.specs.Board.{EndsInTime, ChangesAtMar, EndsUnwritten, IsOnlyFlushed, GoesOn, IsCountedTurn, KeepsInTime, ComesInTime, TurnIsCut};
+ghost use Rattle.mic_clock.specs.Board.{IsAtBoundary, IsBelow, AreCounts, EndsInTime, ChangesAtMar, EndsUnwritten, IsOnlyFlushed, GoesOn, IsCountedTurn, KeepsInTime, ComesInTime, TurnIsCut};
 
 use crate::buses::{Computed, Drive};
 use crate::clocked::Clocked;
@@ -124,7 +124,7 @@ impl<M: Clocked> Board<M> {
     #[inline(always)]
     fn goes_on(&mut self, bound: u64) -> bool
         ensures stays { result ≡ true → (self.new ≡ self.old) × (self.old.end ≡ None) }
-        ensures below { result ≡ true → M.meaning.is_boundary (M.state self.old.machine) ≡ true → self.old.counts.cycles < bound }
+        ensures below { result ≡ true → IsBelow M.state M.meaning bound self.old }
         ensures bounded { (held : Option (List ℕ)) → ShowsAs M.state held self.old held self.new (bounded M.meaning (Some bound)) }
         ensures world { (r : MicroRun M.State) → (bounded M.meaning (Some bound) r).world ≡ r.world }
         ensures same { self.new ≡ record self.old { end = self.new.end } }
@@ -167,9 +167,8 @@ impl<M: Clocked> Board<M> {
             ShowsAs M.state (K.held sink.old) self.old (K.held sink.new) self.new (bounded M.meaning (Some bound)) }
         ensures write { (left : Option (List ℕ)) → BoundIsCutByWrite M.state M.meaning left (K.held sink.old) self.old left (K.held sink.new) self.new bound }
         ensures value { result ≡ self.new.end }
-        ensures in_time { (result ≡ None → M.meaning.is_boundary (M.state self.old.machine) ≡ true → self.old.counts.cycles < bound)
-            × (self.new.counts.cycles ≤ last_cycles self.new.counts.boundary + 1024)
-            × (last_cycles self.new.counts.boundary ≤ self.new.counts.cycles) }
+        ensures below { result ≡ None → IsBelow M.state M.meaning bound self.old }
+        ensures counts { AreCounts self.new.counts self.new.end }
         ensures stays { (result ≡ None → (self.new ≡ self.old) × (sink.new ≡ sink.old))
             × ((e : End) → self.old.end ≡ Some e → (self.new ≡ self.old) × (sink.new ≡ sink.old)) }
         ensures kept { self.old.end ≡ None → IsSome self.new.end → self.new.bus.console.kept ≡ [] }
@@ -202,7 +201,7 @@ impl<M: Clocked> Board<M> {
         ensures write { TurnIsCut M.state M.meaning bound (S.left source.old) (K.held sink.old) self.old (S.left source.new) (K.held sink.new) self.new }
         ensures value { result ≡ self.new.end }
         ensures goes_on { GoesOn S.left S.faults K.held K.passed K.faults source.old sink.old self.old source.new sink.new self.new }
-        ensures below { self.new.end ≡ None → M.meaning.is_boundary (M.state self.old.machine) ≡ true → self.old.counts.cycles < bound }
+        ensures below { self.new.end ≡ None → IsBelow M.state M.meaning bound self.old }
         ensures counted { IsCountedTurn M.state M.meaning self.old self.new }
         ensures in_time { KeepsInTime M.state M.meaning self.old self.new bound }
     {
@@ -225,8 +224,9 @@ impl<M: Clocked> Board<M> {
             (S.left source.new) (K.held sink.new) self.new (Some bound) }
         ensures write { RunIsCutByWrite M.state M.meaning (S.left source.old) (K.held sink.old) self.old
             (S.left source.new) (K.held sink.new) self.new (Some bound) }
-        ensures below { self.new.end ≡ None → M.meaning.is_boundary (M.state self.old.machine) ≡ true → self.old.counts.cycles < bound }
-        ensures growth { M.meaning.is_boundary (M.state self.old.machine) ≡ true → self.new.counts.cycles ≤ max (bound + 1024) self.old.counts.cycles }
+        ensures below { self.new.end ≡ None → IsBelow M.state M.meaning bound self.old }
+        ensures growth { IsAtBoundary M.state M.meaning self.old →
+            self.new.counts.cycles ≤ max (bound + 1024) self.old.counts.cycles }
         ensures goes_on { GoesOn S.left S.faults K.held K.passed K.faults source.old sink.old self.old source.new sink.new self.new }
         ensures in_time { ComesInTime M.state M.meaning self.old self.new }
     {
