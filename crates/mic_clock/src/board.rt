@@ -125,7 +125,7 @@ impl<M: Clocked> Board<M> {
     fn goes_on(&mut self, bound: u64) -> bool
         ensures stays { result ≡ true → (self.new ≡ self.old) × (self.old.end ≡ None) }
         ensures below { result ≡ true → IsBelow M.state M.meaning bound self.old }
-        ensures bounded { (held : Option (List ℕ)) → ShowsAs M.state held self.old held self.new (bounded M.meaning (Some bound)) }
+        ensures bounded { (h : Option (List ℕ)) → ShowsAs M.state h self.old h self.new (bounded M.meaning (Some bound)) }
         ensures world { (r : MicroRun M.State) → (bounded M.meaning (Some bound) r).world ≡ r.world }
         ensures same { self.new ≡ record self.old { end = self.new.end } }
         ensures stops { result ≡ false → IsSome self.new.end }
@@ -246,8 +246,8 @@ impl<M: Clocked> Board<M> {
         ensures write { RunIsCutByWrite M.state M.meaning (S.left source.old) (K.held sink.old) self.old
             (S.left source.new) (K.held sink.new) self.new (Some bound) }
         ensures end { self.new.end ≡ Some result }
-        ensures times { (self.new.counts.cycles ≤ max bound self.old.counts.cycles + 1024)
-            × (self.new.counts.cycles ≤ last_cycles self.new.counts.boundary + 1024) }
+        ensures cycles { self.new.counts.cycles ≤ max bound self.old.counts.cycles + 1024 }
+        ensures near { self.new.counts.cycles ≤ last_cycles self.new.counts.boundary + 1024 }
         ensures kept { self.old.end ≡ None → self.new.bus.console.kept ≡ [] }
         ensures goes_on { GoesOn S.left S.faults K.held K.passed K.faults source.old sink.old self.old source.new sink.new self.new }
     {
