@@ -2,7 +2,7 @@
 
 ghost use Rattle.mic_base.specs.Streams.{IsFlushed};
 ghost use Rattle.std.specs.Prelude.{◌≡◌, [], ◌<◌, ◌≤◌, ◌+◌, ◌^◌, ℕ, List, Option, None, Some, Err, IsOk, OnOk, IfErr, IsSome, true, false, length, max};
-ghost use Rattle.console_port.specs.Bus.{Stands};
+ghost use Rattle.console_port.specs.Bus.{KeepsMemoryAndInput, Stands};
 ghost use Rattle.console_port.specs.Console.{HasFaultCause};
 ghost use Rattle.console_port.specs.Streams.{SinkGoesOn};
 ghost use Rattle.mic_clock.specs.Edge.{LetsBytesWait};
@@ -263,8 +263,8 @@ impl<M: Clocked> Board<M> {
 
     /// Puts what the console keeps to the sink, at any time.
     pub fn flush<K: Sink>(&mut self, sink: &mut K) -> Result<(), BusFault>
-        ensures same { (self.new ≡ record self.old { bus = self.new.bus }) × (self.new.bus.words ≡ self.old.bus.words)
-            × (self.new.bus.console.ended ≡ self.old.bus.console.ended) }
+        ensures board { self.new ≡ record self.old { bus = self.new.bus } }
+        ensures others { KeepsMemoryAndInput self.old.bus self.new.bus }
         ensures ok { OnOk result (ShowsAs M.state (K.held sink.old) self.old (K.held sink.new) self.new (λ r. r)) }
         ensures err { (left : Option (List ℕ)) → IfErr result (Stands left (K.held sink.old) self.old.bus left (K.held sink.new) self.new.bus) }
         ensures fault { IfErr result (λ e. e ≡ BusFault.WriteFault) }
