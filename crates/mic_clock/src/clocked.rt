@@ -5,7 +5,7 @@ ghost use Rattle.console_port.specs.Console.{HasFaultCause};
 ghost use Rattle.console_port.specs.Streams.{SinkGoesOn, SourceGoesOn};
 ghost use Rattle.mic_clock.specs.Edge.{IsEdge, LetsBytesWait};
 ghost use Rattle.mic_clock.specs.Meaning.{Meaning, Phase, AtRest, SetUp, Driven, AtEdge};
-ghost use Rattle.mic_clock.specs.Run.{word_at};
+ghost use Rattle.mic_clock.specs.Run.{SeesBuses, word_at};
 
 use crate::buses::{Computed, Drive};
 use crate::registers::{Registers, Start};
@@ -96,8 +96,7 @@ pub trait Clocked {
         requires phase { phase self.old ≡ AtRest }
         requires machine { store.now.machine ≡ meaning.machine }
         ensures phase { phase self.new ≡ AtRest }
-        ensures seen { IfOk result (λ seen. (seen.0 ≡ meaning.drives (word_at meaning store.now.words (state self.old)) (state self.old))
-            × (seen.1 ≡ meaning.computes (word_at meaning store.now.words (state self.old)) (state self.old))) }
+        ensures seen { IfOk result (λ seen. SeesBuses meaning store.now.words (state self.old) seen.0 seen.1) }
         ensures edge { IsEdge meaning (word_at meaning store.now.words (state self.old)) (state self.old) (S.left source.old) (K.held sink.old) bus.old
             (state self.new) (S.left source.new) (K.held sink.new) bus.new result }
         ensures waits { LetsBytesWait meaning (word_at meaning store.now.words (state self.old)) (state self.old)
