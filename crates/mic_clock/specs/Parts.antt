@@ -1,11 +1,12 @@
 -- A board in its parts, between which the turns of an instruction go on.
-use Rattle.std.specs.Prelude.{◌≡◌}
+use Rattle.std.specs.Prelude.{◌≡◌, Bool}
 use Rattle.console_port.specs.View.{BusView}
 use Rattle.micro_word.specs.ControlStore.{ControlStore}
 use Rattle.mic_clock.specs.declared.counts.Counts.{Counts}
 use Rattle.mic_clock.specs.declared.running.Running.{Running}
 use Rattle.mic_clock.specs.declared.running.Tally.{Tally}
 use Rattle.mic_clock.specs.Meaning.{Meaning, Phase, AtRest}
+use Rattle.mic_clock.specs.Rule.{CountsCycle}
 use Rattle.mic_clock.specs.View.{BoardView}
 use Rattle.mic_clock.specs.Board.{AreCounts, IsLimit, EndsInTime, IsCountedTurn, ChangesAtMar, EndsUnwritten}
 
@@ -25,6 +26,10 @@ board_of machine store bus running tally =
       end = running.end;
       buses = record { drive = tally.drive; computed = tally.computed };
     }
+
+-- a clocked cycle that comes to this state counts in the parts
+abbrev pub CountsOn : {State : Type 0} → Meaning State → Running → Tally → Bool → State → Running → Tally → Type 0
+CountsOn m running tally stalled s running' tally' = CountsCycle m (counts_of running tally) stalled s (counts_of running' tally')
 
 -- The parts of a board: the machine is at rest, the store is one of its kind, and the counts are a board's.
 pub record AreParts {M State : Type 0} (phase : M → Phase) (m : Meaning State) (machine : M) (store : ControlStore) (running : Running) (tally : Tally) : Type 0 where

@@ -1,9 +1,9 @@
 //! What a turn counts, and the ends that come before a cycle.
 
 ghost use Rattle.std.specs.Prelude.{◌≡◌, ◌<◌, ◌≤◌, ◌+◌, ◌^◌, Some, IfNone};
-ghost use Rattle.mic_clock.specs.Rule.{EndsBefore, CountsEnd, CountsCycle};
+ghost use Rattle.mic_clock.specs.Rule.{EndsBefore, CountsEnd};
 ghost use Rattle.mic_clock.specs.Board.{IsLimit};
-ghost use Rattle.mic_clock.specs.Parts.{counts_of};
+ghost use Rattle.mic_clock.specs.Parts.{CountsOn, counts_of};
 ghost use Rattle.mic_clock.specs.Run.{end_by, last_cycles};
 
 use crate::clocked::Clocked;
@@ -75,7 +75,7 @@ pub fn count<M: Clocked>(running: &mut Running, tally: &mut Tally, stalled: bool
     requires instructions { tally.old.instructions ≤ 2 ^ 63 }
     requires stalls { tally.old.stalls ≤ 2 ^ 63 }
     requires limit { IsLimit (counts_of running.old tally.old) tally.old.limit }
-    ensures counts { CountsCycle M.meaning (counts_of running.old tally.old) stalled (M.state machine.now) (counts_of running.new tally.new) }
+    ensures counts { CountsOn M.meaning running.old tally.old stalled (M.state machine.now) running.new tally.new }
     ensures limit { IsLimit (counts_of running.new tally.new) tally.new.limit }
     ensures end { running.new.end ≡ running.old.end }
     ensures buses { (tally.new.drive ≡ tally.old.drive) × (tally.new.computed ≡ tally.old.computed) }
