@@ -171,6 +171,13 @@ module _ {M State : Type 0} (state : M → State) where
           × Leads board.store.words None board' board.buses rest n r
           (IsCutByWrite board.store.words None left' held' board'))
 
+    -- where turns lead from one board to a second, and on to a third, they lead from the first to the third
+    abbrev pub RunsCompose : Type 0
+    RunsCompose =
+        (left held left' held' left'' held'' : Option (List ℕ)) (bound : Option ℕ) (a b c : BoardView M) → b.store ≡ a.store →
+        IsReached left held a left' held' b bound → IsReached left' held' b left'' held'' c bound →
+        IsReached left held a left'' held'' c bound
+
     -- What a turn between two boards counts, also where it is not known what the source has left.
     module _ (board board' : BoardView M) where
       -- an end that comes before a cycle ends the board

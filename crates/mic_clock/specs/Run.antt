@@ -1,5 +1,5 @@
 -- The clocked run of a machine over a world, turn by turn, with this profile's counts and ends. The rule that a turn keeps is in `Rule`.
-use Rattle.std.specs.Prelude.{◌≡◌, ℕ, zero, suc, ◌+◌, ◌-◌, ◌<◌, nat_le, ◌==◌, if◌then◌else◌, Bool, true, false, List, Option, Some, None, is_some, slice_index}
+use Rattle.std.specs.Prelude.{◌≡◌, ℕ, zero, suc, ◌+◌, ◌-◌, ◌<◌, nat_le, ◌==◌, if◌then◌else◌, Bool, true, false, List, Option, Some, None, IsSome, is_some, slice_index}
 use Rattle.std.specs.Fn.{iterate}
 use Rattle.console_port.specs.World.{World, fault_of}
 use Rattle.console_port.specs.declared.fault.BusFault.{BusFault}
@@ -170,3 +170,17 @@ module _ {State : Type 0} (m : Meaning State) (words : List ℕ) where
   abbrev pub buses : Option ℕ → ℕ → MicroRun State → Buses → Buses
   buses bound zero r old = old
   buses bound (suc n) r old = buses_of (turns bound n r).state (buses bound n r old) (turns bound (suc n) r).end
+
+module _ {State : Type 0} (m : Meaning State) where
+  -- turns add up
+  abbrev pub TurnsAdd : Type 0
+  TurnsAdd =
+      (words : List ℕ) (bound : Option ℕ) (n k : ℕ) (r : MicroRun State) →
+      turns m words bound (n + k) r ≡ turns m words bound k (turns m words bound n r)
+
+  -- a run has one end
+  abbrev pub HasOneEnd : Type 0
+  HasOneEnd =
+      (words : List ℕ) (bound : Option ℕ) (r : MicroRun State) (n k : ℕ) →
+      IsSome (turns m words bound n r).end → IsSome (turns m words bound k r).end →
+      turns m words bound n r ≡ turns m words bound k r
