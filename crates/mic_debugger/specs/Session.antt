@@ -1,5 +1,5 @@
 -- Where a session leads a board, and what it prints.
-use Rattle.std.specs.Prelude.{◌≡◌, ◌≢◌, ◌⊎◌, ℕ, ◌+◌, ◌<◌, Bool, true, List, ◌++◌, Option, Some, None, Result, OnOk, OnErr, IfOk}
+use Rattle.std.specs.Prelude.{◌≡◌, ◌≢◌, ◌⊎◌, ℕ, ◌+◌, ◌<◌, Bool, List, ◌++◌, Option, Some, Result, OnOk, OnErr, IfOk}
 use Rattle.mic_base.specs.Causes.{HasCause, Rose}
 use Rattle.mic_base.specs.Streams.{KeepsFront, Puts}
 use Rattle.mic_clock.specs.declared.counts.Counts.{Counts}
@@ -42,11 +42,6 @@ PutsTurn state m held listing breaks u mpc board err err' result =
     ByBook listing (λ book.
     Puts (held err) (turn_text book breaks u mpc board.buses.drive.stalled board.counts (m.registers (state board.machine)) board.bus.words board.end)
     result (held err'))
-
--- a turn from a boundary that does not end the board begins below the bound
-abbrev pub IsClockedBelow : {M State : Type 0} → (M → State) → Meaning State → ℕ → BoardView M → BoardView M → Type 0
-IsClockedBelow state m bound board board' =
-    board'.end ≡ None → m.is_boundary (state board.machine) ≡ true → board.counts.cycles < bound
 
 -- A turn from one board to the next is printed: `err` gets its text, or a front of it where it fails, and nothing where a failing
 -- `out` ended the board. The result says whether the turn is one that is waited for.

@@ -5,10 +5,10 @@ ghost use Rattle.std.specs.List.{list_any};
 ghost use Rattle.mic_base.specs.Causes.{HasCause};
 ghost use Rattle.mic_base.specs.Streams.{KeepsFront};
 ghost use Rattle.mic_clock.specs.Run.{number_of};
-ghost use Rattle.mic_clock.specs.Board.{GoesOn, InTime, IsCountedTurn, IsTurned, KeepsInTime, RunIsCutByRead, TurnIsCut};
+ghost use Rattle.mic_clock.specs.Board.{GoesOn, InTime, IsBelow, IsCountedTurn, IsTurned, KeepsInTime, RunIsCutByRead, TurnIsCut};
 ghost use Rattle.cli_session.specs.Texts.{end_line};
 ghost use Rattle.mic_debugger.specs.Clocking.{comes, has_break, has_changed, is_at_boundary};
-ghost use Rattle.mic_debugger.specs.Session.{HasReadCause, IsClockedBelow, IsFirstPiece, IsPrinted, IsSecondPiece, PutsTurn};
+ghost use Rattle.mic_debugger.specs.Session.{HasReadCause, IsFirstPiece, IsPrinted, IsSecondPiece, PutsTurn};
 ghost use Rattle.mic_debugger.specs.Obeys.{IsCarriedOut, IsPlanBroken, session_at};
 ghost use Rattle.mic_debugger.specs.Outcome.{KeepFronts, streams};
 ghost use Rattle.mic_debugger.specs.declared.plan.Plan.TheVariants as plans;
@@ -157,7 +157,7 @@ impl Clocking<'_> {
         ensures write { TurnIsCut M.state M.meaning self.now.bound (S.left input.old) (K.held out.old) board.old (S.left input.new)
             (K.held out.new) board.new }
         ensures goes_on { GoesOn S.left S.faults K.held K.passed K.faults input.old out.old board.old input.new out.new board.new }
-        ensures below { IsClockedBelow M.state M.meaning self.now.bound board.old board.new }
+        ensures below { board.new.end ≡ None → IsBelow M.state M.meaning self.now.bound board.old }
         ensures counted { IsCountedTurn M.state M.meaning board.old board.new }
         ensures in_time { KeepsInTime M.state M.meaning board.old board.new self.now.bound }
         ensures printed { IsPrinted M.state M.meaning E.held E.faults self.now.listing.now self.now.breaks.now self.now.until
