@@ -10,50 +10,19 @@ use crate::interpreter::Mic2Interpreter;
 use ijvm_simulation::{groups_are_all, stack_law, stalls_add_up};
 use mic2_queue::queue_law;
 
-/// The instructions that use only the operands.
-pub(crate) fn operands_law()
-    ensures { GroupStalls IsOfOperands }
+/// The groups: the instructions that use only the operands, those that name a local or a constant, the jumps and
+/// branches, calls and returns, and IN and OUT. HALT and ERR end a run.
+pub(crate) fn groups_law()
+    ensures operands { GroupStalls IsOfOperands }
+    ensures locals { GroupStalls IsOfLocals }
+    ensures jumps { GroupStalls IsJump }
+    ensures calls { GroupStalls IsCall }
+    ensures consoles { GroupStalls IsOfConsole }
+    ensures ends { EndsAtHaltAndErr mic2 }
 {
     queue_law();
     stack_law();
 }
-
-/// IN and OUT.
-pub(crate) fn consoles_law()
-    ensures { GroupStalls IsOfConsole }
-{
-    queue_law();
-    stack_law();
-}
-
-/// The jumps and branches.
-pub(crate) fn jumps_law()
-    ensures { GroupStalls IsJump }
-{
-    queue_law();
-    stack_law();
-}
-
-/// The instructions that name a local or a constant.
-pub(crate) fn locals_law()
-    ensures { GroupStalls IsOfLocals }
-{
-    queue_law();
-    stack_law();
-}
-
-/// Calls and returns.
-pub(crate) fn calls_law()
-    ensures { GroupStalls IsCall }
-{
-    queue_law();
-    stack_law();
-}
-
-/// HALT and ERR.
-pub(crate) fn ends_law()
-    ensures { EndsAtHaltAndErr mic2 }
-{}
 
 /// How a run boots, and what every instruction takes. After the boot, whose one stall waits for the first word of
 /// the text, only a call stalls: once, or twice where its method's entry is the last byte of a word.
@@ -63,11 +32,7 @@ pub fn stalls_law()
 {
     stack_law();
     queue_law();
-    operands_law();
-    locals_law();
-    jumps_law();
-    calls_law();
-    consoles_law();
+    groups_law();
     groups_are_all::<mic2_datapath::Mic2>();
 }
 

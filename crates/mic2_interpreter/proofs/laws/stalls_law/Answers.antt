@@ -10,5 +10,6 @@ returns-clause-boots c = λ store o v input has loads. boots store (known store 
 
 pub returns-clause-takes : goal.returns-clause-takes
 returns-clause-takes c = λ store o v has loads.
-    c.groups_are_all.ensures.stalls store 0x002 (timing_of Mic2) stalls_of v o (c.operands_law.ensures store o v has loads) (c.locals_law.ensures store o v has loads) (c.jumps_law.ensures store o v has loads)
-    (c.calls_law.ensures store o v has loads) (c.consoles_law.ensures store o v has loads)
+    c.groups_are_all.ensures.stalls store 0x002 (timing_of Mic2) stalls_of v o (c.groups_law.ensures.operands store o v has loads)
+    (c.groups_law.ensures.locals store o v has loads) (c.groups_law.ensures.jumps store o v has loads)
+    (c.groups_law.ensures.calls store o v has loads) (c.groups_law.ensures.consoles store o v has loads)

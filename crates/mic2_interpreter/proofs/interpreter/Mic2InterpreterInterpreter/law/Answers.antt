@@ -11,7 +11,7 @@ returns-clause-law c = λ store o v has loads. record {
     goes = λ s to q i any fine n h went. ((c.stalls_law.ensures.takes store o v has loads).goes s to q i any fine n h went).moves;
     limits = λ s left q i any fine n h over. ((c.stalls_law.ensures.takes store o v has loads).limits s left q i any fine n h over).overruns;
   };
-  ends = c.ends_law.ensures store o v has loads;
+  ends = c.groups_law.ensures.ends store o v has loads;
 }
 
 pub returns-clause-boots : goal.returns-clause-boots
