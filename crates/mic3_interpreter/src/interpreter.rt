@@ -5,7 +5,7 @@ ghost use Rattle.console_port.specs.Streams.{SinkGoesOn};
 ghost use Rattle.ijvm_simulation.specs.Answers.{RunsAsDefined, IsCutWhereReadFails, IsCutWhereWriteFails, EndsByCause};
 ghost use Rattle.mic3_interpreter.specs.Interpretation.{mic3};
 
-use crate::laws::{calls_law, consoles_law, ends_law, jumps_law, locals_law, operands_law};
+use crate::laws::groups_law;
 use ijvm_simulation::{Interpreter, groups_are_all, run_image, stack_law};
 use ijvm_verifier::VerifiedImage;
 use mal_shipped::{
@@ -58,12 +58,7 @@ impl Interpreter for Mic3Interpreter {
     fn law() {
         stack_law();
         queue_law();
-        operands_law();
-        locals_law();
-        jumps_law();
-        calls_law();
-        consoles_law();
-        ends_law();
+        groups_law();
         groups_are_all::<Mic3>();
     }
 }

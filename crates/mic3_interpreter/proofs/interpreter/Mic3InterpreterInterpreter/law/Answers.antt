@@ -8,10 +8,10 @@ use Rattle.mic3_interpreter.proofs.interpreter.Mic3InterpreterInterpreter.law.Go
 pub returns-clause-law : goal.returns-clause-law
 returns-clause-law c = λ store o v has loads. record {
   shows = shows store o;
-  takes = c.groups_are_all.ensures.takes store 0x002 mic3_timing v o (c.operands_law.ensures store o v has loads)
-      (c.locals_law.ensures store o v has loads) (c.jumps_law.ensures store o v has loads)
-      (c.calls_law.ensures store o v has loads) (c.consoles_law.ensures store o v has loads);
-  ends = c.ends_law.ensures store o v has loads;
+  takes = c.groups_are_all.ensures.takes store 0x002 mic3_timing v o (c.groups_law.ensures.operands store o v has loads)
+      (c.groups_law.ensures.locals store o v has loads) (c.groups_law.ensures.jumps store o v has loads)
+      (c.groups_law.ensures.calls store o v has loads) (c.groups_law.ensures.consoles store o v has loads);
+  ends = c.groups_law.ensures.ends store o v has loads;
 }
 
 pub returns-clause-boots : goal.returns-clause-boots
