@@ -8,8 +8,7 @@ use Rattle.ijvm_meaning.specs.Cost.{Timing}
 use Rattle.ijvm_meaning.specs.Frames.{start_of}
 use Rattle.verifier_facts.specs.Accepted.{VerifiedView}
 use Rattle.ijvm_simulation.specs.Groups.{ByGroups}
-use Rattle.ijvm_simulation.specs.Interpretation.{Interpretation}
-use Rattle.ijvm_simulation.specs.Law.{Law, Boots, Takes, HaltsAndErrs, OnDone, Grows, reset_moment}
+use Rattle.ijvm_simulation.specs.Law.{Law, Boots, Takes, OnDone, Grows, reset_moment}
 use Rattle.ijvm_simulation.specs.Stalls.{TakesWithStalls}
 use Rattle.ijvm_simulation.specs.Stands.{Origin, IsAt}
 use Rattle.ijvm_simulation.specs.Verified.{Loads}
@@ -25,18 +24,6 @@ module _ {S : Type 0} (m : Meaning S) (IsReady : ℕ → List ℕ → ℕ → S 
   BootsToMain =
       (store : List ℕ) (o : Origin) (v : VerifiedView) (input : List ℕ) → IsShipped store → Loads v o →
       Boots m store (IsAt m IsReady entry o) o.given timing (reset_moment m entry v.main_locals o input) (start_of v.main_locals input)
-
--- what the instructions of a group take
-abbrev pub GroupTakes : {M S : Type 0} → Interpretation M S → (Instr → Type 0) → Type 0
-GroupTakes i Has =
-    (store : List ℕ) (o : Origin) (v : VerifiedView) → i.IsShipped store → Loads v o →
-    Takes i.meaning store (IsAt i.meaning i.IsReady i.entry o) o.given i.timing v o Has
-
--- where HALT and ERR lead
-abbrev pub EndsAtHaltAndErr : {M S : Type 0} → Interpretation M S → Type 0
-EndsAtHaltAndErr i =
-    (store : List ℕ) (o : Origin) (v : VerifiedView) → i.IsShipped store → Loads v o →
-    HaltsAndErrs i.meaning store (IsAt i.meaning i.IsReady i.entry o) o.given i.timing v o
 
 -- no step takes back what was given
 abbrev pub KeepsGiven : {S : Type 0} → Meaning S → Type 0

@@ -5,7 +5,6 @@ ghost use Rattle.console_port.specs.Streams.{SinkGoesOn};
 ghost use Rattle.ijvm_simulation.specs.Answers.{RunsAsDefined, IsCutWhereReadFails, IsCutWhereWriteFails, EndsByCause};
 ghost use Rattle.mic1_interpreter.specs.Interpretation.{mic1};
 
-use crate::laws::groups_law;
 use ijvm_simulation::{Interpreter, groups_are_all, run_image, stack_law};
 use ijvm_verifier::VerifiedImage;
 use mal_shipped::{
@@ -56,7 +55,6 @@ impl Interpreter for Mic1Interpreter {
 
     fn law() {
         stack_law();
-        groups_law();
         groups_are_all::<Mic1>();
     }
 }

@@ -2,6 +2,5 @@
 #![tactic(auto)]
 
 mod interpreter;
-mod laws;
 
 pub use interpreter::{Mic1Interpreter, run_image1};

@@ -5,7 +5,7 @@ ghost use Rattle.console_port.specs.Streams.{SinkGoesOn};
 ghost use Rattle.ijvm_simulation.specs.Answers.{RunsAsDefined, IsCutWhereReadFails, IsCutWhereWriteFails, EndsByCause};
 ghost use Rattle.mic2_interpreter.specs.Interpretation.{mic2};
 
-use crate::laws::{groups_law, stalls_law};
+use crate::laws::stalls_law;
 use ijvm_simulation::{Interpreter, run_image, stack_law};
 use ijvm_verifier::VerifiedImage;
 use mal_shipped::{
@@ -59,7 +59,6 @@ impl Interpreter for Mic2Interpreter {
         stack_law();
         queue_law();
         stalls_law();
-        groups_law();
     }
 }
 

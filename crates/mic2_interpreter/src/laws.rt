@@ -1,28 +1,12 @@
 //! What each instruction takes of Mic-2, with its stalls.
 
-ghost use Rattle.ijvm_simulation.specs.Promises.{EndsAtHaltAndErr};
 ghost use Rattle.ijvm_simulation.specs.Stalls.{RunsStall, LimitsStall};
 ghost use Rattle.mic2_interpreter.specs.Stalls.{GroupStalls, BootStallsOnce, stalls_of};
-ghost use Rattle.ijvm_simulation.specs.Groups.{IsOfOperands, IsOfLocals, IsOfConsole, IsJump, IsCall};
 ghost use Rattle.mic2_interpreter.specs.Interpretation.{mic2};
 
 use crate::interpreter::Mic2Interpreter;
 use ijvm_simulation::{groups_are_all, stack_law, stalls_add_up};
 use mic2_queue::queue_law;
-
-/// The groups: the instructions that use only the operands, those that name a local or a constant, the jumps and
-/// branches, calls and returns, and IN and OUT. HALT and ERR end a run.
-pub(crate) fn groups_law()
-    ensures operands { GroupStalls IsOfOperands }
-    ensures locals { GroupStalls IsOfLocals }
-    ensures jumps { GroupStalls IsJump }
-    ensures calls { GroupStalls IsCall }
-    ensures consoles { GroupStalls IsOfConsole }
-    ensures ends { EndsAtHaltAndErr mic2 }
-{
-    queue_law();
-    stack_law();
-}
 
 /// How a run boots, and what every instruction takes. After the boot, whose one stall waits for the first word of
 /// the text, only a call stalls: once, or twice where its method's entry is the last byte of a word.
@@ -32,7 +16,6 @@ pub fn stalls_law()
 {
     stack_law();
     queue_law();
-    groups_law();
     groups_are_all::<mic2_datapath::Mic2>();
 }
 

@@ -2,6 +2,5 @@
 #![tactic(auto)]
 
 mod interpreter;
-mod laws;
 
 pub use interpreter::{Mic3Interpreter, run_image3};

@@ -1,6 +1,7 @@
 use Rattle.mic2_interpreter.proofs.Store.{known}
 use Rattle.mic2_interpreter.proofs.Boundaries.{shows}
 use Rattle.mic2_interpreter.proofs.Boot.{boots_off}
+use Rattle.mic2_interpreter.proofs.Ends.{ends}
 use Rattle.mic2_interpreter.proofs.Output.{step_grows}
 use Rattle.mic2_interpreter.proofs.interpreter.Mic2InterpreterInterpreter.law.Goals as goal
 
@@ -11,7 +12,7 @@ returns-clause-law c = λ store o v has loads. record {
     goes = λ s to q i any fine n h went. ((c.stalls_law.ensures.takes store o v has loads).goes s to q i any fine n h went).moves;
     limits = λ s left q i any fine n h over. ((c.stalls_law.ensures.takes store o v has loads).limits s left q i any fine n h over).overruns;
   };
-  ends = c.groups_law.ensures.ends store o v has loads;
+  ends = ends store o v;
 }
 
 pub returns-clause-boots : goal.returns-clause-boots
