@@ -30,7 +30,7 @@ unlined_of Mic2 = refl
 pub unlined_is_program : (machine : Machine) → IsMalProgram (unlined (relined (listed_program machine)))
 unlined_is_program machine = subst IsMalProgram (sym (unlined_of machine)) (valid machine)
 
-machine_of : (machine : Machine) → (listed_program machine).machine ≡ machine
+pub machine_of : (machine : Machine) → (listed_program machine).machine ≡ machine
 unfolding program1 program2
 machine_of Mic1 = refl
 machine_of Mic2 = refl

@@ -5,9 +5,13 @@ ghost use Rattle.store_placement.specs.Placement.{HasPlacement};
 ghost use Rattle.store_placement.specs.Program.{demands_of};
 ghost use Rattle.store_placement.specs.Refusals.{Refuses};
 ghost use Rattle.mal_shipped.specs.Loaded.{IsLoaded};
+ghost use Rattle.mal_shipped.specs.Shipped.{HasShipped};
 
+use crate::laws::{loaded_programs_are_shipped, shipped_programs_are_listed};
+use crate::program::shipped_program;
 use mal_parser::MalProgram;
-use micro_word::Store;
+use micro_word::{Machine, Store};
+use std::alloc::{AllocError, Global};
 use store_placement::{PlaceError, Placement, constraints_of, fill, place};
 
 /// A placed microprogram: its control store, the address of each statement, and the address of Main1.
@@ -31,4 +35,18 @@ pub fn load_micro(program: &MalProgram) -> Result<Loaded, PlaceError>
         placement,
         entry,
     })
+}
+
+/// The control store of the microprogram that ships for a machine.
+pub fn shipped_store(alloc: Global, machine: Machine) -> Result<Store, AllocError>
+    ensures machine { IfOk result (λ store. store.machine ≡ machine) }
+    ensures shipped { IfOk result (λ store. HasShipped machine store.words) }
+{
+    let program = shipped_program(alloc, machine)?;
+    shipped_programs_are_listed();
+    loaded_programs_are_shipped();
+    match load_micro(&program) {
+        Ok(loaded) => Ok(loaded.store),
+        Err(_) => unreachable!(),
+    }
 }

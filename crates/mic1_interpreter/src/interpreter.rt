@@ -7,9 +7,7 @@ ghost use Rattle.mic1_interpreter.specs.Interpretation.{mic1};
 
 use ijvm_simulation::{Interpreter, groups_are_all, run_image, stack_law};
 use ijvm_verifier::VerifiedImage;
-use mal_shipped::{
-    load_micro, loaded_programs_are_shipped, shipped_program, shipped_programs_are_listed,
-};
+use mal_shipped::shipped_store;
 use mic_base::{Sink, Source};
 use mic_clock::{Board, End};
 use mic1_datapath::Mic1;
@@ -44,13 +42,7 @@ impl Interpreter for Mic1Interpreter {
     }
 
     fn store(alloc: Global) -> Result<Store, AllocError> {
-        let program = shipped_program(alloc, Machine::Mic1)?;
-        shipped_programs_are_listed();
-        loaded_programs_are_shipped();
-        match load_micro(&program) {
-            Ok(loaded) => Ok(loaded.store),
-            Err(_) => unreachable!(),
-        }
+        shipped_store(alloc, Machine::Mic1)
     }
 
     fn law() {

@@ -8,9 +8,7 @@ ghost use Rattle.mic2_interpreter.specs.Interpretation.{mic2};
 use crate::laws::stalls_law;
 use ijvm_simulation::{Interpreter, run_image, stack_law};
 use ijvm_verifier::VerifiedImage;
-use mal_shipped::{
-    load_micro, loaded_programs_are_shipped, shipped_program, shipped_programs_are_listed,
-};
+use mal_shipped::shipped_store;
 use mic_base::{Sink, Source};
 use mic_clock::{Board, End};
 use mic2_datapath::Mic2;
@@ -46,13 +44,7 @@ impl Interpreter for Mic2Interpreter {
     }
 
     fn store(alloc: Global) -> Result<Store, AllocError> {
-        let program = shipped_program(alloc, Machine::Mic2)?;
-        shipped_programs_are_listed();
-        loaded_programs_are_shipped();
-        match load_micro(&program) {
-            Ok(loaded) => Ok(loaded.store),
-            Err(_) => unreachable!(),
-        }
+        shipped_store(alloc, Machine::Mic2)
     }
 
     fn law() {

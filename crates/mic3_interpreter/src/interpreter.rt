@@ -7,9 +7,7 @@ ghost use Rattle.mic3_interpreter.specs.Interpretation.{mic3};
 
 use ijvm_simulation::{Interpreter, groups_are_all, run_image, stack_law};
 use ijvm_verifier::VerifiedImage;
-use mal_shipped::{
-    load_micro, loaded_programs_are_shipped, shipped_program, shipped_programs_are_listed,
-};
+use mal_shipped::shipped_store;
 use mic_base::{Sink, Source};
 use mic_clock::{Board, End};
 use mic2_queue::queue_law;
@@ -45,13 +43,7 @@ impl Interpreter for Mic3Interpreter {
     }
 
     fn store(alloc: Global) -> Result<Store, AllocError> {
-        let program = shipped_program(alloc, Machine::Mic2)?;
-        shipped_programs_are_listed();
-        loaded_programs_are_shipped();
-        match load_micro(&program) {
-            Ok(loaded) => Ok(loaded.store),
-            Err(_) => unreachable!(),
-        }
+        shipped_store(alloc, Machine::Mic2)
     }
 
     fn law() {
