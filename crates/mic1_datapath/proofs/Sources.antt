@@ -1,14 +1,10 @@
--- What stands at the place of a source is what the source puts on the B bus; and an operation that does not use the bus finds 0 there.
-use Rattle.std.proofs.Common.{◌≡◌, ◌/◌, ◌%◌, ◌==◌, Bool, true, false, ◌&&◌, IsTrue, Option, Some, None, slice_index, refl, ap, ◌∙◌}
+-- What stands at the place of a source is what the source puts on the B bus.
+use Rattle.std.proofs.Common.{◌≡◌, Bool, true, false, ◌&&◌, IsTrue, Option, Some, None, slice_index, refl}
 use Rattle.mic_words.specs.declared.machine.Machine.TheVariants.{Mic1}
 use Rattle.micro_word.specs.Words.{fits_side, may_be_b}
-use Rattle.micro_word.specs.Coding.{row}
 use Rattle.micro_word.specs.Lines.{place_on_bus}
-use Rattle.micro_word.specs.declared.statement.AluOp.{AluOp}
-use Rattle.micro_word.specs.declared.statement.AluOp.TheVariants as ops
 use Rattle.micro_word.specs.declared.statement.BusSource.{BusSource}
 use Rattle.micro_word.specs.declared.statement.BusSource.TheVariants as sources
-use Rattle.mic1_alu.specs.Gates.{enabled}
 use Rattle.mic1_datapath.specs.Microstep.{source}
 use Rattle.mic1_datapath.specs.Latches.{AreLatches, micro_in}
 use Rattle.mic1_datapath.specs.declared.latches.Latches.{Latches}
@@ -34,17 +30,3 @@ at_place l a used (Some sources.Mbr1u) h = absurd (not_here used h)
 at_place l a used (Some sources.Mbr2) h = absurd (not_here used h)
 at_place l a used (Some sources.Mbr2u) h = absurd (not_here used h)
 at_place l a used (Some sources.H) h = absurd (not_here used h)
-
--- ENB is on for the operations that use side B
-enb : (op : AluOp) → ((row op).gates / 4 % 2 == 1) ≡ (row op).uses_b
-enb ops.A = refl
-enb _ = refl
-
-by_use : (l : Latches) (used : Bool) (b : Option BusSource) → IsTrue (fits_side used (may_be_b Mic1) b) → enabled used (source b (micro_in l)) ≡ source b (micro_in l)
-by_use l true b h = refl
-by_use l false None h = refl
-by_use l false (Some s) h = absurd (cc)
-
-pub enabled_source : (l : Latches) (op : AluOp) (b : Option BusSource) → IsTrue (fits_side (row op).uses_b (may_be_b Mic1) b) →
-    enabled ((row op).gates / 4 % 2 == 1) (source b (micro_in l)) ≡ source b (micro_in l)
-enabled_source l op b h = ap (λ (on : Bool). enabled on (source b (micro_in l))) (enb op) ∙ by_use l (row op).uses_b b h

@@ -12,7 +12,7 @@ ghost use Rattle.mic1_datapath.specs.Microstep.{source};
 
 use crate::latches::Latches;
 use mic_clock::{Computed, Drive};
-use mic_datapath::{operate, shift_by};
+use mic_datapath::{operate, shift_by, side_law};
 use mic1_alu::AluOut;
 use micro_word::{Lines, Machine, bits, statement_law, word_law};
 
@@ -61,6 +61,7 @@ pub fn computed_by(latches: &Latches, word: u64, lines: &Lines, b: u32) -> Compu
 {
     word_law(Machine::Mic1);
     statement_law(Machine::Mic1);
+    side_law();
     let gates = bits::gates(Machine::Mic1, word);
     let value = operate(gates, lines, latches.places[H], b);
     let c = shift_for(word, value);

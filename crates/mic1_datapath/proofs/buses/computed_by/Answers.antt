@@ -1,14 +1,15 @@
-use Rattle.std.proofs.Common.{◌≡◌, ℕ, ◌/◌, ◌%◌, ◌==◌, sym, ap, ◌∙◌}
+use Rattle.std.proofs.Common.{◌≡◌, ℕ, ◌/◌, ◌%◌, ◌==◌, Option, sym, ap, ◌∙◌}
+use Rattle.micro_word.specs.Words.{may_be_b}
 use Rattle.micro_word.specs.Coding.{statement_of}
 use Rattle.mic_words.specs.Arithmetic.{is_negative}
 use Rattle.micro_word.specs.Operation.{alu, shifted}
 use Rattle.micro_word.specs.declared.layout.Fields.{Fields}
+use Rattle.micro_word.specs.declared.statement.BusSource.{BusSource}
 use Rattle.mic_words.specs.declared.machine.Machine.TheVariants as machines
 use Rattle.mic1_alu.specs.Gates.{enabled}
-use Rattle.mic1_datapath.specs.Microstep.{result_of}
+use Rattle.mic1_datapath.specs.Microstep.{source, result_of}
 use Rattle.mic1_datapath.specs.Mic1.{computed}
 use Rattle.mic1_datapath.specs.Latches.{micro_in}
-use Rattle.mic1_datapath.proofs.Sources.{enabled_source}
 use Rattle.mic1_datapath.proofs.buses.computed_by.Goals as goal
 
 pub operate-value-requires-clause-b : goal.operate-value-requires-clause-b
@@ -19,7 +20,9 @@ operate-value-requires-clause-b c =
     let valid = c.statement_law.ensures.conditions s spelled.valid in
     let gates = c.gates-gates.ensures ∙ ap (λ (f : Fields). f.gates) spelled.fields in
     let on = λ (bits x : ℕ). enabled (bits / 4 % 2 == 1) x in
-    (λ i. on (gates i) (c.requires.b i)) ∙ (enabled_source c.args.latches.now s.part.op s.part.b valid.b ∙ sym c.requires.b)
+    let m = micro_in c.args.latches.now in
+    (λ i. on (gates i) c.args.b) ∙ c.side_law.ensures s.part.op (may_be_b machines.Mic1) s.part.b c.args.b valid.b
+    (λ e. c.requires.b ∙ ap (λ (b : Option BusSource). source b m) e)
 
 pub returns-clause-edge : goal.returns-clause-edge
 unfolding statement_of
