@@ -16,17 +16,10 @@ not_here false h = absurd (cc)
 pub at_place : (l : Latches) → AreLatches l → (used : Bool) (b : Option BusSource) → IsTrue (fits_side used (may_be_b Mic1) b) →
     slice_index l.places (place_on_bus b) ≡ source b (micro_in l)
 at_place l a used None h = a.nothing
-at_place l a used (Some sources.Mdr) h = refl
-at_place l a used (Some sources.Pc) h = refl
 at_place l a used (Some sources.Mbr) h = a.signed
-at_place l a used (Some sources.Mbru) h = refl
-at_place l a used (Some sources.Sp) h = refl
-at_place l a used (Some sources.Lv) h = refl
-at_place l a used (Some sources.Cpp) h = refl
-at_place l a used (Some sources.Tos) h = refl
-at_place l a used (Some sources.Opc) h = refl
 at_place l a used (Some sources.Mbr1) h = absurd (not_here used h)
 at_place l a used (Some sources.Mbr1u) h = absurd (not_here used h)
 at_place l a used (Some sources.Mbr2) h = absurd (not_here used h)
 at_place l a used (Some sources.Mbr2u) h = absurd (not_here used h)
 at_place l a used (Some sources.H) h = absurd (not_here used h)
+at_place l a used (Some _) h = refl
