@@ -48,7 +48,7 @@ module _ (v : VerifiedView) (image : IsImage v.image) (accepted : IsAccepted v) 
         long = loaded.size ∙ length-replicate {A = ℕ} v.map.stack_end 0;
       }
 
-  module _ {S : Type 0} (m : Meaning S) (IsReady : ℕ → List ℕ → ℕ → S → Type 0) (IsShipped : List ℕ → Type 0) (entry : ℕ) (timing : Timing) (promises : Promises m IsReady IsShipped entry timing) (known : Known v) where
+  module _ {S : Type 0} (m : Meaning S) (IsReady : ℕ → List ℕ → ℕ → S → Type 0) (IsShipped : List ℕ → Type 0) (entry : ℕ) (timing : Timing) (promises : Promises m IsReady IsShipped entry timing) (known : Known) where
     pub simulated : (store : List ℕ) (has : IsShipped store) (bound : ℕ) (input : List ℕ) →
         Simulates m (IsAt m IsReady entry origin) store bound (program timing v) (first_point (program timing v) v.main_locals input) before
         (reset_run m entry v.main_locals (record { words = words; untaken = input; given = before }))
@@ -56,7 +56,7 @@ module _ (v : VerifiedView) (image : IsImage v.image) (accepted : IsAccepted v) 
         let law : Law m store (IsAt m IsReady entry origin) before timing v origin = promises.law store origin v has loads in
         let each : BoundaryLaw m store (IsAt m IsReady entry origin) before (program timing v) (Fine v) = boundary_law v origin loads known m store (IsAt m IsReady entry origin) timing law in
         let b : Boots m store (IsAt m IsReady entry origin) before timing (reset_moment m entry v.main_locals origin input) (start_of v.main_locals input) = promises.boots store origin v input has loads in
-        simulates m store (IsAt m IsReady entry origin) before (program timing v) (Fine v) each (keeps v timing known) bound (first_point (program timing v) v.main_locals input)
+        simulates m store (IsAt m IsReady entry origin) before (program timing v) (Fine v) each (keeps v timing accepted image known) bound (first_point (program timing v) v.main_locals input)
         (reset_run m entry v.main_locals (record { words = words; untaken = input; given = before }))
         (booted m store (IsAt m IsReady entry origin) (program timing v) entry v.main_locals origin input b law.shows bound) (fine_start v known input)
         (quiet m store (IsAt m IsReady entry origin) (program timing v) entry v.main_locals origin input b law.shows bound)

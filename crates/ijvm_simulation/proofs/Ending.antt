@@ -10,21 +10,19 @@ use Rattle.ijvm_simulation.specs.Simulates.{board_end}
 use Rattle.mic_image_board.specs.Reset.{reset_run}
 use Rattle.ijvm_simulation.specs.Headline.{told_of}
 use Rattle.ijvm_simulation.specs.Starts.{EndsAsDefined}
-use Rattle.verifier_facts.specs.Accepted.{VerifiedView, IsAccepted}
-use Rattle.ijvm_image.specs.Image.{IsImage}
 use Rattle.ijvm_simulation.proofs.Next.{Known}
 use Rattle.ijvm_simulation.proofs.Carried.{Promises, simulated}
 use Rattle.ijvm_simulation.proofs.Boards.{rest_of, rest_fits, given_told}
 use Rattle.ijvm_simulation.proofs.Worlds.{same_end}
 
 pub ends_as_defined : {M S : Type 0} (state : M → S) (m : Meaning S) (IsReady : ℕ → List ℕ → ℕ → S → Type 0) (IsShipped : List ℕ → Type 0) (entry : ℕ) (timing : Timing) → Promises m IsReady IsShipped entry timing →
-    ((v : VerifiedView) → IsAccepted v → IsImage v.image → Known v) → EndsAsDefined state m IsShipped entry timing
-ends_as_defined state m IsReady IsShipped entry timing promises knows =
+    Known → EndsAsDefined state m IsShipped entry timing
+ends_as_defined state m IsReady IsShipped entry timing promises known =
     λ v bound left held left' held' first last has s led end ended.
     let l = led (rest_of left' last.bus.console.ended) (rest_fits left' last.bus.console.ended) in
     let input : List ℕ = l.0 in
     let w : World = record { words = first.bus.words; untaken = input; given = told_of held } in
-    let sim = simulated v s.image s.accepted first.bus.words s.loaded (told_of held) m IsReady IsShipped entry timing promises (knows v s.accepted s.image) first.store.words has bound input in
+    let sim = simulated v s.image s.accepted first.bus.words s.loaded (told_of held) m IsReady IsShipped entry timing promises known first.store.words has bound input in
     let to = l.2 (reset_run m entry v.main_locals w)
     (s.shows left held w (record { words = refl; untaken = l.1; given = subst (λ (k : List ℕ). Given held k (told_of held)) (sym s.kept) (given_told held) })) refl in
     let come = to.1.here.its_end ∙ ended in

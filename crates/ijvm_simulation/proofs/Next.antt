@@ -3,15 +3,18 @@ use Rattle.std.proofs.Common.{◌≡◌, ℕ, ◌+◌, ◌*◌, ◌<◌, Bool, t
 use Rattle.mic_words.specs.Arithmetic.{signed_byte, signed_pair}
 use Rattle.console_port.specs.World.{World, byte_in}
 use Rattle.mic_clock.specs.Meaning.{Meaning}
+use Rattle.ijvm_image.specs.Image.{ImageView, IsImage}
 use Rattle.ijvm_instr.specs.declared.instr.Instr.{Instr}
 use Rattle.ijvm_instr.specs.declared.instr.Instr.TheVariants.{Nop, Bipush, LdcW, Iload, Istore, Pop, Dup, Swap, Iadd, Isub, Iand, Iinc, Ifeq, Iflt, IfIcmpeq, Goto, Ireturn, Ior, Invokevirtual, WideIload, WideIstore, WideIinc, In, Err, Halt}
 use Rattle.ijvm_instr.specs.Instructions.{row_of, size_of, prefix, operand_bytes, instr_at}
 use Rattle.ijvm_meaning.specs.Frames.{State, AreWords, start_of}
 use Rattle.ijvm_meaning.specs.Step.{StepOutcome, Goes, Halts, Errs, Limits, step_outcome, step_if_any}
 use Rattle.ijvm_meaning.specs.Cost.{Timing, next_cost, cost_at, cost}
+use Rattle.ijvm_meaning.specs.Run.{GoesOnInWords}
 use Rattle.ijvm_meaning.specs.Safe.{Here, On}
+use Rattle.verifier_facts.specs.Facts.{Accepts, IsMainCount}
 use Rattle.verifier_facts.specs.Sound.{Finds, KeepsSound}
-use Rattle.verifier_facts.specs.Accepted.{VerifiedView}
+use Rattle.verifier_facts.specs.Accepted.{VerifiedView, IsAccepted}
 use Rattle.ijvm_simulation.specs.Stands.{Origin}
 use Rattle.ijvm_simulation.specs.Bytes.{Reads}
 use Rattle.ijvm_simulation.specs.Outcomes.{IsOutcome}
@@ -54,26 +57,26 @@ module _ (a b c d e f a' b' c' d' e' f' : ℕ) where
   reads_along In p q r s t u h = p (omega arith) ∙ h
   reads_along _ p q r s t u h = p (omega arith) ∙ h
 
--- what is known of a verified image's runs
-pub record Known (v : VerifiedView) : Type 0 where
-  pub sound : KeepsSound v.image v.map.stack_end v.main_locals
-  pub start_words : (input : List ℕ) → AreWords (start_of v.main_locals input)
-  pub goes_words : (s to : State) → AreWords s → step_outcome v.image v.map.stack_end s ≡ Goes to → AreWords to
+-- what is known of the runs of every verified image
+pub record Known : Type 0 where
+  pub sound : (image : ImageView) (stack_end main_locals : ℕ) → Accepts image stack_end → IsMainCount image main_locals → KeepsSound image stack_end main_locals
+  pub start : (main_locals : ℕ) (input : List ℕ) → AreWords (start_of main_locals input)
+  pub goes : (image : ImageView) (stack_end : ℕ) (s to : State) → IsImage image → GoesOnInWords image stack_end s to
 
-pub fine_start : (v : VerifiedView) → Known v → (input : List ℕ) → Fine v (start_of v.main_locals input)
-fine_start v known input = record { reached = Here _ (record { running = refl; callers = refl; at = refl }); words = known.start_words input }
+pub fine_start : (v : VerifiedView) → Known → (input : List ℕ) → Fine v (start_of v.main_locals input)
+fine_start v known input = record { reached = Here _ (record { running = refl; callers = refl; at = refl }); words = known.start v.main_locals input }
 
-pub keeps : (v : VerifiedView) (timing : Timing) → Known v → Keeps (program timing v) (Fine v)
-keeps v timing known =
+pub keeps : (v : VerifiedView) (timing : Timing) → IsAccepted v → IsImage v.image → Known → Keeps (program timing v) (Fine v)
+keeps v timing accepted image known =
     record {
       stays = λ s to fine goes. record {
         reached = On s to to fine.reached goes (record { running = refl; callers = refl; at = refl });
-        words = known.goes_words s to fine.words goes;
+        words = known.goes v.image v.map.stack_end s to image fine.words goes;
       };
-      unstuck = λ s fine stuck. known.sound.safe s fine.reached stuck;
+      unstuck = λ s fine stuck. accepted.safe s fine.reached stuck;
     }
 
-module _ (v : VerifiedView) (o : Origin) (loads : Loads v o) (known : Known v) where
+module _ (v : VerifiedView) (o : Origin) (loads : Loads v o) (known : Known) where
   reads : (s : State) (i : Instr) → Finds v.image s i →
       Reads (byte_in o.words s.at) (byte_in o.words (s.at + 1)) (byte_in o.words (s.at + 2)) (byte_in o.words (s.at + 3)) (byte_in o.words (s.at + 4)) (byte_in o.words (s.at + 5)) i
   reads s i finds =
@@ -93,7 +96,9 @@ module _ (v : VerifiedView) (o : Origin) (loads : Loads v o) (known : Known v) w
 
   pub next : (s : State) → Fine v s → (i : Instr) × IsNext v o s i
   next s fine =
-      let f = known.sound.finds s (known.sound.comes_to [] s fine.reached) in
+      let sound : KeepsSound v.image v.map.stack_end v.main_locals =
+      known.sound v.image v.map.stack_end v.main_locals loads.accepted.accepts loads.accepted.main in
+      let f = sound.finds s (sound.comes_to [] s fine.reached) in
       let some : 0 < size_of (row_of f.0) = some_byte (row_of f.0).wide (row_of f.0).opcode (operand_bytes (row_of f.0).operands) in
       (f.0, record { begins = omega (arith, some, f.1.whole); finds = f.1; reads = reads s f.0 f.1 })
 

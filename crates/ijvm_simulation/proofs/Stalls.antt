@@ -28,7 +28,7 @@ use Rattle.ijvm_simulation.proofs.Instruction.{Law as BoundaryLaw, Keeps, Moved,
 use Rattle.ijvm_simulation.proofs.Next.{Known, fine_start, keeps, next, boundary_law}
 use Rattle.ijvm_simulation.proofs.Boots.{booted}
 
-module _ {S : Type 0} (m : Meaning S) (store : List ℕ) (IsAt : State → S → World → Type 0) (o : Origin) (v : VerifiedView) (loads : Loads v o) (known : Known v)
+module _ {S : Type 0} (m : Meaning S) (store : List ℕ) (IsAt : State → S → World → Type 0) (o : Origin) (v : VerifiedView) (loads : Loads v o) (known : Known)
     (timing : Timing) (law : Law m store IsAt o.given timing v o) (stalls_of : ImageView → Instr → ℕ) (takes : TakesWithStalls m store IsAt o.given timing stalls_of v o (λ i. Unit {0})) (bound : ℕ) where
   abbrev p : TimedImage
   p = program timing v
@@ -72,7 +72,7 @@ module _ {S : Type 0} (m : Meaning S) (store : List ℕ) (IsAt : State → S →
       IsHere (point_after p at to) (stalls + stalls_of v.image i) (turns m store (Some bound) (next_cost v.image timing at.state) r)
   behind at stalls r i to h below code goes =
       let t : nat_le bound at.cycles ≡ false = grind (arith, nat_tests) in
-      let keep : Keeps p (Fine v) = keeps v timing known in
+      let keep : Keeps p (Fine v) = keeps v timing loads.accepted loads.image known in
       let on : Moved m store IsAt o.given p (Fine v) each keep bound at r h.boundary h.fine to =
       moved m store IsAt o.given p (Fine v) each keep bound at r h.boundary h.fine to t goes in
       record {

@@ -7,14 +7,8 @@ use Rattle.ijvm_simulation.proofs.Boards.{has_run, is_cut_by_read, is_cut_by_wri
 use Rattle.ijvm_simulation.proofs.run.run_image.Given.{Over}
 use Rattle.ijvm_simulation.proofs.run.run_image.Goals as goal
 
-known : (g : Over) → (c : goal.After-run g) → Known c.args.image.now
-known g c =
-    let reset = c.in_ok-board.ensures.reset in
-    record {
-      sound = c.accepted_images_keep_sound.ensures c.args.image.now.image c.args.image.now.map.stack_end c.args.image.now.main_locals reset.accepted.accepts reset.accepted.main;
-      start_words = c.runs_keep_words.ensures.start c.args.image.now.main_locals;
-      goes_words = λ s to. c.runs_keep_words.ensures.goes c.args.image.now.image c.args.image.now.map.stack_end s to reset.image;
-    }
+known : (g : Over) → (c : goal.After-run g) → Known
+known g c = record { sound = c.accepted_images_keep_sound.ensures; start = c.runs_keep_words.ensures.start; goes = c.runs_keep_words.ensures.goes }
 
 promises : (g : Over) → (c : goal.After-run g) → Promises g.I.Machine.Clocked.meaning g.I.Machine.Clocked.IsReady g.I.Interpreter.IsShipped g.I.Interpreter.entry g.I.Interpreter.timing
 promises g c = record { law = c.law.ensures.law; boots = c.law.ensures.boots; grows = c.law.ensures.grows }
