@@ -2,6 +2,7 @@
 use Rattle.std.proofs.Common.{◌≡◌, ℕ, List, [], ◌++◌, Option, Some, None, IfSome, Bool, true, false, refl, sym, ◌∙◌, ap, subst}
 use Rattle.std.proofs.lemmas.List.{append-nil}
 use Rattle.mic_base.specs.Streams.{Holds}
+use Rattle.micro_word.specs.ControlStore.{ControlStore}
 use Rattle.console_port.specs.World.{World}
 use Rattle.console_port.specs.Console.{Untaken, Given, TellsLeft, StillTells}
 use Rattle.mic_clock.specs.Meaning.{Meaning}
@@ -61,10 +62,13 @@ front_put None before given kept front = tt
 front_put (Some h) before given kept front = (record { more = kept.0; are = kept.1 }, record { more = front.0; are = front.1 })
 
 module _ {M S : Type 0} (state : M → S) (m : Meaning S) (IsReady : ℕ → List ℕ → ℕ → S → Type 0) (IsShipped : List ℕ → Type 0) (entry : ℕ) (timing : Timing) (promises : Promises m IsReady IsShipped entry timing)
-    (v : VerifiedView) (known : Known) (bound : ℕ) (left held left' held' : Option (List ℕ)) (board0 board : BoardView M) (s : IsAtReset state m entry v board0) (has : IsShipped board.store.words)
-    (tells : StillTells left board0.bus.console.ended left' board.bus.console.ended) where
+    (v : VerifiedView) (known : Known) (bound : ℕ) (left held left' held' : Option (List ℕ)) (board0 board : BoardView M) (s : IsAtReset state m entry v board0) (shipped : IsShipped board0.store.words)
+    (store : board0.store ≡ board.store) (tells : StillTells left board0.bus.console.ended left' board.bus.console.ended) where
   abbrev Here : Type 0
   Here = Begins state m IsReady IsShipped entry timing v bound board.store.words left (told_of held)
+
+  has : IsShipped board.store.words
+  has = subst (λ (st : ControlStore). IsShipped st.words) store shipped
 
   -- the bytes that were left when the run began
   untaken_at : (input : List ℕ) → Untaken left board0.bus.console.ended input → Untaken left false input
@@ -89,6 +93,24 @@ module _ {M S : Type 0} (state : M → S) (m : Meaning S) (IsReady : ℕ → Lis
       s.shows left held (world input)
       (record { words = refl; untaken = h; given = subst (λ (k : List ℕ). Given held k (told_of held)) (sym s.kept) (given_told held) })
 
+  -- turns over these words lead to the second board, which shows this of the run
+  abbrev Led : List ℕ → (MicroRun S → Type 0) → Type 0
+  Led words IsShown = IsLedTo state left held board0 left' board (λ r rest. (n : ℕ) × Leads state m words (Some bound) board board0.buses rest n r IsShown)
+
+  -- an input, and the turns after which the run over it is there
+  record Comes (IsShown : MicroRun S → Type 0) : Type 0 where
+    pub input : List ℕ
+    pub told : Untaken left false input
+    pub n : ℕ
+    pub here : IsShown (after n input)
+
+  comes : (IsShown : List ℕ → MicroRun S → Type 0) → Led board0.store.words (IsShown board0.store.words) → Comes (IsShown board.store.words)
+  comes IsShown led =
+      let on : Led board.store.words (IsShown board.store.words) = subst (λ (st : ControlStore). Led st.words (IsShown st.words)) store led in
+      let l = on (rest_of left' board.bus.console.ended) (rest_fits left' board.bus.console.ended) in
+      let to = l.2 (reset_run m entry v.main_locals (world l.0)) (shown l.0 l.1) refl in
+      record { input = l.0; told = untaken_at l.0 l.1; n = to.0; here = to.1.here }
+
   -- what has been given at a moment is a front of the definition's output
   front : (b : Here) (n : ℕ) → Grows (turns m board.store.words (Some bound) n (reset_run m entry v.main_locals (record { words = b.words; untaken = b.input; given = told_of held }))).world.given (told_of held ++ b.finish.left.given)
   front b n =
@@ -96,70 +118,49 @@ module _ {M S : Type 0} (state : M → S) (m : Meaning S) (IsReady : ℕ → Lis
       subst (λ (all : List ℕ). Grows (turns m board.store.words (Some bound) n (reset_run m entry v.main_locals (record { words = b.words; untaken = b.input; given = told_of held }))).world.given all) end.1.given
       (front_of_end m promises.grows board.store.words bound n end.0 _ (reset_run m entry v.main_locals (record { words = b.words; untaken = b.input; given = told_of held })) end.1.end)
 
-  pub has_run : (e : End) → board.end ≡ Some e → board.bus.console.kept ≡ [] →
-      IsLedTo state left held board0 left' board
-      (λ r rest. (n : ℕ) × Leads state m board.store.words (Some bound) board board0.buses rest n r (ShowsRun state left' held' board)) →
+  pub has_run : (e : End) → board.end ≡ Some e → board.bus.console.kept ≡ [] → Led board0.store.words (ShowsRun state left' held' board) →
       HasRun state m IsReady IsShipped entry timing v bound left held left' held' board
   has_run e ended kept led =
-      let rest : List ℕ = rest_of left' board.bus.console.ended in
-      let l = led rest (rest_fits left' board.bus.console.ended) in
-      let input : List ℕ = l.0 in
-      let b : Here = begins input (untaken_at input l.1) in
-      let to = l.2 (reset_run m entry v.main_locals (world input)) (shown input l.1) refl in
-      let n : ℕ = to.0 in
-      let here : ShowsRun state left' held' board (after n input) = to.1.here in
+      let t : Comes (ShowsRun state left' held' board) = comes (λ words. ShowsRun state left' held' board) led in
+      let b : Here = begins t.input t.told in
       let end = b.simulates.ends b.finish b.finishes in
-      let same : after n input ≡ after end.0 input = same_end m board.store.words bound n end.0 e _ (reset_run m entry v.main_locals (world input)) (here.its_end ∙ ended) end.1.end in
-      let agrees : IsEnd (told_of held) b.finish (after n input) = subst (λ (r : MicroRun S). IsEnd (told_of held) b.finish r) (sym same) end.1 in
+      let same : after t.n t.input ≡ after end.0 t.input = same_end m board.store.words bound t.n end.0 e _ (reset_run m entry v.main_locals (world t.input)) (t.here.its_end ∙ ended) end.1.end in
+      let agrees : IsEnd (told_of held) b.finish (after t.n t.input) = subst (λ (r : MicroRun S). IsEnd (told_of held) b.finish r) (sym same) end.1 in
       record {
         begins = b;
-        n = n;
-        at = record { its_state = here.its_state; memory = here.world.words; counts = here.counts; untaken = here.world.untaken; leaves = leaves (after n input).world.untaken here.world.untaken };
-        end = here.its_end;
+        n = t.n;
+        at = record { its_state = t.here.its_state; memory = t.here.world.words; counts = t.here.counts; untaken = t.here.world.untaken; leaves = leaves (after t.n t.input).world.untaken t.here.world.untaken };
+        end = t.here.its_end;
         agrees = agrees;
-        untaken = subst (λ (u : List ℕ). Leaves left left' u) agrees.untaken (leaves (after n input).world.untaken here.world.untaken);
-        given = all_put held' board.bus.console.kept (after n input).world.given (told_of held ++ b.finish.left.given) kept agrees.given here.world.given;
+        untaken = subst (λ (u : List ℕ). Leaves left left' u) agrees.untaken (leaves (after t.n t.input).world.untaken t.here.world.untaken);
+        given = all_put held' board.bus.console.kept (after t.n t.input).world.given (told_of held ++ b.finish.left.given) kept agrees.given t.here.world.given;
       }
 
-  pub is_cut_by_read :
-      IsLedTo state left held board0 left' board
-      (λ r rest. (n : ℕ) × Leads state m board.store.words (Some bound) board board0.buses rest n r (IsReadCut state m board.store.words (Some bound) left' held' board)) →
+  pub is_cut_by_read : Led board0.store.words (IsReadCut state m board0.store.words (Some bound) left' held' board) →
       IsCutByRead state m IsReady IsShipped entry timing v bound left held left' held' board
   is_cut_by_read led =
-      let rest : List ℕ = rest_of left' board.bus.console.ended in
-      let l = led rest (rest_fits left' board.bus.console.ended) in
-      let input : List ℕ = l.0 in
-      let b : Here = begins input (untaken_at input l.1) in
-      let to = l.2 (reset_run m entry v.main_locals (world input)) (shown input l.1) refl in
-      let n : ℕ = to.0 in
-      let here : IsReadCut state m board.store.words (Some bound) left' held' board (after n input) = to.1.here in
+      let t : Comes (IsReadCut state m board.store.words (Some bound) left' held' board) = comes (λ words. IsReadCut state m words (Some bound) left' held' board) led in
+      let b : Here = begins t.input t.told in
       record {
         begins = b;
-        n = n;
-        at = record { its_state = here.its_state; memory = here.world.words; counts = here.counts; untaken = here.world.untaken; leaves = leaves (after n input).world.untaken here.world.untaken };
-        next = here.next;
-        reads = here.reads;
-        given = all_put held' board.bus.console.kept (after n input).world.given (after n input).world.given here.kept refl here.world.given;
-        front = front b n;
+        n = t.n;
+        at = record { its_state = t.here.its_state; memory = t.here.world.words; counts = t.here.counts; untaken = t.here.world.untaken; leaves = leaves (after t.n t.input).world.untaken t.here.world.untaken };
+        next = t.here.next;
+        reads = t.here.reads;
+        given = all_put held' board.bus.console.kept (after t.n t.input).world.given (after t.n t.input).world.given t.here.kept refl t.here.world.given;
+        front = front b t.n;
       }
 
-  pub is_cut_by_write : ((front : List ℕ) → Holds front held → Holds front held') →
-      IsLedTo state left held board0 left' board
-      (λ r rest. (n : ℕ) × Leads state m board.store.words (Some bound) board board0.buses rest n r (IsCut state m board.store.words (Some bound) left' held' board)) →
+  pub is_cut_by_write : ((front : List ℕ) → Holds front held → Holds front held') → Led board0.store.words (IsCut state m board0.store.words (Some bound) left' held' board) →
       IsCutByWrite state m IsReady IsShipped entry timing v bound left held left' held' board
   is_cut_by_write keeps led =
-      let rest : List ℕ = rest_of left' board.bus.console.ended in
-      let l = led rest (rest_fits left' board.bus.console.ended) in
-      let input : List ℕ = l.0 in
-      let b : Here = begins input (untaken_at input l.1) in
-      let to = l.2 (reset_run m entry v.main_locals (world input)) (shown input l.1) refl in
-      let n : ℕ = to.0 in
-      let here : IsCut state m board.store.words (Some bound) left' held' board (after n input) = to.1.here in
+      let t : Comes (IsCut state m board.store.words (Some bound) left' held' board) = comes (λ words. IsCut state m words (Some bound) left' held' board) led in
+      let b : Here = begins t.input t.told in
       record {
         begins = b;
-        n = n;
-        at = record { its_state = here.its_state; memory = here.memory; counts = here.counts; untaken = here.untaken; leaves = leaves (after n input).world.untaken here.untaken };
-        next = here.next;
-        given = front_put held' (told_of held) (after n input).world.given (keeps (told_of held) (holds_told held)) here.front;
-        front = front b n;
+        n = t.n;
+        at = record { its_state = t.here.its_state; memory = t.here.memory; counts = t.here.counts; untaken = t.here.untaken; leaves = leaves (after t.n t.input).world.untaken t.here.untaken };
+        next = t.here.next;
+        given = front_put held' (told_of held) (after t.n t.input).world.given (keeps (told_of held) (holds_told held)) t.here.front;
+        front = front b t.n;
       }

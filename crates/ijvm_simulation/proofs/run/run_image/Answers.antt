@@ -1,6 +1,4 @@
-use Rattle.std.proofs.Common.{ℕ, Some, sym, subst}
-use Rattle.micro_word.specs.ControlStore.{ControlStore}
-use Rattle.mic_clock.specs.Board.{IsLedTo, Leads, ShowsRun, IsCutByRead as IsReadCut, IsCutByWrite as IsCut}
+use Rattle.std.proofs.Common.{sym}
 use Rattle.ijvm_simulation.proofs.Next.{Known}
 use Rattle.ijvm_simulation.proofs.Carried.{Promises}
 use Rattle.ijvm_simulation.proofs.Boards.{has_run, is_cut_by_read, is_cut_by_write}
@@ -13,35 +11,26 @@ known g c = record { sound = c.accepted_images_keep_sound.ensures; start = c.run
 promises : (g : Over) → (c : goal.After-run g) → Promises g.I.Machine.Clocked.meaning g.I.Machine.Clocked.IsReady g.I.Interpreter.IsShipped g.I.Interpreter.entry g.I.Interpreter.timing
 promises g c = record { law = c.law.ensures.law; boots = c.law.ensures.boots; grows = c.law.ensures.grows }
 
-has : (g : Over) → (c : goal.After-run g) → g.I.Interpreter.IsShipped c.run.new.self.store.words
-has g c = subst (λ (st : ControlStore). g.I.Interpreter.IsShipped st.words) (sym c.run.ensures.goes_on.store) c.in_ok-board.ensures.store
-
 pub returns-clause-run : goal.returns-clause-run
 returns-clause-run g c = λ none.
     has_run g.I.Machine.Clocked.state g.I.Machine.Clocked.meaning g.I.Machine.Clocked.IsReady g.I.Interpreter.IsShipped g.I.Interpreter.entry g.I.Interpreter.timing (promises g c)
-    c.args.image.now (known g c) c.args.bound _ _ _ _ c.in_ok-board.board c.run.new.self c.in_ok-board.ensures.reset (has g c) c.run.ensures.goes_on.source_goes_on.tells_left c.run.result c.run.ensures.end (c.run.ensures.kept c.in_ok-board.ensures.reset.end)
-    (subst
-    (λ (st : ControlStore). IsLedTo g.I.Machine.Clocked.state (g.S.Source.left c.args.source.now) (g.K.Sink.held c.args.sink.now) c.in_ok-board.board (g.S.Source.left c.run.new.source) c.run.new.self
-    (λ r rest. (n : ℕ) × Leads g.I.Machine.Clocked.state g.I.Machine.Clocked.meaning st.words (Some c.args.bound) c.run.new.self c.in_ok-board.board.buses rest n r (ShowsRun g.I.Machine.Clocked.state (g.S.Source.left c.run.new.source) (g.K.Sink.held c.run.new.sink) c.run.new.self)))
-    (sym c.run.ensures.goes_on.store) (c.run.ensures.run c.in_ok-board.ensures.reset.end none))
+    c.args.image.now (known g c) c.args.bound _ _ _ _ c.in_ok-board.board c.run.new.self c.in_ok-board.ensures.reset
+    c.in_ok-board.ensures.store (sym c.run.ensures.goes_on.store) c.run.ensures.goes_on.source_goes_on.tells_left
+    c.run.result c.run.ensures.end (c.run.ensures.kept c.in_ok-board.ensures.reset.end) (c.run.ensures.run c.in_ok-board.ensures.reset.end none)
 
 pub returns-clause-read : goal.returns-clause-read
 returns-clause-read g c = λ failed.
     is_cut_by_read g.I.Machine.Clocked.state g.I.Machine.Clocked.meaning g.I.Machine.Clocked.IsReady g.I.Interpreter.IsShipped g.I.Interpreter.entry g.I.Interpreter.timing (promises g c)
-    c.args.image.now (known g c) c.args.bound _ _ _ _ c.in_ok-board.board c.run.new.self c.in_ok-board.ensures.reset (has g c) c.run.ensures.goes_on.source_goes_on.tells_left
-    (subst
-    (λ (st : ControlStore). IsLedTo g.I.Machine.Clocked.state (g.S.Source.left c.args.source.now) (g.K.Sink.held c.args.sink.now) c.in_ok-board.board (g.S.Source.left c.run.new.source) c.run.new.self
-    (λ r rest. (n : ℕ) × Leads g.I.Machine.Clocked.state g.I.Machine.Clocked.meaning st.words (Some c.args.bound) c.run.new.self c.in_ok-board.board.buses rest n r (IsReadCut g.I.Machine.Clocked.state g.I.Machine.Clocked.meaning st.words (Some c.args.bound) (g.S.Source.left c.run.new.source) (g.K.Sink.held c.run.new.sink) c.run.new.self)))
-    (sym c.run.ensures.goes_on.store) (c.run.ensures.read c.in_ok-board.ensures.reset.end failed))
+    c.args.image.now (known g c) c.args.bound _ _ _ _ c.in_ok-board.board c.run.new.self c.in_ok-board.ensures.reset
+    c.in_ok-board.ensures.store (sym c.run.ensures.goes_on.store) c.run.ensures.goes_on.source_goes_on.tells_left
+    (c.run.ensures.read c.in_ok-board.ensures.reset.end failed)
 
 pub returns-clause-write : goal.returns-clause-write
 returns-clause-write g c = λ failed.
     is_cut_by_write g.I.Machine.Clocked.state g.I.Machine.Clocked.meaning g.I.Machine.Clocked.IsReady g.I.Interpreter.IsShipped g.I.Interpreter.entry g.I.Interpreter.timing (promises g c)
-    c.args.image.now (known g c) c.args.bound _ _ _ _ c.in_ok-board.board c.run.new.self c.in_ok-board.ensures.reset (has g c) c.run.ensures.goes_on.source_goes_on.tells_left c.run.ensures.goes_on.sink_goes_on.keeps
-    (subst
-    (λ (st : ControlStore). IsLedTo g.I.Machine.Clocked.state (g.S.Source.left c.args.source.now) (g.K.Sink.held c.args.sink.now) c.in_ok-board.board (g.S.Source.left c.run.new.source) c.run.new.self
-    (λ r rest. (n : ℕ) × Leads g.I.Machine.Clocked.state g.I.Machine.Clocked.meaning st.words (Some c.args.bound) c.run.new.self c.in_ok-board.board.buses rest n r (IsCut g.I.Machine.Clocked.state g.I.Machine.Clocked.meaning st.words (Some c.args.bound) (g.S.Source.left c.run.new.source) (g.K.Sink.held c.run.new.sink) c.run.new.self)))
-    (sym c.run.ensures.goes_on.store) (c.run.ensures.write c.in_ok-board.ensures.reset.end failed))
+    c.args.image.now (known g c) c.args.bound _ _ _ _ c.in_ok-board.board c.run.new.self c.in_ok-board.ensures.reset
+    c.in_ok-board.ensures.store (sym c.run.ensures.goes_on.store) c.run.ensures.goes_on.source_goes_on.tells_left
+    c.run.ensures.goes_on.sink_goes_on.keeps (c.run.ensures.write c.in_ok-board.ensures.reset.end failed)
 
 pub returns-clause-cause : goal.returns-clause-cause
 returns-clause-cause g c = rw c.in_ok-board.ensures.reset.end at c.run.ensures.goes_on.cause
