@@ -214,7 +214,6 @@ module _ (program : List ℕ) (has : HasStatements program) (o : Origin) (v : Ve
   -- the second or the third word of the link meets the stack's end
   limits : (s left : State) (q : Moment Micro) (i : Instr) → IsCall i → Fine v s → IsNext v o s i → Stands o s q.state q.world → Overran v.image v.map.stack_end s left i →
       Overruns mic1_meaning program (Stands o) o.given q left
-  limits s left q Ireturn is fine n h over = absurd over
   limits s left q (Invokevirtual k) is fine n h over =
       let f : IsMethod v o k over.method = law.method v o loads k over.method over.found in
       let args : Arguments over.others s.running.operands = law.arguments over.others s.running.operands over.enough in
@@ -253,7 +252,7 @@ module _ (program : List ℕ) (has : HasStatements program) (o : Origin) (v : Ve
             (ap (λ (r : Option Refusal). first_refusal r None) fault)
             (a.untaken ∙ untaken) (d.given _ _ ∙ (b.given _ y ∙ given))
       ]
-  limits s left q i is fine n h over = absurd is
+  limits s left q i is fine n h over = absurd (assumption)
 
   pub calls : Takes mic1_meaning program (Stands o) o.given (timing_of Mic1) v o IsCall
   calls = record { goes = goes; limits = limits }

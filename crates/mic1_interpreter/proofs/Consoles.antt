@@ -84,8 +84,7 @@ module _ (program : List ℕ) (has : HasStatements program) (o : Origin) (v : Ve
       overruns program has o s left q (0xFC ∷ []) 4 (next q.state.sp) h (omega arith) (assumption) refl refl h.holds.memory.long
       (ap (λ (r : Option Refusal). first_refusal r None) fault)
       (p.untaken ∙ (ap (drop 1) h.holds.untaken ∙ ap (λ (t : State). t.untaken) over.leaves)) (h.holds.given ∙ ap (λ (t : State). o.given ++ t.given) over.leaves)
-  limits s left q Out is fine n h over = absurd over
-  limits s left q i is fine n h over = absurd is
+  limits s left q i is fine n h over = absurd (assumption)
 
   pub consoles : Takes mic1_meaning program (Stands o) o.given (timing_of Mic1) v o IsOfConsole
   consoles = record { goes = goes; limits = limits }

@@ -220,10 +220,7 @@ module _ (program : List ℕ) (has : HasStatements program) (o : Origin) (v : Ve
   limits : (s left : State) (q : Moment Micro) (i : Instr) → IsJump i → Fine v s → IsNext v o s i → Stands o s q.state q.world → Overran v.image v.map.stack_end s left i →
       Overruns mic1_meaning program (Stands o) o.given q left
   limits s left q (Goto z) is fine n h over = absurd over
-  limits s left q (Ifeq z) is fine n h over = absurd over
-  limits s left q (Iflt z) is fine n h over = absurd over
-  limits s left q (IfIcmpeq z) is fine n h over = absurd over
-  limits s left q i is fine n h over = absurd is
+  limits s left q i is fine n h over = absurd (assumption)
 
   pub jumping : Takes mic1_meaning program (Stands o) o.given (timing_of Mic1) v o IsJump
   jumping = record { goes = goes; limits = limits }

@@ -224,11 +224,7 @@ module _ (program : List ℕ) (has : HasStatements program) (o : Origin) (v : Ve
       overruns program has o s left q (0xC4 ∷ 0x115 ∷ []) 6 (next q.state.sp) h (omega arith) (assumption) refl refl h.holds.memory.long
       (ap (λ (r : Option Refusal). first_refusal r (fetch_refusal (length o.words) (next (next (next (next q.state.pc)))))) fault)
       (a.untaken ∙ (h.holds.untaken ∙ ap (λ (t : State). t.untaken) over.leads.leaves)) (h.holds.given ∙ ap (λ (t : State). o.given ++ t.given) over.leads.leaves)
-  limits s left q (Istore k) is fine n h over = absurd over
-  limits s left q (Iinc k b) is fine n h over = absurd over
-  limits s left q (WideIstore k) is fine n h over = absurd over
-  limits s left q (WideIinc k z) is fine n h over = absurd over
-  limits s left q i is fine n h over = absurd is
+  limits s left q i is fine n h over = absurd (assumption)
 
   pub locals : Takes mic1_meaning program (Stands o) o.given (timing_of Mic1) v o IsOfLocals
   locals = record { goes = goes; limits = limits }

@@ -221,14 +221,7 @@ module _ (program : List ℕ) (has : HasStatements program) (o : Origin) (v : Ve
       overruns program has o s left q (0x59 ∷ []) 1 (next q.state.sp) h (omega arith) (assumption) refl refl h.holds.memory.long
       (ap (λ (r : Option Refusal). first_refusal r None) fault)
       (h.holds.untaken ∙ ap (λ (t : State). t.untaken) over.leads.leaves) (h.holds.given ∙ ap (λ (t : State). o.given ++ t.given) over.leads.leaves)
-  limits s left q Nop is fine n h over = absurd over
-  limits s left q Pop is fine n h over = absurd over
-  limits s left q Swap is fine n h over = absurd over
-  limits s left q Iadd is fine n h over = absurd over
-  limits s left q Isub is fine n h over = absurd over
-  limits s left q Iand is fine n h over = absurd over
-  limits s left q Ior is fine n h over = absurd over
-  limits s left q i is fine n h over = absurd is
+  limits s left q i is fine n h over = absurd (assumption)
 
   pub operands : Takes mic1_meaning program (Stands o) o.given (timing_of Mic1) v o IsOfOperands
   operands = record { goes = goes; limits = limits }

@@ -258,7 +258,6 @@ module _ (program : List ℕ) (has : Known program) (o : Origin) (v : VerifiedVi
   -- the second or the third word of the link meets the stack's end
   limits : (s left : State) (q : Moment Micro) (i : Instr) → IsCall i → Fine v s → IsNext v o s i → Stands o s q.state q.world → Overran v.image v.map.stack_end s left i →
       OverrunsWithStalls program o q (stalls_of v.image i) left
-  limits s left q Ireturn is fine n h over = absurd over
   limits s left q (Invokevirtual k) is fine n h over =
       let f : IsMethod v o k over.method = law.method v o loads k over.method over.found in
       let args : Arguments over.others s.running.operands = law.arguments over.others s.running.operands over.enough in
@@ -313,7 +312,7 @@ module _ (program : List ℕ) (has : Known program) (o : Origin) (v : VerifiedVi
                   (a.untaken ∙ untaken) (d.given _ _ ∙ (b.given _ y ∙ given)) refl)
             ]
       ]
-  limits s left q i is fine n h over = absurd is
+  limits s left q i is fine n h over = absurd (assumption)
 
   pub calls : TakesWithStalls program o v IsCall
   calls = record { goes = goes; limits = limits }

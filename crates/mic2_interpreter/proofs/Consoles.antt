@@ -82,8 +82,7 @@ module _ (program : List ℕ) (has : Known program) (o : Origin) (v : VerifiedVi
       (law.boundary o s q.state.sp q.state.lv q.state.cpp q.state.tos q.world map h.holds).full (omega (arith, over.over, loads.long)) in
       overruns program has o map s left q Goes (steps 3) [] 0xFC (next q.state.sp) 0 h n.reads refl refl (omega arith) (assumption) refl refl (refl, fault)
       (p.untaken ∙ (ap (drop 1) h.holds.untaken ∙ ap (λ (t : State). t.untaken) over.leaves)) (h.holds.given ∙ ap (λ (t : State). o.given ++ t.given) over.leaves) (let e : q.stalls ≡ q.stalls + 0 = omega arith in e)
-  limits s left q Out is fine n h over = absurd over
-  limits s left q i is fine n h over = absurd is
+  limits s left q i is fine n h over = absurd (assumption)
 
   pub consoles : TakesWithStalls program o v IsOfConsole
   consoles = record { goes = goes; limits = limits }

@@ -210,10 +210,7 @@ module _ (program : List ℕ) (has : Known program) (o : Origin) (v : VerifiedVi
   limits : (s left : State) (q : Moment Micro) (i : Instr) → IsJump i → Fine v s → IsNext v o s i → Stands o s q.state q.world → Overran v.image v.map.stack_end s left i →
       OverrunsWithStalls program o q (stalls_of v.image i) left
   limits s left q (Goto z) is fine n h over = absurd over
-  limits s left q (Ifeq z) is fine n h over = absurd over
-  limits s left q (Iflt z) is fine n h over = absurd over
-  limits s left q (IfIcmpeq z) is fine n h over = absurd over
-  limits s left q i is fine n h over = absurd is
+  limits s left q i is fine n h over = absurd (assumption)
 
   pub jumping : TakesWithStalls program o v IsJump
   jumping = record { goes = goes; limits = limits }

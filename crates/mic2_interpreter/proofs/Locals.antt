@@ -223,11 +223,7 @@ module _ (program : List ℕ) (has : Known program) (o : Origin) (v : VerifiedVi
       (law.boundary o s q.state.sp q.state.lv q.state.cpp q.state.tos q.world map h.holds).full (omega (arith, over.leads.over, loads.long)) in
       overruns program has o map s left q Goes (steps 2) (0x115 ∷ []) 0xC4 (next q.state.sp) 0 h n.reads.0 refl refl (omega arith) (assumption) refl refl (refl, fault)
       (a.untaken ∙ (h.holds.untaken ∙ ap (λ (t : State). t.untaken) over.leads.leaves)) (h.holds.given ∙ ap (λ (t : State). o.given ++ t.given) over.leads.leaves) (let e : q.stalls ≡ q.stalls + 0 = omega arith in e)
-  limits s left q (Istore k) is fine n h over = absurd over
-  limits s left q (Iinc k b) is fine n h over = absurd over
-  limits s left q (WideIstore k) is fine n h over = absurd over
-  limits s left q (WideIinc k z) is fine n h over = absurd over
-  limits s left q i is fine n h over = absurd is
+  limits s left q i is fine n h over = absurd (assumption)
 
   pub locals : TakesWithStalls program o v IsOfLocals
   locals = record { goes = goes; limits = limits }

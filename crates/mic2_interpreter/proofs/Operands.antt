@@ -221,14 +221,7 @@ module _ (program : List ℕ) (has : Known program) (o : Origin) (v : VerifiedVi
       (law.boundary o s q.state.sp q.state.lv q.state.cpp q.state.tos q.world map h.holds).full (omega (arith, over.leads.over, loads.long)) in
       overruns program has o map s left q Goes (steps 0) [] 0x59 (next q.state.sp) 0 h n.reads refl refl (omega arith) (assumption) refl refl (refl, fault)
       (h.holds.untaken ∙ ap (λ (t : State). t.untaken) over.leads.leaves) (h.holds.given ∙ ap (λ (t : State). o.given ++ t.given) over.leads.leaves) (let e : q.stalls ≡ q.stalls + 0 = omega arith in e)
-  limits s left q Nop is fine n h over = absurd over
-  limits s left q Pop is fine n h over = absurd over
-  limits s left q Swap is fine n h over = absurd over
-  limits s left q Iadd is fine n h over = absurd over
-  limits s left q Isub is fine n h over = absurd over
-  limits s left q Iand is fine n h over = absurd over
-  limits s left q Ior is fine n h over = absurd over
-  limits s left q i is fine n h over = absurd is
+  limits s left q i is fine n h over = absurd (assumption)
 
   pub operands : TakesWithStalls program o v IsOfOperands
   operands = record { goes = goes; limits = limits }

@@ -278,7 +278,6 @@ module _ (program : List ℕ) (has : Known program) (o : Origin) (v : VerifiedVi
   limits : (s left : State) (q : Moment Pipeline) (i : Instr) → IsCall i → Fine v s → IsNext v o s i → Stands o s q.state q.world →
       Overran v.image v.map.stack_end s left i →
       Overruns mic3_meaning program (Stands o) o.given q left
-  limits s left q Ireturn is fine n h over = absurd over
   limits s left q (Invokevirtual k) is fine n h over =
       let f : IsMethod v o k over.method = law.method v o loads k over.method over.found in
       let args : Arguments over.others s.running.operands = law.arguments over.others s.running.operands over.enough in
@@ -339,7 +338,7 @@ module _ (program : List ℕ) (has : Known program) (o : Origin) (v : VerifiedVi
                   (a.untaken ∙ untaken) (d.given _ _ ∙ (b.given _ y ∙ given))
             ]
       ]
-  limits s left q i is fine n h over = absurd is
+  limits s left q i is fine n h over = absurd (assumption)
 
   pub calls : Takes mic3_meaning program (Stands o) o.given mic3_timing v o IsCall
   calls = record { goes = goes; limits = limits }

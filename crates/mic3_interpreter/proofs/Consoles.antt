@@ -97,8 +97,7 @@ module _ (program : List ℕ) (has : Known program) (o : Origin) (v : VerifiedVi
       (byte_in o.words q.state.micro.pc ∷ []) HeldUp 0xFC (next q.state.micro.sp) h n.reads refl refl (omega arith) (assumption) refl refl (refl, fault)
       (p.untaken ∙ (ap (drop 1) h.holds.untaken ∙ ap (λ (t : State). t.untaken) over.leaves)) (h.holds.given
       ∙ ap (λ (t : State). o.given ++ t.given) over.leaves)
-  limits s left q Out is fine n h over = absurd over
-  limits s left q i is fine n h over = absurd is
+  limits s left q i is fine n h over = absurd (assumption)
 
   pub consoles : Takes mic3_meaning program (Stands o) o.given mic3_timing v o IsOfConsole
   consoles = record { goes = goes; limits = limits }

@@ -233,10 +233,7 @@ module _ (program : List ℕ) (has : Known program) (o : Origin) (v : VerifiedVi
       Overran v.image v.map.stack_end s left i →
       Overruns mic3_meaning program (Stands o) o.given q left
   limits s left q (Goto z) is fine n h over = absurd over
-  limits s left q (Ifeq z) is fine n h over = absurd over
-  limits s left q (Iflt z) is fine n h over = absurd over
-  limits s left q (IfIcmpeq z) is fine n h over = absurd over
-  limits s left q i is fine n h over = absurd is
+  limits s left q i is fine n h over = absurd (assumption)
 
   pub jumping : Takes mic3_meaning program (Stands o) o.given mic3_timing v o IsJump
   jumping = record { goes = goes; limits = limits }

@@ -285,11 +285,7 @@ module _ (program : List ℕ) (has : Known program) (o : Origin) (v : VerifiedVi
       (assumption) refl refl (refl, fault)
       (a.untaken ∙ (h.holds.untaken ∙ ap (λ (t : State). t.untaken) over.leads.leaves)) (h.holds.given
       ∙ ap (λ (t : State). o.given ++ t.given) over.leads.leaves)
-  limits s left q (Istore k) is fine n h over = absurd over
-  limits s left q (Iinc k b) is fine n h over = absurd over
-  limits s left q (WideIstore k) is fine n h over = absurd over
-  limits s left q (WideIinc k z) is fine n h over = absurd over
-  limits s left q i is fine n h over = absurd is
+  limits s left q i is fine n h over = absurd (assumption)
 
   pub locals : Takes mic3_meaning program (Stands o) o.given mic3_timing v o IsOfLocals
   locals = record { goes = goes; limits = limits }

@@ -242,14 +242,7 @@ module _ (program : List ℕ) (has : Known program) (o : Origin) (v : VerifiedVi
       overruns program has o map s left q Issues (Issues ∷ HeldUp ∷ []) (byte_in o.words q.state.micro.pc ∷ []) HeldUp 0x59
       (next q.state.micro.sp) h n.reads refl refl (omega arith) (assumption) refl refl (refl, fault)
       (h.holds.untaken ∙ ap (λ (t : State). t.untaken) over.leads.leaves) (h.holds.given ∙ ap (λ (t : State). o.given ++ t.given) over.leads.leaves)
-  limits s left q Nop is fine n h over = absurd over
-  limits s left q Pop is fine n h over = absurd over
-  limits s left q Swap is fine n h over = absurd over
-  limits s left q Iadd is fine n h over = absurd over
-  limits s left q Isub is fine n h over = absurd over
-  limits s left q Iand is fine n h over = absurd over
-  limits s left q Ior is fine n h over = absurd over
-  limits s left q i is fine n h over = absurd is
+  limits s left q i is fine n h over = absurd (assumption)
 
   pub operands : Takes mic3_meaning program (Stands o) o.given mic3_timing v o IsOfOperands
   operands = record { goes = goes; limits = limits }
