@@ -176,7 +176,7 @@ module _ (program : List ℕ) (has : Known program) (o : Origin) (map : IsMapEnd
       s.running.operands ≡ ps ++ x ∷ rest → place_behind s rest + length ps + 1 + more + 1 < length o.words →
       ReachesBoundary program o (length (plan late rest_of_call)) (record { state = pipe; world = w; stalls = k })
       (record s { running = called ps more (s.at + 3); callers = frame_with s rest ∷ s.callers; at = e + 4 })
-  invoke i e more ps x rest false remainder code en text ops space =
+  invoke i e more ps x rest late remainder code en text ops space =
       let c : Counts o s m = counts o s pipe w h inside in
       let bottom : 0x8000 ≤ base s.callers = law.above s.callers in
       let high : length o.words < 0x80000000 = map.high in
@@ -194,36 +194,23 @@ module _ (program : List ℕ) (has : Known program) (o : Origin) (map : IsMapEnd
       let high1 : 0x8000 ≤ link_at o m w = omega (arith, b.is) in
       let high2 : 0x8000 ≤ y = omega (arith, d.is) in
       let high3 : 0x8000 ≤ next y = omega (arith, f.is) in
-      let lateness : (entry o m w % 4 == 3) ≡ false = ap (λ (j : ℕ). j % 4 == 3) en.e0.is ∙ remainder in
-      comes program has o map Issues (plan false rest_of_call) (byte_in o.words (e + 4) ∷ []) pipe w k 0xB6 s _ h code (assumption)
-      (at_boundary o _ _ _
-      (here.enters ps x rest more (s.at + 3) (e + 4) _ _ _ _ _ ops space b.is refl f.is same (a.untaken ∙ h.holds.untaken) (f.given _ _
-      ∙ (d.given _ _ ∙ b.given _ y)))
-      (omega (arith, en.e5.is)) (omega arith) refl refl refl refl refl refl refl)
-  invoke i e more ps x rest true remainder code en text ops space =
-      let c : Counts o s m = counts o s pipe w h inside in
-      let bottom : 0x8000 ≤ base s.callers = law.above s.callers in
-      let high : length o.words < 0x80000000 = map.high in
-      let lv : ℕ = place_behind s rest in
-      let many : ℕ = length ps + 1 + more in
-      let a : IsWordAccess (length o.words) w (from o m w) (0x4000 + i) = en.constant in
-      let b : IsWordAccess (length o.words) w (link_at o m w) lv = en.link_access in
-      let y : ℕ = link o m w in
-      let d : IsWordAccess (length o.words) w y (lv + many) = law.access (length o.words) w y (lv + many) en.link_is (omega arith) in
-      let f : IsWordAccess (length o.words) w (next y) (lv + many + 1) =
-      law.access (length o.words) w (next y) (lv + many + 1) (law.words.next_is y (lv + many + 1) (omega (arith, d.is)) (omega arith)) (omega arith) in
-      let same : slice_set (slice_set (slice_set w.words (link_at o m w) y) y (plus m.pc 2)) (next y) m.lv ≡ linked_words w.words lv many (s.at + 3)
-      (base s.callers) =
-      λ j. slice_set (slice_set (slice_set w.words (b.is j) (d.is j)) (d.is j) (c.p2.is j)) (f.is j) (h.holds.lv_is j) in
-      let high1 : 0x8000 ≤ link_at o m w = omega (arith, b.is) in
-      let high2 : 0x8000 ≤ y = omega (arith, d.is) in
-      let high3 : 0x8000 ≤ next y = omega (arith, f.is) in
-      let lateness : (entry o m w % 4 == 3) ≡ true = ap (λ (j : ℕ). j % 4 == 3) en.e0.is ∙ remainder in
-      comes program has o map Issues (plan true rest_of_call) (byte_in o.words (e + 4) ∷ []) pipe w k 0xB6 s _ h code (assumption)
-      (at_boundary o _ _ _
-      (here.enters ps x rest more (s.at + 3) (e + 4) _ _ _ _ _ ops space b.is refl f.is same (a.untaken ∙ h.holds.untaken) (f.given _ _
-      ∙ (d.given _ _ ∙ b.given _ y)))
-      (omega (arith, en.e5.is)) (omega arith) refl refl refl refl refl refl refl)
+      elim late as (λ l. (e % 4 == 3) ≡ l → ReachesBoundary program o (length (plan l rest_of_call)) (record { state = pipe; world = w; stalls = k })
+      (record s { running = called ps more (s.at + 3); callers = frame_with s rest ∷ s.callers; at = e + 4 })) [
+        | false ↦ λ remains.
+            let lateness : (entry o m w % 4 == 3) ≡ false = ap (λ (j : ℕ). j % 4 == 3) en.e0.is ∙ remains in
+            comes program has o map Issues (plan false rest_of_call) (byte_in o.words (e + 4) ∷ []) pipe w k 0xB6 s _ h code (assumption)
+            (at_boundary o _ _ _
+            (here.enters ps x rest more (s.at + 3) (e + 4) _ _ _ _ _ ops space b.is refl f.is same (a.untaken ∙ h.holds.untaken) (f.given _ _
+            ∙ (d.given _ _ ∙ b.given _ y)))
+            (omega (arith, en.e5.is)) (omega arith) refl refl refl refl refl refl refl)
+        | true ↦ λ remains.
+            let lateness : (entry o m w % 4 == 3) ≡ true = ap (λ (j : ℕ). j % 4 == 3) en.e0.is ∙ remains in
+            comes program has o map Issues (plan true rest_of_call) (byte_in o.words (e + 4) ∷ []) pipe w k 0xB6 s _ h code (assumption)
+            (at_boundary o _ _ _
+            (here.enters ps x rest more (s.at + 3) (e + 4) _ _ _ _ _ ops space b.is refl f.is same (a.untaken ∙ h.holds.untaken) (f.given _ _
+            ∙ (d.given _ _ ∙ b.given _ y)))
+            (omega (arith, en.e5.is)) (omega arith) refl refl refl refl refl refl refl)
+      ] remainder
 
 module _ (program : List ℕ) (has : Known program) (o : Origin) (v : VerifiedView) (loads : Loads v o) (law : StackLaw) where
   abbrev map : IsMapEnd (length o.words)
