@@ -1,9 +1,9 @@
 -- IN and OUT.
-use Rattle.std.proofs.Common.{◌≡◌, ℕ, ◌+◌, ◌%◌, ◌<◌, Some, None, Option, List, [], ◌∷◌, ◌++◌, length, drop, refl, arith, ◌∙◌, ap, ap₂, append_assoc, subst, sym}
+use Rattle.std.proofs.Common.{◌≡◌, ℕ, ◌+◌, ◌%◌, ◌<◌, None, Option, List, [], ◌∷◌, ◌++◌, length, drop, refl, arith, ◌∙◌, ap, ap₂, append_assoc, subst, sym}
 use Rattle.std.specs.Prelude.{slice_set}
 use Rattle.mic_words.specs.declared.machine.Machine.TheVariants.{Mic1}
 use Rattle.mic_words.specs.Arithmetic.{next, before}
-use Rattle.console_port.specs.World.{World, Refusal, StackLimit, next_byte, read_value, byte_in, write_refusal}
+use Rattle.console_port.specs.World.{World, Refusal, next_byte, read_value, byte_in}
 use Rattle.ijvm_instr.specs.declared.instr.Instr.{Instr}
 use Rattle.ijvm_instr.specs.declared.instr.Instr.TheVariants.{In, Out}
 use Rattle.ijvm_meaning.specs.Frames.{State, frames_of, base}
@@ -79,8 +79,7 @@ module _ (program : List ℕ) (has : HasStatements program) (o : Origin) (v : Ve
       let c : Counts o s q.state q.world = counts o map s q.state q.world h (law.inside v o s _ loads n) in
       let p : IsConsoleAccess (length o.words) q.world = law.port (length o.words) q.world map h.holds.memory.long in
       let op : q.state.mbr ≡ 0xFC = h.ready.mbr ∙ n.reads in
-      let fault : write_refusal (length o.words) (next q.state.sp) ≡ Some (StackLimit (next q.state.sp)) =
-      (law.boundary o s q.state.sp q.state.lv q.state.cpp q.state.tos q.world map h.holds).full (omega (arith, over.over, loads.long)) in
+      let fault = (law.boundary o s q.state.sp q.state.lv q.state.cpp q.state.tos q.world map h.holds).full (omega (arith, over.over, loads.long)) in
       overruns program has o s left q (0xFC ∷ []) 4 (next q.state.sp) h (omega arith) (assumption) refl refl h.holds.memory.long
       (ap (λ (r : Option Refusal). first_refusal r None) fault)
       (p.untaken ∙ (ap (drop 1) h.holds.untaken ∙ ap (λ (t : State). t.untaken) over.leaves)) (h.holds.given ∙ ap (λ (t : State). o.given ++ t.given) over.leaves)

@@ -4,7 +4,7 @@ use Rattle.std.specs.Prelude.{slice_index, slice_set, slice_get, bit_or}
 use Rattle.std.proofs.lemmas.Option.{slice_get_within}
 use Rattle.mic_words.specs.declared.machine.Machine.TheVariants.{Mic1}
 use Rattle.mic_words.specs.Arithmetic.{wrap, plus, next, signed_byte, signed_pair}
-use Rattle.console_port.specs.World.{World, Refusal, StackLimit, read_value, byte_in, write_refusal, fetch_refusal}
+use Rattle.console_port.specs.World.{World, Refusal, read_value, byte_in, fetch_refusal}
 use Rattle.ijvm_instr.specs.declared.instr.Instr.{Instr}
 use Rattle.ijvm_instr.specs.declared.instr.Instr.TheVariants.{LdcW, Iload, Istore, Iinc, WideIload, WideIstore, WideIinc}
 use Rattle.ijvm_meaning.specs.Frames.{State, frames_of, base}
@@ -194,8 +194,7 @@ module _ (program : List ℕ) (has : HasStatements program) (o : Origin) (v : Ve
       let small : k < 0x4000 = (law.constant v o loads k over.value over.found).small in
       let a : IsWordAccess (length o.words) q.world from (0x4000 + k) =
       law.access (length o.words) q.world from (0x4000 + k) (law.words.plus_is (pair_is o.words (s.at + 1) (s.at + 2) c.byte1 c.byte2 n.reads.1) h.holds.cpp_is (omega arith) (omega (arith, small))) (omega (arith, map.low)) in
-      let fault : write_refusal (length o.words) (next q.state.sp) ≡ Some (StackLimit (next q.state.sp)) =
-      (law.boundary o s q.state.sp q.state.lv q.state.cpp q.state.tos q.world map h.holds).full (omega (arith, over.leads.over, loads.long)) in
+      let fault = (law.boundary o s q.state.sp q.state.lv q.state.cpp q.state.tos q.world map h.holds).full (omega (arith, over.leads.over, loads.long)) in
       overruns program has o s left q (0x13 ∷ []) 5 (next q.state.sp) h (omega arith) (assumption) refl refl h.holds.memory.long
       (ap (λ (r : Option Refusal). first_refusal r (fetch_refusal (length o.words) (next (next (next q.state.pc))))) fault)
       (a.untaken ∙ (h.holds.untaken ∙ ap (λ (t : State). t.untaken) over.leads.leaves)) (h.holds.given ∙ ap (λ (t : State). o.given ++ t.given) over.leads.leaves)
@@ -206,8 +205,7 @@ module _ (program : List ℕ) (has : HasStatements program) (o : Origin) (v : Ve
       let l : k < length s.running.locals = slice_get_within s.running.locals k (Some over.value) over.set in
       let a : IsWordAccess (length o.words) q.world from (base s.callers + k) =
       (law.boundary o s q.state.sp q.state.lv q.state.cpp q.state.tos q.world map h.holds).local from k l (law.words.plus_is h.holds.lv_is (c.byte1 ∙ sym n.reads.1) refl (omega (arith, h.holds.fits, map.high))) in
-      let fault : write_refusal (length o.words) (next q.state.sp) ≡ Some (StackLimit (next q.state.sp)) =
-      (law.boundary o s q.state.sp q.state.lv q.state.cpp q.state.tos q.world map h.holds).full (omega (arith, over.leads.over, loads.long)) in
+      let fault = (law.boundary o s q.state.sp q.state.lv q.state.cpp q.state.tos q.world map h.holds).full (omega (arith, over.leads.over, loads.long)) in
       overruns program has o s left q (0x15 ∷ []) 3 (next q.state.sp) h (omega arith) (assumption) refl refl h.holds.memory.long
       (ap (λ (r : Option Refusal). first_refusal r (fetch_refusal (length o.words) (next (next q.state.pc)))) fault)
       (a.untaken ∙ (h.holds.untaken ∙ ap (λ (t : State). t.untaken) over.leads.leaves)) (h.holds.given ∙ ap (λ (t : State). o.given ++ t.given) over.leads.leaves)
@@ -219,8 +217,7 @@ module _ (program : List ℕ) (has : HasStatements program) (o : Origin) (v : Ve
       let l : k < length s.running.locals = slice_get_within s.running.locals k (Some over.value) over.set in
       let a : IsWordAccess (length o.words) q.world from (base s.callers + k) =
       (law.boundary o s q.state.sp q.state.lv q.state.cpp q.state.tos q.world map h.holds).local from k l (law.words.plus_is (pair_is o.words (s.at + 2) (s.at + 3) c.byte2 c.byte3 n.reads.2) h.holds.lv_is (omega arith) (omega (arith, h.holds.fits, map.high))) in
-      let fault : write_refusal (length o.words) (next q.state.sp) ≡ Some (StackLimit (next q.state.sp)) =
-      (law.boundary o s q.state.sp q.state.lv q.state.cpp q.state.tos q.world map h.holds).full (omega (arith, over.leads.over, loads.long)) in
+      let fault = (law.boundary o s q.state.sp q.state.lv q.state.cpp q.state.tos q.world map h.holds).full (omega (arith, over.leads.over, loads.long)) in
       overruns program has o s left q (0xC4 ∷ 0x115 ∷ []) 6 (next q.state.sp) h (omega arith) (assumption) refl refl h.holds.memory.long
       (ap (λ (r : Option Refusal). first_refusal r (fetch_refusal (length o.words) (next (next (next (next q.state.pc)))))) fault)
       (a.untaken ∙ (h.holds.untaken ∙ ap (λ (t : State). t.untaken) over.leads.leaves)) (h.holds.given ∙ ap (λ (t : State). o.given ++ t.given) over.leads.leaves)

@@ -1,11 +1,11 @@
 -- Instructions that use only the operands.
-use Rattle.std.proofs.Common.{◌≡◌, ◌≢◌, ℕ, suc, ◌+◌, ◌<◌, ◌≤◌, Some, None, List, [], ◌∷◌, ◌++◌, length, refl, arith, sym, ◌∙◌, ap, ap₂, inl, inr}
+use Rattle.std.proofs.Common.{◌≡◌, ◌≢◌, ℕ, suc, ◌+◌, ◌<◌, ◌≤◌, None, List, [], ◌∷◌, ◌++◌, length, refl, arith, sym, ◌∙◌, ap, ap₂, inl, inr}
 use Rattle.std.specs.Prelude.{slice_set, bit_and, bit_or, Option}
 use Rattle.std.proofs.lemmas.Nat.{and_comm, or_comm}
 use Rattle.std.proofs.lemmas.List.{set_comm}
 use Rattle.mic_words.specs.declared.machine.Machine.TheVariants.{Mic1}
 use Rattle.mic_words.specs.Arithmetic.{plus, minus, next, before, signed_byte}
-use Rattle.console_port.specs.World.{World, Refusal, StackLimit, read_value, byte_in, write_refusal}
+use Rattle.console_port.specs.World.{World, Refusal, read_value, byte_in}
 use Rattle.ijvm_instr.specs.declared.instr.Instr.{Instr}
 use Rattle.ijvm_instr.specs.declared.instr.Instr.TheVariants.{Nop, Bipush, Pop, Dup, Swap, Iadd, Isub, Iand, Ior}
 use Rattle.ijvm_instr.specs.Instructions.{word_of}
@@ -208,16 +208,14 @@ module _ (program : List ℕ) (has : HasStatements program) (o : Origin) (v : Ve
   limits s left q (Bipush b) is fine n h over =
       let c : Counts o s q.state q.world = counts o map s q.state q.world h (law.inside v o s _ loads n) in
       let op : q.state.mbr ≡ 0x10 = h.ready.mbr ∙ n.reads.0 in
-      let fault : write_refusal (length o.words) (next q.state.sp) ≡ Some (StackLimit (next q.state.sp)) =
-      (law.boundary o s q.state.sp q.state.lv q.state.cpp q.state.tos q.world map h.holds).full (omega (arith, over.over, loads.long)) in
+      let fault = (law.boundary o s q.state.sp q.state.lv q.state.cpp q.state.tos q.world map h.holds).full (omega (arith, over.over, loads.long)) in
       overruns program has o s left q (0x10 ∷ []) 2 (next q.state.sp) h (omega arith) (assumption) refl refl h.holds.memory.long
       (ap (λ (r : Option Refusal). first_refusal r None) fault)
       (h.holds.untaken ∙ ap (λ (t : State). t.untaken) over.leaves) (h.holds.given ∙ ap (λ (t : State). o.given ++ t.given) over.leaves)
   limits s left q Dup is fine n h over =
       let c : Counts o s q.state q.world = counts o map s q.state q.world h (law.inside v o s _ loads n) in
       let op : q.state.mbr ≡ 0x59 = h.ready.mbr ∙ n.reads in
-      let fault : write_refusal (length o.words) (next q.state.sp) ≡ Some (StackLimit (next q.state.sp)) =
-      (law.boundary o s q.state.sp q.state.lv q.state.cpp q.state.tos q.world map h.holds).full (omega (arith, over.leads.over, loads.long)) in
+      let fault = (law.boundary o s q.state.sp q.state.lv q.state.cpp q.state.tos q.world map h.holds).full (omega (arith, over.leads.over, loads.long)) in
       overruns program has o s left q (0x59 ∷ []) 1 (next q.state.sp) h (omega arith) (assumption) refl refl h.holds.memory.long
       (ap (λ (r : Option Refusal). first_refusal r None) fault)
       (h.holds.untaken ∙ ap (λ (t : State). t.untaken) over.leads.leaves) (h.holds.given ∙ ap (λ (t : State). o.given ++ t.given) over.leads.leaves)

@@ -1,9 +1,9 @@
 -- IN and OUT.
-use Rattle.std.proofs.Common.{◌≡◌, ℕ, ◌+◌, ◌%◌, ◌<◌, ◌≤◌, Some, List, [], ◌∷◌, ◌++◌, length, drop, refl, arith, ◌∙◌, ap, ap₂, sym, append_assoc, add-zero, subst}
+use Rattle.std.proofs.Common.{◌≡◌, ℕ, ◌+◌, ◌%◌, ◌<◌, ◌≤◌, List, [], ◌∷◌, ◌++◌, length, drop, refl, arith, ◌∙◌, ap, ap₂, sym, append_assoc, add-zero, subst}
 use Rattle.std.specs.Prelude.{slice_set}
 use Rattle.mic_words.specs.declared.machine.Machine.TheVariants.{Mic2}
 use Rattle.mic_words.specs.Arithmetic.{next, before}
-use Rattle.console_port.specs.World.{World, StackLimit, next_byte, read_value, byte_in, write_refusal}
+use Rattle.console_port.specs.World.{World, next_byte, read_value, byte_in}
 use Rattle.ijvm_instr.specs.declared.instr.Instr.{Instr}
 use Rattle.ijvm_instr.specs.declared.instr.Instr.TheVariants.{In, Out}
 use Rattle.ijvm_meaning.specs.Frames.{State, frames_of, base}
@@ -78,8 +78,7 @@ module _ (program : List ℕ) (has : Known program) (o : Origin) (v : VerifiedVi
   limits s left q In is fine n h over =
       let c : Counts o s q.state = counts o s q.state q.world h (law.inside v o s _ loads n) in
       let p : IsConsoleAccess (length o.words) q.world = law.port (length o.words) q.world map h.holds.memory.long in
-      let fault : write_refusal (length o.words) (next q.state.sp) ≡ Some (StackLimit (next q.state.sp)) =
-      (law.boundary o s q.state.sp q.state.lv q.state.cpp q.state.tos q.world map h.holds).full (omega (arith, over.over, loads.long)) in
+      let fault = (law.boundary o s q.state.sp q.state.lv q.state.cpp q.state.tos q.world map h.holds).full (omega (arith, over.over, loads.long)) in
       overruns program has o map s left q Goes (steps 3) [] 0xFC (next q.state.sp) 0 h n.reads refl refl (omega arith) (assumption) refl refl (refl, fault)
       (p.untaken ∙ (ap (drop 1) h.holds.untaken ∙ ap (λ (t : State). t.untaken) over.leaves)) (h.holds.given ∙ ap (λ (t : State). o.given ++ t.given) over.leaves) (let e : q.stalls ≡ q.stalls + 0 = omega arith in e)
   limits s left q i is fine n h over = absurd (assumption)

@@ -4,7 +4,7 @@ use Rattle.std.specs.Prelude.{slice_index, slice_set, slice_get}
 use Rattle.std.proofs.lemmas.Option.{slice_get_within}
 use Rattle.mic_words.specs.declared.machine.Machine.TheVariants.{Mic2}
 use Rattle.mic_words.specs.Arithmetic.{plus, next, signed_byte, signed_pair}
-use Rattle.console_port.specs.World.{World, StackLimit, read_value, byte_in, write_refusal}
+use Rattle.console_port.specs.World.{World, read_value, byte_in}
 use Rattle.ijvm_instr.specs.declared.instr.Instr.{Instr}
 use Rattle.ijvm_instr.specs.declared.instr.Instr.TheVariants.{LdcW, Iload, Istore, Iinc, WideIload, WideIstore, WideIinc}
 use Rattle.ijvm_meaning.specs.Frames.{State, frames_of, base}
@@ -198,8 +198,7 @@ module _ (program : List ℕ) (has : Known program) (o : Origin) (v : VerifiedVi
       let small : k < 0x4000 = (law.constant v o loads k over.value over.found).small in
       let a : IsWordAccess (length o.words) q.world from (0x4000 + k) =
       law.access (length o.words) q.world from (0x4000 + k) (law.words.plus_is h.holds.cpp_is (pair_at o.words q.state.pc (s.at + 1) (s.at + 2) c.p0 (omega arith) ∙ sym n.reads.1) refl (omega (arith, small))) (omega (arith, map.low)) in
-      let fault : write_refusal (length o.words) (next q.state.sp) ≡ Some (StackLimit (next q.state.sp)) =
-      (law.boundary o s q.state.sp q.state.lv q.state.cpp q.state.tos q.world map h.holds).full (omega (arith, over.leads.over, loads.long)) in
+      let fault = (law.boundary o s q.state.sp q.state.lv q.state.cpp q.state.tos q.world map h.holds).full (omega (arith, over.leads.over, loads.long)) in
       overruns program has o map s left q Goes (steps 1) [] 0x13 (next q.state.sp) 0 h n.reads.0 refl refl (omega arith) (assumption) refl refl (refl, fault)
       (a.untaken ∙ (h.holds.untaken ∙ ap (λ (t : State). t.untaken) over.leads.leaves)) (h.holds.given ∙ ap (λ (t : State). o.given ++ t.given) over.leads.leaves) (let e : q.stalls ≡ q.stalls + 0 = omega arith in e)
   limits s left q (Iload k) is fine n h over =
@@ -208,8 +207,7 @@ module _ (program : List ℕ) (has : Known program) (o : Origin) (v : VerifiedVi
       let l : k < length s.running.locals = slice_get_within s.running.locals k (Some over.value) over.set in
       let a : IsWordAccess (length o.words) q.world from (base s.callers + k) =
       (law.boundary o s q.state.sp q.state.lv q.state.cpp q.state.tos q.world map h.holds).local from k l (law.words.plus_is h.holds.lv_is (c.p0.byte ∙ sym n.reads.1) refl (omega (arith, h.holds.fits, map.high))) in
-      let fault : write_refusal (length o.words) (next q.state.sp) ≡ Some (StackLimit (next q.state.sp)) =
-      (law.boundary o s q.state.sp q.state.lv q.state.cpp q.state.tos q.world map h.holds).full (omega (arith, over.leads.over, loads.long)) in
+      let fault = (law.boundary o s q.state.sp q.state.lv q.state.cpp q.state.tos q.world map h.holds).full (omega (arith, over.leads.over, loads.long)) in
       overruns program has o map s left q Goes (steps 1) [] 0x15 (next q.state.sp) 0 h n.reads.0 refl refl (omega arith) (assumption) refl refl (refl, fault)
       (a.untaken ∙ (h.holds.untaken ∙ ap (λ (t : State). t.untaken) over.leads.leaves)) (h.holds.given ∙ ap (λ (t : State). o.given ++ t.given) over.leads.leaves) (let e : q.stalls ≡ q.stalls + 0 = omega arith in e)
   limits s left q (WideIload k) is fine n h over =
@@ -219,8 +217,7 @@ module _ (program : List ℕ) (has : Known program) (o : Origin) (v : VerifiedVi
       let l : k < length s.running.locals = slice_get_within s.running.locals k (Some over.value) over.set in
       let a : IsWordAccess (length o.words) q.world from (base s.callers + k) =
       (law.boundary o s q.state.sp q.state.lv q.state.cpp q.state.tos q.world map h.holds).local from k l (law.words.plus_is h.holds.lv_is (pair_at o.words (plus q.state.pc 1) (s.at + 2) (s.at + 3) c.p1 (omega arith) ∙ sym n.reads.2) refl (omega (arith, h.holds.fits, map.high))) in
-      let fault : write_refusal (length o.words) (next q.state.sp) ≡ Some (StackLimit (next q.state.sp)) =
-      (law.boundary o s q.state.sp q.state.lv q.state.cpp q.state.tos q.world map h.holds).full (omega (arith, over.leads.over, loads.long)) in
+      let fault = (law.boundary o s q.state.sp q.state.lv q.state.cpp q.state.tos q.world map h.holds).full (omega (arith, over.leads.over, loads.long)) in
       overruns program has o map s left q Goes (steps 2) (0x115 ∷ []) 0xC4 (next q.state.sp) 0 h n.reads.0 refl refl (omega arith) (assumption) refl refl (refl, fault)
       (a.untaken ∙ (h.holds.untaken ∙ ap (λ (t : State). t.untaken) over.leads.leaves)) (h.holds.given ∙ ap (λ (t : State). o.given ++ t.given) over.leads.leaves) (let e : q.stalls ≡ q.stalls + 0 = omega arith in e)
   limits s left q i is fine n h over = absurd (assumption)

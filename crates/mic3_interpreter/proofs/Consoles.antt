@@ -1,8 +1,8 @@
 -- IN and OUT.
-use Rattle.std.proofs.Common.{◌≡◌, ℕ, ◌+◌, ◌%◌, ◌<◌, ◌≤◌, Some, List, [], ◌∷◌, ◌++◌, length, drop, refl, arith, ◌∙◌, ap, ap₂, sym, append_assoc, subst}
+use Rattle.std.proofs.Common.{◌≡◌, ℕ, ◌+◌, ◌%◌, ◌<◌, ◌≤◌, List, [], ◌∷◌, ◌++◌, length, drop, refl, arith, ◌∙◌, ap, ap₂, sym, append_assoc, subst}
 use Rattle.std.specs.Prelude.{slice_set}
 use Rattle.mic_words.specs.Arithmetic.{next, before}
-use Rattle.console_port.specs.World.{World, StackLimit, next_byte, read_value, byte_in, write_refusal}
+use Rattle.console_port.specs.World.{World, next_byte, read_value, byte_in}
 use Rattle.ijvm_instr.specs.declared.instr.Instr.{Instr}
 use Rattle.ijvm_instr.specs.declared.instr.Instr.TheVariants.{In, Out}
 use Rattle.ijvm_meaning.specs.Frames.{State, frames_of, base}
@@ -89,8 +89,7 @@ module _ (program : List ℕ) (has : Known program) (o : Origin) (v : VerifiedVi
   limits s left q In is fine n h over =
       let c : Counts o s q.state.micro = counts o s q.state q.world h (law.inside v o s _ loads n) in
       let p : IsConsoleAccess (length o.words) q.world = law.port (length o.words) q.world map h.holds.memory.long in
-      let fault : write_refusal (length o.words) (next q.state.micro.sp) ≡ Some (StackLimit (next q.state.micro.sp)) =
-      (law.boundary o s q.state.micro.sp q.state.micro.lv q.state.micro.cpp q.state.micro.tos q.world map h.holds).full
+      let fault = (law.boundary o s q.state.micro.sp q.state.micro.lv q.state.micro.cpp q.state.micro.tos q.world map h.holds).full
       (omega (arith, over.over, loads.long)) in
       overruns program has o map s left q Issues
       (HeldUp ∷ HeldUp ∷ Issues ∷ HeldUp ∷ HeldUp ∷ Issues ∷ Issues ∷ HeldUp ∷ HeldUp ∷ Issues ∷ HeldUp ∷ [])

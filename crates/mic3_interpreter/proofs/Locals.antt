@@ -3,7 +3,7 @@ use Rattle.std.proofs.Common.{◌≡◌, ℕ, ◌+◌, ◌*◌, ◌<◌, ◌≤�
 use Rattle.std.specs.Prelude.{slice_index, slice_set, slice_get}
 use Rattle.std.proofs.lemmas.Option.{slice_get_within}
 use Rattle.mic_words.specs.Arithmetic.{plus, next, signed_byte, signed_pair}
-use Rattle.console_port.specs.World.{World, StackLimit, read_value, byte_in, write_refusal}
+use Rattle.console_port.specs.World.{World, read_value, byte_in}
 use Rattle.ijvm_instr.specs.declared.instr.Instr.{Instr}
 use Rattle.ijvm_instr.specs.declared.instr.Instr.TheVariants.{LdcW, Iload, Istore, Iinc, WideIload, WideIstore, WideIinc}
 use Rattle.ijvm_meaning.specs.Frames.{State, frames_of, base}
@@ -245,8 +245,7 @@ module _ (program : List ℕ) (has : Known program) (o : Origin) (v : VerifiedVi
       law.access (length o.words) q.world from (0x4000 + k)
       (law.words.plus_is h.holds.cpp_is (pair_at o.words q.state.micro.pc (s.at + 1) (s.at + 2) c.p0 (omega arith)
       ∙ sym n.reads.1) refl (omega (arith, small))) (omega (arith, map.low)) in
-      let fault : write_refusal (length o.words) (next q.state.micro.sp) ≡ Some (StackLimit (next q.state.micro.sp)) =
-      (law.boundary o s q.state.micro.sp q.state.micro.lv q.state.micro.cpp q.state.micro.tos q.world map h.holds).full
+      let fault = (law.boundary o s q.state.micro.sp q.state.micro.lv q.state.micro.cpp q.state.micro.tos q.world map h.holds).full
       (omega (arith, over.leads.over, loads.long)) in
       overruns program has o map s left q Issues (Issues ∷ HeldUp ∷ HeldUp ∷ Issues ∷ HeldUp ∷ [])
       (byte_in o.words (plus q.state.micro.pc 2) ∷ []) HeldUp 0x13 (next q.state.micro.sp) h n.reads.0 refl refl (omega arith) (assumption) refl refl
@@ -260,8 +259,7 @@ module _ (program : List ℕ) (has : Known program) (o : Origin) (v : VerifiedVi
       let a : IsWordAccess (length o.words) q.world from (base s.callers + k) =
       (law.boundary o s q.state.micro.sp q.state.micro.lv q.state.micro.cpp q.state.micro.tos q.world map h.holds).local from k l
       (law.words.plus_is h.holds.lv_is (c.p0.byte ∙ sym n.reads.1) refl (omega (arith, h.holds.fits, map.high))) in
-      let fault : write_refusal (length o.words) (next q.state.micro.sp) ≡ Some (StackLimit (next q.state.micro.sp)) =
-      (law.boundary o s q.state.micro.sp q.state.micro.lv q.state.micro.cpp q.state.micro.tos q.world map h.holds).full
+      let fault = (law.boundary o s q.state.micro.sp q.state.micro.lv q.state.micro.cpp q.state.micro.tos q.world map h.holds).full
       (omega (arith, over.leads.over, loads.long)) in
       overruns program has o map s left q Issues (Issues ∷ HeldUp ∷ HeldUp ∷ Issues ∷ HeldUp ∷ [])
       (byte_in o.words (plus q.state.micro.pc 1) ∷ []) HeldUp 0x15 (next q.state.micro.sp) h n.reads.0 refl refl (omega arith) (assumption) refl refl
@@ -277,8 +275,7 @@ module _ (program : List ℕ) (has : Known program) (o : Origin) (v : VerifiedVi
       (law.boundary o s q.state.micro.sp q.state.micro.lv q.state.micro.cpp q.state.micro.tos q.world map h.holds).local from k l
       (law.words.plus_is h.holds.lv_is (pair_at o.words (plus q.state.micro.pc 1) (s.at + 2) (s.at + 3) c.p1 (omega arith)
       ∙ sym n.reads.2) refl (omega (arith, h.holds.fits, map.high))) in
-      let fault : write_refusal (length o.words) (next q.state.micro.sp) ≡ Some (StackLimit (next q.state.micro.sp)) =
-      (law.boundary o s q.state.micro.sp q.state.micro.lv q.state.micro.cpp q.state.micro.tos q.world map h.holds).full
+      let fault = (law.boundary o s q.state.micro.sp q.state.micro.lv q.state.micro.cpp q.state.micro.tos q.world map h.holds).full
       (omega (arith, over.leads.over, loads.long)) in
       overruns program has o map s left q Issues (Issues ∷ Issues ∷ HeldUp ∷ HeldUp ∷ Issues ∷ HeldUp ∷ [])
       (0x15 ∷ byte_in o.words (plus (plus q.state.micro.pc 1) 2) ∷ []) HeldUp 0xC4 (next q.state.micro.sp) h n.reads.0 refl refl (omega arith)

@@ -1,9 +1,9 @@
 -- Instructions that use only the operands.
-use Rattle.std.proofs.Common.{◌≡◌, ◌≢◌, ℕ, suc, ◌+◌, ◌<◌, ◌≤◌, Some, List, [], ◌∷◌, ◌++◌, length, refl, arith, sym, ◌∙◌, ap, ap₂, inl, inr}
+use Rattle.std.proofs.Common.{◌≡◌, ◌≢◌, ℕ, suc, ◌+◌, ◌<◌, ◌≤◌, List, [], ◌∷◌, ◌++◌, length, refl, arith, sym, ◌∙◌, ap, ap₂, inl, inr}
 use Rattle.std.specs.Prelude.{slice_set, bit_and, bit_or}
 use Rattle.std.proofs.lemmas.List.{set_comm}
 use Rattle.mic_words.specs.Arithmetic.{plus, minus, next, before, signed_byte}
-use Rattle.console_port.specs.World.{World, StackLimit, read_value, byte_in, write_refusal}
+use Rattle.console_port.specs.World.{World, read_value, byte_in}
 use Rattle.ijvm_instr.specs.declared.instr.Instr.{Instr}
 use Rattle.ijvm_instr.specs.declared.instr.Instr.TheVariants.{Nop, Bipush, Pop, Dup, Swap, Iadd, Isub, Iand, Ior}
 use Rattle.ijvm_instr.specs.Instructions.{word_of}
@@ -228,16 +228,14 @@ module _ (program : List ℕ) (has : Known program) (o : Origin) (v : VerifiedVi
       Overruns mic3_meaning program (Stands o) o.given q left
   limits s left q (Bipush b) is fine n h over =
       let c : Counts o s q.state.micro = counts o s q.state q.world h (law.inside v o s _ loads n) in
-      let fault : write_refusal (length o.words) (next q.state.micro.sp) ≡ Some (StackLimit (next q.state.micro.sp)) =
-      (law.boundary o s q.state.micro.sp q.state.micro.lv q.state.micro.cpp q.state.micro.tos q.world map h.holds).full
+      let fault = (law.boundary o s q.state.micro.sp q.state.micro.lv q.state.micro.cpp q.state.micro.tos q.world map h.holds).full
       (omega (arith, over.over, loads.long)) in
       overruns program has o map s left q Issues (Issues ∷ HeldUp ∷ []) (byte_in o.words (plus q.state.micro.pc 1) ∷ []) HeldUp 0x10
       (next q.state.micro.sp) h n.reads.0 refl refl (omega arith) (assumption) refl refl (refl, fault)
       (h.holds.untaken ∙ ap (λ (t : State). t.untaken) over.leaves) (h.holds.given ∙ ap (λ (t : State). o.given ++ t.given) over.leaves)
   limits s left q Dup is fine n h over =
       let c : Counts o s q.state.micro = counts o s q.state q.world h (law.inside v o s _ loads n) in
-      let fault : write_refusal (length o.words) (next q.state.micro.sp) ≡ Some (StackLimit (next q.state.micro.sp)) =
-      (law.boundary o s q.state.micro.sp q.state.micro.lv q.state.micro.cpp q.state.micro.tos q.world map h.holds).full
+      let fault = (law.boundary o s q.state.micro.sp q.state.micro.lv q.state.micro.cpp q.state.micro.tos q.world map h.holds).full
       (omega (arith, over.leads.over, loads.long)) in
       overruns program has o map s left q Issues (Issues ∷ HeldUp ∷ []) (byte_in o.words q.state.micro.pc ∷ []) HeldUp 0x59
       (next q.state.micro.sp) h n.reads refl refl (omega arith) (assumption) refl refl (refl, fault)
