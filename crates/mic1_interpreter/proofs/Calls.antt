@@ -76,10 +76,12 @@ module _ (program : List ℕ) (has : HasStatements program) (o : Origin) (map : 
   abbrev here : AtBoundary o s m.sp m.lv m.cpp m.tos w
   here = law.boundary o s m.sp m.lv m.cpp m.tos w map h.holds
 
+  c : Counts o s m w
+  c = counts o map s m w h inside
+
   ireturn : (y r : ℕ) (rest : List ℕ) (f : Frame) (fs : List Frame) → byte_in o.words s.at ≡ 0xAC → s.running.operands ≡ y ∷ rest → s.running.back ≡ Some r → s.callers ≡ f ∷ fs → r < 0x10000 →
       ReachesBoundary program o 8 (record { state = m; world = w; stalls = k }) (record s { running = record f { operands = y ∷ f.operands }; callers = fs; at = r })
   ireturn y r rest f fs code ops back callers to =
-      let c : Counts o s m w = counts o map s m w h inside in
       let t : Top o s m.sp m.lv m.cpp m.tos w y rest = here.top y rest ops in
       let op : m.mbr ≡ 0xAC = h.ready.mbr ∙ code in
       let lv : ℕ = base (f ∷ fs) in
@@ -103,7 +105,7 @@ module _ (program : List ℕ) (has : HasStatements program) (o : Origin) (map : 
       let lv_back : read_value (length o.words) w.words w2.untaken (next x) ≡ base fs = d.value ∙ ((rw same at link.2) ∙ ap caller_lv callers) in
       let fetch : fetch_refusal (length o.words) (read_value (length o.words) w.words w1.untaken x) ≡ None = fetch_ok (length o.words) map pc (omega (arith, to)) in
       let memory : slice_set w.words m.lv m.tos ≡ slice_set w.words lv y = ap₂ (slice_set w.words) a.is t.tos_is in
-      comes program has o (0xAC ∷ []) 8 m w k s _ h (assumption)
+      comes program has o (0xAC ∷ []) 8 m w k s _ h (assumption c)
       (at_boundary o _ _ _
       (here.returns y rest f fs r _ _ _ _ _ ops callers lv_back refl a.is t.tos_is memory (d.untaken ∙ (b.untaken ∙ (a.untaken ∙ h.holds.untaken))) (a.given _ _))
       pc (byte_kept w.words o.words h.holds.memory.kept pc (omega (arith, to))) refl refl refl refl refl)
@@ -114,7 +116,6 @@ module _ (program : List ℕ) (has : HasStatements program) (o : Origin) (map : 
       n + 1 ≡ 256 * byte_in o.words e + byte_in o.words (e + 1) → more ≡ 256 * byte_in o.words (e + 2) + byte_in o.words (e + 3) →
       length s.running.operands ≡ n + suc (length rest) → Entering o s m w i e n more rest
   entering i e n more rest index small is_e text counted owned depth =
-      let c : Counts o s m w = counts o map s m w h inside in
       let bottom : 0x8000 ≤ base s.callers = law.above s.callers in
       let high : length o.words < 0x80000000 = map.high in
       let a : IsWordAccess (length o.words) w (from (length o.words) m w) (0x4000 + i) =
@@ -159,7 +160,6 @@ module _ (program : List ℕ) (has : HasStatements program) (o : Origin) (map : 
       ReachesBoundary program o 22 (record { state = m; world = w; stalls = k })
       (record s { running = called ps more (s.at + 3); callers = frame_with s rest ∷ s.callers; at = e + 4 })
   invoke i e more ps x rest code en text ops space =
-      let c : Counts o s m w = counts o map s m w h inside in
       let op : m.mbr ≡ 0xB6 = h.ready.mbr ∙ code in
       let bottom : 0x8000 ≤ base s.callers = law.above s.callers in
       let high : length o.words < 0x80000000 = map.high in
@@ -173,7 +173,7 @@ module _ (program : List ℕ) (has : HasStatements program) (o : Origin) (map : 
       law.access (length o.words) w (next y) (lv + many + 1) (law.words.next_is y (lv + many + 1) (omega (arith, d.is)) (omega arith)) (omega arith) in
       let same : slice_set (slice_set (slice_set w.words (link_at (length o.words) m w) y) y (next (next (next m.pc)))) (next y) m.lv ≡ linked_words w.words lv many (s.at + 3) (base s.callers) =
       λ j. slice_set (slice_set (slice_set w.words (b.is j) (d.is j)) (d.is j) (c.pc3 j)) (f.is j) (h.holds.lv_is j) in
-      comes program has o (0xB6 ∷ []) 22 m w k s _ h (assumption)
+      comes program has o (0xB6 ∷ []) 22 m w k s _ h (assumption c)
       (at_text o _ _ _
       (here.enters ps x rest more (s.at + 3) (e + 4) _ _ _ _ _ ops space b.is refl f.is same (a.untaken ∙ h.holds.untaken) (f.given _ _ ∙ (d.given _ _ ∙ b.given _ y)))
       en.e4 (omega arith) refl refl refl refl refl refl)

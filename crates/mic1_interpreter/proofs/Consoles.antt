@@ -28,15 +28,17 @@ module _ (program : List ℕ) (has : HasStatements program) (o : Origin) (map : 
   abbrev here : AtBoundary o s m.sp m.lv m.cpp m.tos w
   here = law.boundary o s m.sp m.lv m.cpp m.tos w map h.holds
 
+  c : Counts o s m w
+  c = counts o map s m w h inside
+
   out : (y : ℕ) (rest : List ℕ) → byte_in o.words s.at ≡ 0xFD → s.running.operands ≡ y ∷ rest →
       ReachesBoundary program o 7 (record { state = m; world = w; stalls = k }) (record (moved s rest (s.at + 1)) { given = s.given ++ y % 256 ∷ [] })
   out y rest code ops =
-      let c : Counts o s m w = counts o map s m w h inside in
       let t : Top o s m.sp m.lv m.cpp m.tos w y rest = here.top y rest ops in
       let p : IsConsoleAccess (length o.words) w = law.port (length o.words) w map h.holds.memory.long in
       let op : m.mbr ≡ 0xFD = h.ready.mbr ∙ code in
       let same : slice_set w.words console_address m.tos ≡ w.words = p.words m.tos in
-      comes program has o (0xFD ∷ []) 7 m w k s _ h (assumption)
+      comes program has o (0xFD ∷ []) 7 m w k s _ h (assumption c)
       (at_boundary o _ _ _
       (here.drops rest (s.at + 1) _ _ _ _ _ (s.given ++ y % 256 ∷ []) t.frames (omega (arith, t.below))
       refl refl (omega (arith, t.down.is, t.above))
@@ -49,12 +51,11 @@ module _ (program : List ℕ) (has : HasStatements program) (o : Origin) (map : 
   inp : byte_in o.words s.at ≡ 0xFC → base (frames_of s) < length o.words →
       ReachesBoundary program o 5 (record { state = m; world = w; stalls = k }) (push (taken s) (next_byte s.untaken) (s.at + 1))
   inp code space =
-      let c : Counts o s m w = counts o map s m w h inside in
       let r : IsWordAccess (length o.words) w (next m.sp) (base (frames_of s)) = here.room space in
       let p : IsConsoleAccess (length o.words) w = law.port (length o.words) w map h.holds.memory.long in
       let op : m.mbr ≡ 0xFC = h.ready.mbr ∙ code in
       let v : read_value (length o.words) w.words w.untaken console_address ≡ next_byte s.untaken = p.value ∙ ap next_byte h.holds.untaken in
-      comes program has o (0xFC ∷ []) 5 m w k s _ h (assumption)
+      comes program has o (0xFC ∷ []) 5 m w k s _ h (assumption c)
       (at_boundary o _ _ _
       (here.pushes s.running.operands _ (s.at + 1) _ _ _ _ _ (drop 1 s.untaken) h.holds.frames space
       refl refl r.is v (ap₂ (slice_set w.words) r.is v) (p.untaken ∙ ap (drop 1) h.holds.untaken) (r.given _ _))

@@ -43,9 +43,11 @@ module _ (program : List ℕ) (has : HasStatements program) (o : Origin) (map : 
   abbrev here : AtBoundary o s m.sp m.lv m.cpp m.tos w
   here = law.boundary o s m.sp m.lv m.cpp m.tos w map h.holds
 
+  c : Counts o s m w
+  c = counts o map s m w h inside
+
   jumps : jump o.words s.at < 0x10000 → Jump o s m w
   jumps to =
-      let c : Counts o s m w = counts o map s m w h inside in
       let from : before (next m.pc) ≡ s.at = law.words.before_is (next m.pc) s.at c.pc1 (omega (arith, c.pc1)) in
       let is : goes_to m w ≡ jump o.words s.at = ap₂ plus (signed_pair_is o.words (s.at + 1) (s.at + 2) c.byte1 c.byte2) from in
       record {
@@ -56,10 +58,9 @@ module _ (program : List ℕ) (has : HasStatements program) (o : Origin) (map : 
 
   go : byte_in o.words s.at ≡ 0xA7 → jump o.words s.at < 0x10000 → ReachesBoundary program o 6 (record { state = m; world = w; stalls = k }) (moved s s.running.operands (jump o.words s.at))
   go code to =
-      let c : Counts o s m w = counts o map s m w h inside in
       let j : Jump o s m w = jumps to in
       let op : m.mbr ≡ 0xA7 = h.ready.mbr ∙ code in
-      comes program has o (0xA7 ∷ []) 6 m w k s _ h (assumption)
+      comes program has o (0xA7 ∷ []) 6 m w k s _ h (assumption c)
       (at_boundary o _ _ _
       (here.drops s.running.operands (jump o.words s.at) _ _ _ _ _ s.given h.holds.frames h.holds.fits
       refl refl h.holds.sp_is h.holds.tos_is refl h.holds.untaken h.holds.given)
@@ -69,12 +70,11 @@ module _ (program : List ℕ) (has : HasStatements program) (o : Origin) (map : 
   ifeq_taken : (y : ℕ) (rest : List ℕ) → byte_in o.words s.at ≡ 0x99 → s.running.operands ≡ y ∷ rest → (y == 0) ≡ true → jump o.words s.at < 0x10000 →
       ReachesBoundary program o 10 (record { state = m; world = w; stalls = k }) (moved s rest (jump o.words s.at))
   ifeq_taken y rest code ops flag to =
-      let c : Counts o s m w = counts o map s m w h inside in
       let t : Top o s m.sp m.lv m.cpp m.tos w y rest = here.top y rest ops in
       let j : Jump o s m w = jumps to in
       let op : m.mbr ≡ 0x99 = h.ready.mbr ∙ code in
       let to_t : branch (m.tos == 0) ≡ 257 = ap branch (ap (λ (k : ℕ). k == 0) t.tos_is ∙ flag) in
-      comes program has o (0x99 ∷ 257 ∷ []) 10 m w k s _ h (assumption)
+      comes program has o (0x99 ∷ 257 ∷ []) 10 m w k s _ h (assumption c)
       (at_boundary o _ _ _
       (here.drops rest (jump o.words s.at) _ _ _ _ _ s.given t.frames (omega (arith, t.below))
       refl refl (omega (arith, t.down.is, t.above)) t.next_top refl (t.down.untaken ∙ h.holds.untaken) h.holds.given)
@@ -84,11 +84,10 @@ module _ (program : List ℕ) (has : HasStatements program) (o : Origin) (map : 
   ifeq_not : (y : ℕ) (rest : List ℕ) → byte_in o.words s.at ≡ 0x99 → s.running.operands ≡ y ∷ rest → (y == 0) ≡ false →
       ReachesBoundary program o 7 (record { state = m; world = w; stalls = k }) (moved s rest (s.at + 3))
   ifeq_not y rest code ops flag =
-      let c : Counts o s m w = counts o map s m w h inside in
       let t : Top o s m.sp m.lv m.cpp m.tos w y rest = here.top y rest ops in
       let op : m.mbr ≡ 0x99 = h.ready.mbr ∙ code in
       let to_f : branch (m.tos == 0) ≡ 1 = ap branch (ap (λ (k : ℕ). k == 0) t.tos_is ∙ flag) in
-      comes program has o (0x99 ∷ 1 ∷ []) 7 m w k s _ h (assumption)
+      comes program has o (0x99 ∷ 1 ∷ []) 7 m w k s _ h (assumption c)
       (at_boundary o _ _ _
       (here.drops rest (s.at + 3) _ _ _ _ _ s.given t.frames (omega (arith, t.below))
       refl refl (omega (arith, t.down.is, t.above)) t.next_top refl (t.down.untaken ∙ h.holds.untaken) h.holds.given)
@@ -98,12 +97,11 @@ module _ (program : List ℕ) (has : HasStatements program) (o : Origin) (map : 
   iflt_taken : (y : ℕ) (rest : List ℕ) → byte_in o.words s.at ≡ 0x9B → s.running.operands ≡ y ∷ rest → is_negative y ≡ true → jump o.words s.at < 0x10000 →
       ReachesBoundary program o 10 (record { state = m; world = w; stalls = k }) (moved s rest (jump o.words s.at))
   iflt_taken y rest code ops flag to =
-      let c : Counts o s m w = counts o map s m w h inside in
       let t : Top o s m.sp m.lv m.cpp m.tos w y rest = here.top y rest ops in
       let j : Jump o s m w = jumps to in
       let op : m.mbr ≡ 0x9B = h.ready.mbr ∙ code in
       let to_t : branch (is_negative m.tos) ≡ 257 = ap branch (ap is_negative t.tos_is ∙ flag) in
-      comes program has o (0x9B ∷ 257 ∷ []) 10 m w k s _ h (assumption)
+      comes program has o (0x9B ∷ 257 ∷ []) 10 m w k s _ h (assumption c)
       (at_boundary o _ _ _
       (here.drops rest (jump o.words s.at) _ _ _ _ _ s.given t.frames (omega (arith, t.below))
       refl refl (omega (arith, t.down.is, t.above)) t.next_top refl (t.down.untaken ∙ h.holds.untaken) h.holds.given)
@@ -113,11 +111,10 @@ module _ (program : List ℕ) (has : HasStatements program) (o : Origin) (map : 
   iflt_not : (y : ℕ) (rest : List ℕ) → byte_in o.words s.at ≡ 0x9B → s.running.operands ≡ y ∷ rest → is_negative y ≡ false →
       ReachesBoundary program o 7 (record { state = m; world = w; stalls = k }) (moved s rest (s.at + 3))
   iflt_not y rest code ops flag =
-      let c : Counts o s m w = counts o map s m w h inside in
       let t : Top o s m.sp m.lv m.cpp m.tos w y rest = here.top y rest ops in
       let op : m.mbr ≡ 0x9B = h.ready.mbr ∙ code in
       let to_f : branch (is_negative m.tos) ≡ 1 = ap branch (ap is_negative t.tos_is ∙ flag) in
-      comes program has o (0x9B ∷ 1 ∷ []) 7 m w k s _ h (assumption)
+      comes program has o (0x9B ∷ 1 ∷ []) 7 m w k s _ h (assumption c)
       (at_boundary o _ _ _
       (here.drops rest (s.at + 3) _ _ _ _ _ s.given t.frames (omega (arith, t.below))
       refl refl (omega (arith, t.down.is, t.above)) t.next_top refl (t.down.untaken ∙ h.holds.untaken) h.holds.given)
@@ -127,14 +124,13 @@ module _ (program : List ℕ) (has : HasStatements program) (o : Origin) (map : 
   icmpeq_taken : (y x : ℕ) (rest : List ℕ) → byte_in o.words s.at ≡ 0x9F → s.running.operands ≡ y ∷ x ∷ rest → IsWord y → IsWord x → (x == y) ≡ true → jump o.words s.at < 0x10000 →
       ReachesBoundary program o 12 (record { state = m; world = w; stalls = k }) (moved s rest (jump o.words s.at))
   icmpeq_taken y x rest code ops ly lx flag to =
-      let c : Counts o s m w = counts o map s m w h inside in
       let t : Two o s m.sp m.lv m.cpp m.tos w y x rest = here.two y x rest ops in
       let bottom : 0x8000 ≤ base s.callers = law.above s.callers in
       let j : Jump o s m w = jumps to in
       let op : m.mbr ≡ 0x9F = h.ready.mbr ∙ code in
       let to_t : branch (minus m.tos (read_value (length o.words) w.words w.untaken (before m.sp)) == 0) ≡ 257 =
       ap branch (ap₂ (λ (i : ℕ) (k : ℕ). minus i k == 0) t.tos_is t.second ∙ (law.words.difference_zero y x ly lx ∙ flag)) in
-      comes program has o (0x9F ∷ 257 ∷ []) 12 m w k s _ h (assumption)
+      comes program has o (0x9F ∷ 257 ∷ []) 12 m w k s _ h (assumption c)
       (at_boundary o _ _ _
       (here.drops rest (jump o.words s.at) _ _ _ _ _ s.given t.frames (omega (arith, t.at.below))
       refl refl (omega (arith, t.down.is))
@@ -146,13 +142,12 @@ module _ (program : List ℕ) (has : HasStatements program) (o : Origin) (map : 
   icmpeq_not : (y x : ℕ) (rest : List ℕ) → byte_in o.words s.at ≡ 0x9F → s.running.operands ≡ y ∷ x ∷ rest → IsWord y → IsWord x → (x == y) ≡ false →
       ReachesBoundary program o 9 (record { state = m; world = w; stalls = k }) (moved s rest (s.at + 3))
   icmpeq_not y x rest code ops ly lx flag =
-      let c : Counts o s m w = counts o map s m w h inside in
       let t : Two o s m.sp m.lv m.cpp m.tos w y x rest = here.two y x rest ops in
       let bottom : 0x8000 ≤ base s.callers = law.above s.callers in
       let op : m.mbr ≡ 0x9F = h.ready.mbr ∙ code in
       let to_f : branch (minus m.tos (read_value (length o.words) w.words w.untaken (before m.sp)) == 0) ≡ 1 =
       ap branch (ap₂ (λ (i : ℕ) (k : ℕ). minus i k == 0) t.tos_is t.second ∙ (law.words.difference_zero y x ly lx ∙ flag)) in
-      comes program has o (0x9F ∷ 1 ∷ []) 9 m w k s _ h (assumption)
+      comes program has o (0x9F ∷ 1 ∷ []) 9 m w k s _ h (assumption c)
       (at_boundary o _ _ _
       (here.drops rest (s.at + 3) _ _ _ _ _ s.given t.frames (omega (arith, t.at.below))
       refl refl (omega (arith, t.down.is))

@@ -30,10 +30,12 @@ module _ (program : List ℕ) (has : HasStatements program) (o : Origin) (map : 
   abbrev here : AtBoundary o s m.sp m.lv m.cpp m.tos w
   here = law.boundary o s m.sp m.lv m.cpp m.tos w map h.holds
 
+  c : Counts o s m w
+  c = counts o map s m w h inside
+
   iload : (i v : ℕ) → byte_in o.words s.at ≡ 0x15 → i ≡ byte_in o.words (s.at + 1) → slice_get s.running.locals i ≡ Some (Some v) → base (frames_of s) < length o.words →
       ReachesBoundary program o 5 (record { state = m; world = w; stalls = k }) (push s v (s.at + 2))
   iload i v code index local space =
-      let c : Counts o s m w = counts o map s m w h inside in
       let r : IsWordAccess (length o.words) w (next m.sp) (base (frames_of s)) = here.room space in
       let op : m.mbr ≡ 0x15 = h.ready.mbr ∙ code in
       let from : ℕ = plus m.lv (byte_in w.words (next m.pc)) in
@@ -42,7 +44,7 @@ module _ (program : List ℕ) (has : HasStatements program) (o : Origin) (map : 
       here.local from i l (law.words.plus_is h.holds.lv_is (c.byte1 ∙ sym index) refl (omega (arith, h.holds.fits, map.high))) in
       let is : read_value (length o.words) w.words w.untaken from ≡ v = a.value ∙ h.holds.frames.0.locals i v local in
       let same : slice_set w.words (next m.sp) (read_value (length o.words) w.words w.untaken from) ≡ slice_set w.words (base (frames_of s)) v = ap₂ (slice_set w.words) r.is is in
-      comes program has o (0x15 ∷ []) 5 m w k s _ h (assumption)
+      comes program has o (0x15 ∷ []) 5 m w k s _ h (assumption c)
       (at_text o _ _ _
       (here.pushes s.running.operands _ (s.at + 2) _ _ _ _ _ s.untaken h.holds.frames space
       refl refl r.is is same (a.untaken ∙ h.holds.untaken) (r.given _ _))
@@ -52,7 +54,6 @@ module _ (program : List ℕ) (has : HasStatements program) (o : Origin) (map : 
   wide_iload : (i v : ℕ) → byte_in o.words s.at ≡ 0xC4 → byte_in o.words (s.at + 1) ≡ 0x15 → i ≡ 256 * byte_in o.words (s.at + 2) + byte_in o.words (s.at + 3) → slice_get s.running.locals i ≡ Some (Some v) → base (frames_of s) < length o.words →
       ReachesBoundary program o 8 (record { state = m; world = w; stalls = k }) (push s v (s.at + 4))
   wide_iload i v code code2 index local space =
-      let c : Counts o s m w = counts o map s m w h inside in
       let r : IsWordAccess (length o.words) w (next m.sp) (base (frames_of s)) = here.room space in
       let op : m.mbr ≡ 0xC4 = h.ready.mbr ∙ code in
       let op2 : byte_in w.words (next m.pc) + 256 ≡ 0x115 = omega (arith, c.byte1 ∙ code2) in
@@ -62,7 +63,7 @@ module _ (program : List ℕ) (has : HasStatements program) (o : Origin) (map : 
       here.local from i l (law.words.plus_is (pair_is o.words (s.at + 2) (s.at + 3) c.byte2 c.byte3 index) h.holds.lv_is (omega arith) (omega (arith, h.holds.fits, map.high))) in
       let is : read_value (length o.words) w.words w.untaken from ≡ v = a.value ∙ h.holds.frames.0.locals i v local in
       let same : slice_set w.words (next m.sp) (read_value (length o.words) w.words w.untaken from) ≡ slice_set w.words (base (frames_of s)) v = ap₂ (slice_set w.words) r.is is in
-      comes program has o (0xC4 ∷ 0x115 ∷ []) 8 m w k s _ h (assumption)
+      comes program has o (0xC4 ∷ 0x115 ∷ []) 8 m w k s _ h (assumption c)
       (at_text o _ _ _
       (here.pushes s.running.operands _ (s.at + 4) _ _ _ _ _ s.untaken h.holds.frames space
       refl refl r.is is same (a.untaken ∙ h.holds.untaken) (r.given _ _))
@@ -72,7 +73,6 @@ module _ (program : List ℕ) (has : HasStatements program) (o : Origin) (map : 
   ldc_w : (i v : ℕ) → byte_in o.words s.at ≡ 0x13 → i ≡ 256 * byte_in o.words (s.at + 1) + byte_in o.words (s.at + 2) → i < 0x4000 → slice_index o.words (0x4000 + i) ≡ v → base (frames_of s) < length o.words →
       ReachesBoundary program o 7 (record { state = m; world = w; stalls = k }) (push s v (s.at + 3))
   ldc_w i v code index small constant space =
-      let c : Counts o s m w = counts o map s m w h inside in
       let r : IsWordAccess (length o.words) w (next m.sp) (base (frames_of s)) = here.room space in
       let op : m.mbr ≡ 0x13 = h.ready.mbr ∙ code in
       let from : ℕ = plus (bit_or (wrap (256 * byte_in w.words (next m.pc))) (byte_in w.words (next (next m.pc)))) m.cpp in
@@ -80,7 +80,7 @@ module _ (program : List ℕ) (has : HasStatements program) (o : Origin) (map : 
       law.access (length o.words) w from (0x4000 + i) (law.words.plus_is (pair_is o.words (s.at + 1) (s.at + 2) c.byte1 c.byte2 index) h.holds.cpp_is (omega arith) (omega (arith, small))) (omega (arith, map.low)) in
       let is : read_value (length o.words) w.words w.untaken from ≡ v = a.value ∙ (h.holds.memory.kept (0x4000 + i) (omega arith) ∙ constant) in
       let same : slice_set w.words (next m.sp) (read_value (length o.words) w.words w.untaken from) ≡ slice_set w.words (base (frames_of s)) v = ap₂ (slice_set w.words) r.is is in
-      comes program has o (0x13 ∷ []) 7 m w k s _ h (assumption)
+      comes program has o (0x13 ∷ []) 7 m w k s _ h (assumption c)
       (at_text o _ _ _
       (here.pushes s.running.operands _ (s.at + 3) _ _ _ _ _ s.untaken h.holds.frames space
       refl refl r.is is same (a.untaken ∙ h.holds.untaken) (r.given _ _))
@@ -90,13 +90,12 @@ module _ (program : List ℕ) (has : HasStatements program) (o : Origin) (map : 
   istore : (i y : ℕ) (rest : List ℕ) → byte_in o.words s.at ≡ 0x36 → i ≡ byte_in o.words (s.at + 1) → s.running.operands ≡ y ∷ rest → i < length s.running.locals → is_own s.running.back i ≡ true →
       ReachesBoundary program o 6 (record { state = m; world = w; stalls = k }) (with_local s i y rest (s.at + 2))
   istore i y rest code index ops l own =
-      let c : Counts o s m w = counts o map s m w h inside in
       let op : m.mbr ≡ 0x36 = h.ready.mbr ∙ code in
       let t : Top o s m.sp m.lv m.cpp m.tos w y rest = here.top y rest ops in
       let to : ℕ = plus m.lv (byte_in w.words (next m.pc)) in
       let a : IsWordAccess (length o.words) w to (base s.callers + i) = here.local to i l (law.words.plus_is h.holds.lv_is (c.byte1 ∙ sym index) refl (omega (arith, h.holds.fits, map.high))) in
       let same : slice_set w.words to m.tos ≡ slice_set w.words (base s.callers + i) y = ap₂ (slice_set w.words) a.is t.tos_is in
-      comes program has o (0x36 ∷ []) 6 m w k s _ h (assumption)
+      comes program has o (0x36 ∷ []) 6 m w k s _ h (assumption c)
       (at_text o _ _ _
       (here.stores i y rest (s.at + 2) _ _ _ _ _ t l own refl refl refl refl same (t.down.untaken ∙ h.holds.untaken) (a.given _ _))
       c.pc2 (omega arith) refl refl refl refl refl refl)
@@ -105,14 +104,13 @@ module _ (program : List ℕ) (has : HasStatements program) (o : Origin) (map : 
   wide_istore : (i y : ℕ) (rest : List ℕ) → byte_in o.words s.at ≡ 0xC4 → byte_in o.words (s.at + 1) ≡ 0x36 → i ≡ 256 * byte_in o.words (s.at + 2) + byte_in o.words (s.at + 3) → s.running.operands ≡ y ∷ rest → i < length s.running.locals → is_own s.running.back i ≡ true →
       ReachesBoundary program o 9 (record { state = m; world = w; stalls = k }) (with_local s i y rest (s.at + 4))
   wide_istore i y rest code code2 index ops l own =
-      let c : Counts o s m w = counts o map s m w h inside in
       let op : m.mbr ≡ 0xC4 = h.ready.mbr ∙ code in
       let op2 : byte_in w.words (next m.pc) + 256 ≡ 0x136 = omega (arith, c.byte1 ∙ code2) in
       let t : Top o s m.sp m.lv m.cpp m.tos w y rest = here.top y rest ops in
       let to : ℕ = plus (bit_or (wrap (256 * byte_in w.words (next (next m.pc)))) (byte_in w.words (next (next (next m.pc))))) m.lv in
       let a : IsWordAccess (length o.words) w to (base s.callers + i) = here.local to i l (law.words.plus_is (pair_is o.words (s.at + 2) (s.at + 3) c.byte2 c.byte3 index) h.holds.lv_is (omega arith) (omega (arith, h.holds.fits, map.high))) in
       let same : slice_set w.words to m.tos ≡ slice_set w.words (base s.callers + i) y = ap₂ (slice_set w.words) a.is t.tos_is in
-      comes program has o (0xC4 ∷ 0x136 ∷ []) 9 m w k s _ h (assumption)
+      comes program has o (0xC4 ∷ 0x136 ∷ []) 9 m w k s _ h (assumption c)
       (at_text o _ _ _
       (here.stores i y rest (s.at + 4) _ _ _ _ _ t l own refl refl refl refl same (t.down.untaken ∙ h.holds.untaken) (a.given _ _))
       c.pc4 (omega arith) refl refl refl refl refl refl)
@@ -121,7 +119,6 @@ module _ (program : List ℕ) (has : HasStatements program) (o : Origin) (map : 
   iinc : (i v : ℕ) → byte_in o.words s.at ≡ 0x84 → i ≡ byte_in o.words (s.at + 1) → slice_get s.running.locals i ≡ Some (Some v) → is_own s.running.back i ≡ true →
       ReachesBoundary program o 6 (record { state = m; world = w; stalls = k }) (with_local s i (plus v (signed_byte (byte_in o.words (s.at + 2)))) s.running.operands (s.at + 3))
   iinc i v code index local own =
-      let c : Counts o s m w = counts o map s m w h inside in
       let op : m.mbr ≡ 0x84 = h.ready.mbr ∙ code in
       let l : i < length s.running.locals = slice_get_within s.running.locals i (Some v) local in
       let at : ℕ = plus m.lv (byte_in w.words (next m.pc)) in
@@ -129,7 +126,7 @@ module _ (program : List ℕ) (has : HasStatements program) (o : Origin) (map : 
       let y : ℕ = plus v (signed_byte (byte_in o.words (s.at + 2))) in
       let is : plus (read_value (length o.words) w.words w.untaken at) (signed_byte (byte_in w.words (next (next m.pc)))) ≡ y = ap₂ plus (a.value ∙ h.holds.frames.0.locals i v local) (ap signed_byte c.byte2) in
       let same : slice_set w.words at (plus (read_value (length o.words) w.words w.untaken at) (signed_byte (byte_in w.words (next (next m.pc))))) ≡ slice_set w.words (base s.callers + i) y = ap₂ (slice_set w.words) a.is is in
-      comes program has o (0x84 ∷ []) 6 m w k s _ h (assumption)
+      comes program has o (0x84 ∷ []) 6 m w k s _ h (assumption c)
       (at_boundary o _ _ _
       (here.changes i y (s.at + 3) _ _ _ _ _ l own refl refl refl refl same (a.untaken ∙ h.holds.untaken) (a.given _ _))
       c.pc3 c.byte3 refl refl refl refl refl)
@@ -138,7 +135,6 @@ module _ (program : List ℕ) (has : HasStatements program) (o : Origin) (map : 
   wide_iinc : (i v : ℕ) → byte_in o.words s.at ≡ 0xC4 → byte_in o.words (s.at + 1) ≡ 0x84 → i ≡ 256 * byte_in o.words (s.at + 2) + byte_in o.words (s.at + 3) → slice_get s.running.locals i ≡ Some (Some v) → is_own s.running.back i ≡ true →
       ReachesBoundary program o 11 (record { state = m; world = w; stalls = k }) (with_local s i (plus v (signed_pair (byte_in o.words (s.at + 4)) (byte_in o.words (s.at + 5)))) s.running.operands (s.at + 6))
   wide_iinc i v code code2 index local own =
-      let c : Counts o s m w = counts o map s m w h inside in
       let op : m.mbr ≡ 0xC4 = h.ready.mbr ∙ code in
       let op2 : byte_in w.words (next m.pc) + 256 ≡ 0x184 = omega (arith, c.byte1 ∙ code2) in
       let l : i < length s.running.locals = slice_get_within s.running.locals i (Some v) local in
@@ -147,7 +143,7 @@ module _ (program : List ℕ) (has : HasStatements program) (o : Origin) (map : 
       let y : ℕ = plus v (signed_pair (byte_in o.words (s.at + 4)) (byte_in o.words (s.at + 5))) in
       let is : plus (bit_or (wrap (256 * signed_byte (byte_in w.words (next (next (next (next m.pc))))))) (byte_in w.words (next (next (next (next (next m.pc))))))) (read_value (length o.words) w.words w.untaken at) ≡ y = ap₂ plus (signed_pair_is o.words (s.at + 4) (s.at + 5) c.byte4 c.byte5) (a.value ∙ h.holds.frames.0.locals i v local) ∙ law.words.plus_comm (signed_pair (byte_in o.words (s.at + 4)) (byte_in o.words (s.at + 5))) v in
       let same : slice_set w.words at (plus (bit_or (wrap (256 * signed_byte (byte_in w.words (next (next (next (next m.pc))))))) (byte_in w.words (next (next (next (next (next m.pc))))))) (read_value (length o.words) w.words w.untaken at)) ≡ slice_set w.words (base s.callers + i) y = ap₂ (slice_set w.words) a.is is in
-      comes program has o (0xC4 ∷ 0x184 ∷ []) 11 m w k s _ h (assumption)
+      comes program has o (0xC4 ∷ 0x184 ∷ []) 11 m w k s _ h (assumption c)
       (at_boundary o _ _ _
       (here.changes i y (s.at + 6) _ _ _ _ _ l own refl refl refl refl same (a.untaken ∙ h.holds.untaken) (a.given _ _))
       c.pc6 c.byte6 refl refl refl refl refl)

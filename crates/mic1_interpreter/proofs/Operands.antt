@@ -31,11 +31,13 @@ module _ (program : List ℕ) (has : HasStatements program) (o : Origin) (map : 
   abbrev here : AtBoundary o s m.sp m.lv m.cpp m.tos w
   here = law.boundary o s m.sp m.lv m.cpp m.tos w map h.holds
 
+  c : Counts o s m w
+  c = counts o map s m w h inside
+
   nop : byte_in o.words s.at ≡ 0x00 → ReachesBoundary program o 1 (record { state = m; world = w; stalls = k }) (moved s s.running.operands (s.at + 1))
   nop code =
-      let c : Counts o s m w = counts o map s m w h inside in
       let op : m.mbr ≡ 0 = h.ready.mbr ∙ code in
-      comes program has o (0 ∷ []) 1 m w k s _ h (assumption)
+      comes program has o (0 ∷ []) 1 m w k s _ h (assumption c)
       (at_boundary o _ _ _
       (here.drops s.running.operands (s.at + 1) _ _ _ _ _ s.given h.holds.frames h.holds.fits
       refl refl h.holds.sp_is h.holds.tos_is refl h.holds.untaken h.holds.given)
@@ -45,11 +47,10 @@ module _ (program : List ℕ) (has : HasStatements program) (o : Origin) (map : 
   bipush : byte_in o.words s.at ≡ 0x10 → base (frames_of s) < length o.words →
       ReachesBoundary program o 3 (record { state = m; world = w; stalls = k }) (push s (signed_byte (byte_in o.words (s.at + 1))) (s.at + 2))
   bipush code space =
-      let c : Counts o s m w = counts o map s m w h inside in
       let r : IsWordAccess (length o.words) w (next m.sp) (base (frames_of s)) = here.room space in
       let op : m.mbr ≡ 0x10 = h.ready.mbr ∙ code in
       let v : signed_byte (byte_in w.words (next m.pc)) ≡ signed_byte (byte_in o.words (s.at + 1)) = ap signed_byte c.byte1 in
-      comes program has o (0x10 ∷ []) 3 m w k s _ h (assumption)
+      comes program has o (0x10 ∷ []) 3 m w k s _ h (assumption c)
       (at_boundary o _ _ _
       (here.pushes s.running.operands _ (s.at + 2) _ _ _ _ _ s.untaken h.holds.frames space
       refl refl r.is v (ap₂ (slice_set w.words) r.is v) h.holds.untaken (r.given _ _))
@@ -59,10 +60,9 @@ module _ (program : List ℕ) (has : HasStatements program) (o : Origin) (map : 
   pop : (y : ℕ) (rest : List ℕ) → byte_in o.words s.at ≡ 0x57 → s.running.operands ≡ y ∷ rest →
       ReachesBoundary program o 3 (record { state = m; world = w; stalls = k }) (moved s rest (s.at + 1))
   pop y rest code ops =
-      let c : Counts o s m w = counts o map s m w h inside in
       let t : Top o s m.sp m.lv m.cpp m.tos w y rest = here.top y rest ops in
       let op : m.mbr ≡ 0x57 = h.ready.mbr ∙ code in
-      comes program has o (0x57 ∷ []) 3 m w k s _ h (assumption)
+      comes program has o (0x57 ∷ []) 3 m w k s _ h (assumption c)
       (at_boundary o _ _ _
       (here.drops rest (s.at + 1) _ _ _ _ _ s.given t.frames (omega (arith, t.below))
       refl refl (omega (arith, t.down.is, t.above)) t.next_top refl (t.down.untaken ∙ h.holds.untaken) h.holds.given)
@@ -72,11 +72,10 @@ module _ (program : List ℕ) (has : HasStatements program) (o : Origin) (map : 
   dup : (y : ℕ) (rest : List ℕ) → byte_in o.words s.at ≡ 0x59 → s.running.operands ≡ y ∷ rest → base (frames_of s) < length o.words →
       ReachesBoundary program o 2 (record { state = m; world = w; stalls = k }) (push s y (s.at + 1))
   dup y rest code ops space =
-      let c : Counts o s m w = counts o map s m w h inside in
       let t : Top o s m.sp m.lv m.cpp m.tos w y rest = here.top y rest ops in
       let r : IsWordAccess (length o.words) w (next m.sp) (base (frames_of s)) = here.room space in
       let op : m.mbr ≡ 0x59 = h.ready.mbr ∙ code in
-      comes program has o (0x59 ∷ []) 2 m w k s _ h (assumption)
+      comes program has o (0x59 ∷ []) 2 m w k s _ h (assumption c)
       (at_boundary o _ _ _
       (here.pushes s.running.operands _ (s.at + 1) _ _ _ _ _ s.untaken h.holds.frames space
       refl refl r.is t.tos_is (ap₂ (slice_set w.words) r.is t.tos_is) h.holds.untaken (r.given _ _))
@@ -86,7 +85,6 @@ module _ (program : List ℕ) (has : HasStatements program) (o : Origin) (map : 
   swap : (y x : ℕ) (rest : List ℕ) → byte_in o.words s.at ≡ 0x5F → s.running.operands ≡ y ∷ x ∷ rest →
       ReachesBoundary program o 6 (record { state = m; world = w; stalls = k }) (moved s (x ∷ y ∷ rest) (s.at + 1))
   swap y x rest code ops =
-      let c : Counts o s m w = counts o map s m w h inside in
       let t : Two o s m.sp m.lv m.cpp m.tos w y x rest = here.two y x rest ops in
       let bottom : 0x8000 ≤ base s.callers = law.above s.callers in
       let len : length s.running.operands ≡ suc (suc (length rest)) = ap length ops in
@@ -95,7 +93,7 @@ module _ (program : List ℕ) (has : HasStatements program) (o : Origin) (map : 
       let apart : place_behind s rest + 1 ≢ place_behind s rest = omega arith in
       let same : slice_set (slice_set w.words m.sp (read_value (length o.words) w.words w.untaken (before m.sp))) (before m.sp) m.tos ≡ slice_set (slice_set w.words (place_behind s rest) y) (place_behind s rest + 1) x =
       (λ j. slice_set (slice_set w.words (top_at.is j) (t.second j)) (t.at.is j) (t.tos_is j)) ∙ set_comm w.words (place_behind s rest + 1) (place_behind s rest) x y apart in
-      comes program has o (0x5F ∷ []) 6 m w k s _ h (assumption)
+      comes program has o (0x5F ∷ []) 6 m w k s _ h (assumption c)
       (at_boundary o _ _ _
       (here.swaps y x rest (s.at + 1) _ _ _ _ _ t refl refl refl t.second same (t.at.untaken ∙ h.holds.untaken) (t.at.given _ _ ∙ top_at.given _ _))
       c.pc1 c.byte1 refl refl refl refl refl)
@@ -104,11 +102,10 @@ module _ (program : List ℕ) (has : HasStatements program) (o : Origin) (map : 
   iadd : (y x : ℕ) (rest : List ℕ) → byte_in o.words s.at ≡ 0x60 → s.running.operands ≡ y ∷ x ∷ rest →
       ReachesBoundary program o 3 (record { state = m; world = w; stalls = k }) (moved s (plus x y ∷ rest) (s.at + 1))
   iadd y x rest code ops =
-      let c : Counts o s m w = counts o map s m w h inside in
       let t : Two o s m.sp m.lv m.cpp m.tos w y x rest = here.two y x rest ops in
       let op : m.mbr ≡ 0x60 = h.ready.mbr ∙ code in
       let v : plus m.tos (read_value (length o.words) w.words w.untaken (before m.sp)) ≡ plus x y = ap₂ plus t.tos_is t.second ∙ law.words.plus_comm y x in
-      comes program has o (0x60 ∷ []) 3 m w k s _ h (assumption)
+      comes program has o (0x60 ∷ []) 3 m w k s _ h (assumption c)
       (at_boundary o _ _ _
       (here.pushes rest _ (s.at + 1) _ _ _ _ _ s.untaken t.frames t.at.below
       refl refl t.at.is v (ap₂ (slice_set w.words) t.at.is v) (t.at.untaken ∙ h.holds.untaken) (t.at.given _ _))
@@ -118,11 +115,10 @@ module _ (program : List ℕ) (has : HasStatements program) (o : Origin) (map : 
   isub : (y x : ℕ) (rest : List ℕ) → byte_in o.words s.at ≡ 0x64 → s.running.operands ≡ y ∷ x ∷ rest →
       ReachesBoundary program o 3 (record { state = m; world = w; stalls = k }) (moved s (minus x y ∷ rest) (s.at + 1))
   isub y x rest code ops =
-      let c : Counts o s m w = counts o map s m w h inside in
       let t : Two o s m.sp m.lv m.cpp m.tos w y x rest = here.two y x rest ops in
       let op : m.mbr ≡ 0x64 = h.ready.mbr ∙ code in
       let v : minus (read_value (length o.words) w.words w.untaken (before m.sp)) m.tos ≡ minus x y = ap₂ minus t.second t.tos_is in
-      comes program has o (0x64 ∷ []) 3 m w k s _ h (assumption)
+      comes program has o (0x64 ∷ []) 3 m w k s _ h (assumption c)
       (at_boundary o _ _ _
       (here.pushes rest _ (s.at + 1) _ _ _ _ _ s.untaken t.frames t.at.below
       refl refl t.at.is v (ap₂ (slice_set w.words) t.at.is v) (t.at.untaken ∙ h.holds.untaken) (t.at.given _ _))
@@ -132,11 +128,10 @@ module _ (program : List ℕ) (has : HasStatements program) (o : Origin) (map : 
   iand : (y x : ℕ) (rest : List ℕ) → byte_in o.words s.at ≡ 0x7E → s.running.operands ≡ y ∷ x ∷ rest →
       ReachesBoundary program o 3 (record { state = m; world = w; stalls = k }) (moved s (bit_and x y ∷ rest) (s.at + 1))
   iand y x rest code ops =
-      let c : Counts o s m w = counts o map s m w h inside in
       let t : Two o s m.sp m.lv m.cpp m.tos w y x rest = here.two y x rest ops in
       let op : m.mbr ≡ 0x7E = h.ready.mbr ∙ code in
       let v : bit_and m.tos (read_value (length o.words) w.words w.untaken (before m.sp)) ≡ bit_and x y = ap₂ bit_and t.tos_is t.second ∙ and_comm y x in
-      comes program has o (0x7E ∷ []) 3 m w k s _ h (assumption)
+      comes program has o (0x7E ∷ []) 3 m w k s _ h (assumption c)
       (at_boundary o _ _ _
       (here.pushes rest _ (s.at + 1) _ _ _ _ _ s.untaken t.frames t.at.below
       refl refl t.at.is v (ap₂ (slice_set w.words) t.at.is v) (t.at.untaken ∙ h.holds.untaken) (t.at.given _ _))
@@ -146,11 +141,10 @@ module _ (program : List ℕ) (has : HasStatements program) (o : Origin) (map : 
   ior : (y x : ℕ) (rest : List ℕ) → byte_in o.words s.at ≡ 0xB0 → s.running.operands ≡ y ∷ x ∷ rest →
       ReachesBoundary program o 3 (record { state = m; world = w; stalls = k }) (moved s (bit_or x y ∷ rest) (s.at + 1))
   ior y x rest code ops =
-      let c : Counts o s m w = counts o map s m w h inside in
       let t : Two o s m.sp m.lv m.cpp m.tos w y x rest = here.two y x rest ops in
       let op : m.mbr ≡ 0xB0 = h.ready.mbr ∙ code in
       let v : bit_or m.tos (read_value (length o.words) w.words w.untaken (before m.sp)) ≡ bit_or x y = ap₂ bit_or t.tos_is t.second ∙ or_comm y x in
-      comes program has o (0xB0 ∷ []) 3 m w k s _ h (assumption)
+      comes program has o (0xB0 ∷ []) 3 m w k s _ h (assumption c)
       (at_boundary o _ _ _
       (here.pushes rest _ (s.at + 1) _ _ _ _ _ s.untaken t.frames t.at.below
       refl refl t.at.is v (ap₂ (slice_set w.words) t.at.is v) (t.at.untaken ∙ h.holds.untaken) (t.at.given _ _))
@@ -160,11 +154,10 @@ module _ (program : List ℕ) (has : HasStatements program) (o : Origin) (map : 
   ior80 : (y x : ℕ) (rest : List ℕ) → byte_in o.words s.at ≡ 0x80 → s.running.operands ≡ y ∷ x ∷ rest →
       ReachesBoundary program o 3 (record { state = m; world = w; stalls = k }) (moved s (bit_or x y ∷ rest) (s.at + 1))
   ior80 y x rest code ops =
-      let c : Counts o s m w = counts o map s m w h inside in
       let t : Two o s m.sp m.lv m.cpp m.tos w y x rest = here.two y x rest ops in
       let op : m.mbr ≡ 0x80 = h.ready.mbr ∙ code in
       let v : bit_or m.tos (read_value (length o.words) w.words w.untaken (before m.sp)) ≡ bit_or x y = ap₂ bit_or t.tos_is t.second ∙ or_comm y x in
-      comes program has o (0x80 ∷ []) 3 m w k s _ h (assumption)
+      comes program has o (0x80 ∷ []) 3 m w k s _ h (assumption c)
       (at_boundary o _ _ _
       (here.pushes rest _ (s.at + 1) _ _ _ _ _ s.untaken t.frames t.at.below
       refl refl t.at.is v (ap₂ (slice_set w.words) t.at.is v) (t.at.untaken ∙ h.holds.untaken) (t.at.given _ _))
