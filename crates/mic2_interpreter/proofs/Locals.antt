@@ -28,10 +28,12 @@ module _ (program : List ℕ) (has : Known program) (o : Origin) (map : IsMapEnd
   abbrev here : AtBoundary o s m.sp m.lv m.cpp m.tos w
   here = law.boundary o s m.sp m.lv m.cpp m.tos w map h.holds
 
+  c : Counts o s m
+  c = counts o s m w h inside
+
   iload : (i v : ℕ) → byte_in o.words s.at ≡ 0x15 → i ≡ byte_in o.words (s.at + 1) → slice_get s.running.locals i ≡ Some (Some v) → base (frames_of s) < length o.words →
       ReachesBoundary program o 2 0 (record { state = m; world = w; stalls = k }) (push s v (s.at + 2))
   iload i v code index local space =
-      let c : Counts o s m = counts o s m w h inside in
       let r : IsWordAccess (length o.words) w (next m.sp) (base (frames_of s)) = here.room space in
       let bottom : 0x8000 ≤ base s.callers = law.above s.callers in
       let high : 0x8000 ≤ next m.sp = omega (arith, r.is) in
@@ -41,7 +43,7 @@ module _ (program : List ℕ) (has : Known program) (o : Origin) (map : IsMapEnd
       here.local from i l (law.words.plus_is h.holds.lv_is (c.p0.byte ∙ sym index) refl (omega (arith, h.holds.fits, map.high))) in
       let is : read_value (length o.words) w.words w.untaken from ≡ v = a.value ∙ h.holds.frames.0.locals i v local in
       let same : slice_set w.words (next m.sp) (read_value (length o.words) w.words w.untaken from) ≡ slice_set w.words (base (frames_of s)) v = ap₂ (slice_set w.words) r.is is in
-      comes program has o map Goes (steps 2) (byte_in o.words (s.at + 2) ∷ []) m w k 0x15 0 s _ h code (assumption)
+      comes program has o map Goes (steps 2) (byte_in o.words (s.at + 2) ∷ []) m w k 0x15 0 s _ h code (assumption c)
       (at_boundary o _ _ _
       (here.pushes s.running.operands _ (s.at + 2) _ _ _ _ _ s.untaken h.holds.frames space
       refl refl r.is is same (a.untaken ∙ h.holds.untaken) (r.given _ _))
@@ -51,7 +53,6 @@ module _ (program : List ℕ) (has : Known program) (o : Origin) (map : IsMapEnd
   wide_iload : (i v : ℕ) → byte_in o.words s.at ≡ 0xC4 → byte_in o.words (s.at + 1) ≡ 0x15 → i ≡ 256 * byte_in o.words (s.at + 2) + byte_in o.words (s.at + 3) → slice_get s.running.locals i ≡ Some (Some v) → base (frames_of s) < length o.words →
       ReachesBoundary program o 3 0 (record { state = m; world = w; stalls = k }) (push s v (s.at + 4))
   wide_iload i v code code2 index local space =
-      let c : Counts o s m = counts o s m w h inside in
       let r : IsWordAccess (length o.words) w (next m.sp) (base (frames_of s)) = here.room space in
       let bottom : 0x8000 ≤ base s.callers = law.above s.callers in
       let high : 0x8000 ≤ next m.sp = omega (arith, r.is) in
@@ -62,7 +63,7 @@ module _ (program : List ℕ) (has : Known program) (o : Origin) (map : IsMapEnd
       here.local from i l (law.words.plus_is h.holds.lv_is (pair_at o.words (plus m.pc 1) (s.at + 2) (s.at + 3) c.p1 (omega arith) ∙ sym index) refl (omega (arith, h.holds.fits, map.high))) in
       let is : read_value (length o.words) w.words w.untaken from ≡ v = a.value ∙ h.holds.frames.0.locals i v local in
       let same : slice_set w.words (next m.sp) (read_value (length o.words) w.words w.untaken from) ≡ slice_set w.words (base (frames_of s)) v = ap₂ (slice_set w.words) r.is is in
-      comes program has o map Goes (steps 3) (0x115 ∷ byte_in o.words (s.at + 4) ∷ []) m w k 0xC4 0 s _ h code (assumption)
+      comes program has o map Goes (steps 3) (0x115 ∷ byte_in o.words (s.at + 4) ∷ []) m w k 0xC4 0 s _ h code (assumption c)
       (at_boundary o _ _ _
       (here.pushes s.running.operands _ (s.at + 4) _ _ _ _ _ s.untaken h.holds.frames space
       refl refl r.is is same (a.untaken ∙ h.holds.untaken) (r.given _ _))
@@ -72,7 +73,6 @@ module _ (program : List ℕ) (has : Known program) (o : Origin) (map : IsMapEnd
   ldc_w : (i v : ℕ) → byte_in o.words s.at ≡ 0x13 → i ≡ 256 * byte_in o.words (s.at + 1) + byte_in o.words (s.at + 2) → i < 0x4000 → slice_index o.words (0x4000 + i) ≡ v → base (frames_of s) < length o.words →
       ReachesBoundary program o 2 0 (record { state = m; world = w; stalls = k }) (push s v (s.at + 3))
   ldc_w i v code index small constant space =
-      let c : Counts o s m = counts o s m w h inside in
       let r : IsWordAccess (length o.words) w (next m.sp) (base (frames_of s)) = here.room space in
       let bottom : 0x8000 ≤ base s.callers = law.above s.callers in
       let high : 0x8000 ≤ next m.sp = omega (arith, r.is) in
@@ -81,7 +81,7 @@ module _ (program : List ℕ) (has : Known program) (o : Origin) (map : IsMapEnd
       law.access (length o.words) w from (0x4000 + i) (law.words.plus_is h.holds.cpp_is (pair_at o.words m.pc (s.at + 1) (s.at + 2) c.p0 (omega arith) ∙ sym index) refl (omega (arith, small))) (omega (arith, map.low)) in
       let is : read_value (length o.words) w.words w.untaken from ≡ v = a.value ∙ (h.holds.memory.kept (0x4000 + i) (omega arith) ∙ constant) in
       let same : slice_set w.words (next m.sp) (read_value (length o.words) w.words w.untaken from) ≡ slice_set w.words (base (frames_of s)) v = ap₂ (slice_set w.words) r.is is in
-      comes program has o map Goes (steps 2) (byte_in o.words (s.at + 3) ∷ []) m w k 0x13 0 s _ h code (assumption)
+      comes program has o map Goes (steps 2) (byte_in o.words (s.at + 3) ∷ []) m w k 0x13 0 s _ h code (assumption c)
       (at_boundary o _ _ _
       (here.pushes s.running.operands _ (s.at + 3) _ _ _ _ _ s.untaken h.holds.frames space
       refl refl r.is is same (a.untaken ∙ h.holds.untaken) (r.given _ _))
@@ -91,14 +91,13 @@ module _ (program : List ℕ) (has : Known program) (o : Origin) (map : IsMapEnd
   istore : (i y : ℕ) (rest : List ℕ) → byte_in o.words s.at ≡ 0x36 → i ≡ byte_in o.words (s.at + 1) → s.running.operands ≡ y ∷ rest → i < length s.running.locals → is_own s.running.back i ≡ true →
       ReachesBoundary program o 4 0 (record { state = m; world = w; stalls = k }) (with_local s i y rest (s.at + 2))
   istore i y rest code index ops l own =
-      let c : Counts o s m = counts o s m w h inside in
       let t : Top o s m.sp m.lv m.cpp m.tos w y rest = here.top y rest ops in
       let to : ℕ = plus m.lv (byte_in o.words m.pc) in
       let a : IsWordAccess (length o.words) w to (base s.callers + i) = here.local to i l (law.words.plus_is h.holds.lv_is (c.p0.byte ∙ sym index) refl (omega (arith, h.holds.fits, map.high))) in
       let same : slice_set w.words to m.tos ≡ slice_set w.words (base s.callers + i) y = ap₂ (slice_set w.words) a.is t.tos_is in
       let bottom : 0x8000 ≤ base s.callers = law.above s.callers in
       let high : 0x8000 ≤ to = omega (arith, a.is) in
-      comes program has o map Goes (steps 4) (byte_in o.words (s.at + 2) ∷ []) m w k 0x36 0 s _ h code (assumption)
+      comes program has o map Goes (steps 4) (byte_in o.words (s.at + 2) ∷ []) m w k 0x36 0 s _ h code (assumption c)
       (at_boundary o _ _ _
       (here.stores i y rest (s.at + 2) _ _ _ _ _ t l own refl refl refl refl same (t.down.untaken ∙ h.holds.untaken) (a.given _ _))
       (omega (arith, c.p11.is)) (omega arith) refl refl refl refl refl)
@@ -107,7 +106,6 @@ module _ (program : List ℕ) (has : Known program) (o : Origin) (map : IsMapEnd
   wide_istore : (i y : ℕ) (rest : List ℕ) → byte_in o.words s.at ≡ 0xC4 → byte_in o.words (s.at + 1) ≡ 0x36 → i ≡ 256 * byte_in o.words (s.at + 2) + byte_in o.words (s.at + 3) → s.running.operands ≡ y ∷ rest → i < length s.running.locals → is_own s.running.back i ≡ true →
       ReachesBoundary program o 5 0 (record { state = m; world = w; stalls = k }) (with_local s i y rest (s.at + 4))
   wide_istore i y rest code code2 index ops l own =
-      let c : Counts o s m = counts o s m w h inside in
       let op2 : byte_in o.words m.pc + 256 ≡ 0x136 = omega (arith, c.p0.byte ∙ code2) in
       let t : Top o s m.sp m.lv m.cpp m.tos w y rest = here.top y rest ops in
       let to : ℕ = plus m.lv (256 * byte_in o.words (plus m.pc 1) + byte_in o.words (plus m.pc 1 + 1)) in
@@ -115,7 +113,7 @@ module _ (program : List ℕ) (has : Known program) (o : Origin) (map : IsMapEnd
       let same : slice_set w.words to m.tos ≡ slice_set w.words (base s.callers + i) y = ap₂ (slice_set w.words) a.is t.tos_is in
       let bottom : 0x8000 ≤ base s.callers = law.above s.callers in
       let high : 0x8000 ≤ to = omega (arith, a.is) in
-      comes program has o map Goes (steps 5) (0x136 ∷ byte_in o.words (s.at + 4) ∷ []) m w k 0xC4 0 s _ h code (assumption)
+      comes program has o map Goes (steps 5) (0x136 ∷ byte_in o.words (s.at + 4) ∷ []) m w k 0xC4 0 s _ h code (assumption c)
       (at_boundary o _ _ _
       (here.stores i y rest (s.at + 4) _ _ _ _ _ t l own refl refl refl refl same (t.down.untaken ∙ h.holds.untaken) (a.given _ _))
       (omega (arith, c.p121.is)) (omega arith) refl refl refl refl refl)
@@ -124,7 +122,6 @@ module _ (program : List ℕ) (has : Known program) (o : Origin) (map : IsMapEnd
   iinc : (i v : ℕ) → byte_in o.words s.at ≡ 0x84 → i ≡ byte_in o.words (s.at + 1) → slice_get s.running.locals i ≡ Some (Some v) → is_own s.running.back i ≡ true →
       ReachesBoundary program o 2 0 (record { state = m; world = w; stalls = k }) (with_local s i (plus v (signed_byte (byte_in o.words (s.at + 2)))) s.running.operands (s.at + 3))
   iinc i v code index local own =
-      let c : Counts o s m = counts o s m w h inside in
       let l : i < length s.running.locals = slice_get_within s.running.locals i (Some v) local in
       let at : ℕ = plus m.lv (byte_in o.words m.pc) in
       let a : IsWordAccess (length o.words) w at (base s.callers + i) = here.local at i l (law.words.plus_is h.holds.lv_is (c.p0.byte ∙ sym index) refl (omega (arith, h.holds.fits, map.high))) in
@@ -133,7 +130,7 @@ module _ (program : List ℕ) (has : Known program) (o : Origin) (map : IsMapEnd
       let same : slice_set w.words at (plus (read_value (length o.words) w.words w.untaken at) (signed_byte (byte_in o.words (plus m.pc 1)))) ≡ slice_set w.words (base s.callers + i) y = ap₂ (slice_set w.words) a.is is in
       let bottom : 0x8000 ≤ base s.callers = law.above s.callers in
       let high : 0x8000 ≤ at = omega (arith, a.is) in
-      comes program has o map Goes (steps 2) (byte_in o.words (s.at + 3) ∷ []) m w k 0x84 0 s _ h code (assumption)
+      comes program has o map Goes (steps 2) (byte_in o.words (s.at + 3) ∷ []) m w k 0x84 0 s _ h code (assumption c)
       (at_boundary o _ _ _
       (here.changes i y (s.at + 3) _ _ _ _ _ l own refl refl refl refl same (a.untaken ∙ h.holds.untaken) (a.given _ _))
       (omega (arith, c.p111.is)) (omega arith) refl refl refl refl refl)
@@ -142,7 +139,6 @@ module _ (program : List ℕ) (has : Known program) (o : Origin) (map : IsMapEnd
   wide_iinc : (i v : ℕ) → byte_in o.words s.at ≡ 0xC4 → byte_in o.words (s.at + 1) ≡ 0x84 → i ≡ 256 * byte_in o.words (s.at + 2) + byte_in o.words (s.at + 3) → slice_get s.running.locals i ≡ Some (Some v) → is_own s.running.back i ≡ true →
       ReachesBoundary program o 4 0 (record { state = m; world = w; stalls = k }) (with_local s i (plus v (signed_pair (byte_in o.words (s.at + 4)) (byte_in o.words (s.at + 5)))) s.running.operands (s.at + 6))
   wide_iinc i v code code2 index local own =
-      let c : Counts o s m = counts o s m w h inside in
       let op2 : byte_in o.words m.pc + 256 ≡ 0x184 = omega (arith, c.p0.byte ∙ code2) in
       let l : i < length s.running.locals = slice_get_within s.running.locals i (Some v) local in
       let at : ℕ = plus m.lv (256 * byte_in o.words (plus m.pc 1) + byte_in o.words (plus m.pc 1 + 1)) in
@@ -152,7 +148,7 @@ module _ (program : List ℕ) (has : Known program) (o : Origin) (map : IsMapEnd
       let same : slice_set w.words at (plus (read_value (length o.words) w.words w.untaken at) (signed_pair (byte_in o.words (plus (plus m.pc 1) 2)) (byte_in o.words (plus (plus m.pc 1) 2 + 1)))) ≡ slice_set w.words (base s.callers + i) y = ap₂ (slice_set w.words) a.is is in
       let bottom : 0x8000 ≤ base s.callers = law.above s.callers in
       let high : 0x8000 ≤ at = omega (arith, a.is) in
-      comes program has o map Goes (steps 4) (0x184 ∷ byte_in o.words (s.at + 6) ∷ []) m w k 0xC4 0 s _ h code (assumption)
+      comes program has o map Goes (steps 4) (0x184 ∷ byte_in o.words (s.at + 6) ∷ []) m w k 0xC4 0 s _ h code (assumption c)
       (at_boundary o _ _ _
       (here.changes i y (s.at + 6) _ _ _ _ _ l own refl refl refl refl same (a.untaken ∙ h.holds.untaken) (a.given _ _))
       (omega (arith, c.p1221.is)) (omega arith) refl refl refl refl refl)
