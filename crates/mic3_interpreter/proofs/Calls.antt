@@ -91,12 +91,14 @@ module _ (program : List ℕ) (has : Known program) (o : Origin) (map : IsMapEnd
   abbrev here : AtBoundary o s m.sp m.lv m.cpp m.tos w
   here = law.boundary o s m.sp m.lv m.cpp m.tos w map h.holds
 
+  c : Counts o s m
+  c = counts o s pipe w h inside
+
   ireturn : (y r : ℕ) (rest : List ℕ) (f : Frame) (fs : List Frame) → byte_in o.words s.at ≡ 0xAC → s.running.operands ≡ y ∷ rest →
       s.running.back ≡ Some r → s.callers ≡ f ∷ fs → r < 0x10000 →
       ReachesBoundary program o 17 (record { state = pipe; world = w; stalls = k })
       (record s { running = record f { operands = y ∷ f.operands }; callers = fs; at = r })
   ireturn y r rest f fs code ops back callers to =
-      let c : Counts o s m = counts o s pipe w h inside in
       let t : Top o s m.sp m.lv m.cpp m.tos w y rest = here.top y rest ops in
       let lv : ℕ = base (f ∷ fs) in
       let many : ℕ = length s.running.locals in
@@ -125,7 +127,7 @@ module _ (program : List ℕ) (has : Known program) (o : Origin) (map : IsMapEnd
       let memory : slice_set w.words m.lv m.tos ≡ slice_set w.words lv y = ap₂ (slice_set w.words) a.is t.tos_is in
       comes program has o map Issues
       (Issues ∷ HeldUp ∷ HeldUp ∷ Issues ∷ HeldUp ∷ HeldUp ∷ Issues ∷ HeldUp ∷ HeldUp ∷ Issues ∷ Issues ∷ HeldUp ∷ HeldUp ∷ Issues ∷ Issues ∷ HeldUp ∷ HeldUp ∷ [])
-      (byte_in o.words r ∷ []) pipe w k 0xAC s _ h code (assumption)
+      (byte_in o.words r ∷ []) pipe w k 0xAC s _ h code (assumption c)
       (at_boundary o _ _ _
       (here.returns y rest f fs r _ _ _ _ _ ops callers lv_back refl a.is t.tos_is memory (d.untaken
       ∙ (b.untaken ∙ (a.untaken ∙ h.holds.untaken))) (a.given _ _))
@@ -137,7 +139,6 @@ module _ (program : List ℕ) (has : Known program) (o : Origin) (map : IsMapEnd
       n + 1 ≡ 256 * byte_in o.words e + byte_in o.words (e + 1) → more ≡ 256 * byte_in o.words (e + 2) + byte_in o.words (e + 3) →
       length s.running.operands ≡ n + suc (length rest) → Entering o s m w i e n more rest
   entering i e n more rest index small is_e text counted owned depth =
-      let c : Counts o s m = counts o s pipe w h inside in
       let bottom : 0x8000 ≤ base s.callers = law.above s.callers in
       let high : length o.words < 0x80000000 = map.high in
       let a : IsWordAccess (length o.words) w (from o m w) (0x4000 + i) =
@@ -177,7 +178,6 @@ module _ (program : List ℕ) (has : Known program) (o : Origin) (map : IsMapEnd
       ReachesBoundary program o (length (plan late rest_of_call)) (record { state = pipe; world = w; stalls = k })
       (record s { running = called ps more (s.at + 3); callers = frame_with s rest ∷ s.callers; at = e + 4 })
   invoke i e more ps x rest late remainder code en text ops space =
-      let c : Counts o s m = counts o s pipe w h inside in
       let bottom : 0x8000 ≤ base s.callers = law.above s.callers in
       let high : length o.words < 0x80000000 = map.high in
       let lv : ℕ = place_behind s rest in
@@ -198,14 +198,14 @@ module _ (program : List ℕ) (has : Known program) (o : Origin) (map : IsMapEnd
       (record s { running = called ps more (s.at + 3); callers = frame_with s rest ∷ s.callers; at = e + 4 })) [
         | false ↦ λ remains.
             let lateness : (entry o m w % 4 == 3) ≡ false = ap (λ (j : ℕ). j % 4 == 3) en.e0.is ∙ remains in
-            comes program has o map Issues (plan false rest_of_call) (byte_in o.words (e + 4) ∷ []) pipe w k 0xB6 s _ h code (assumption)
+            comes program has o map Issues (plan false rest_of_call) (byte_in o.words (e + 4) ∷ []) pipe w k 0xB6 s _ h code (assumption c)
             (at_boundary o _ _ _
             (here.enters ps x rest more (s.at + 3) (e + 4) _ _ _ _ _ ops space b.is refl f.is same (a.untaken ∙ h.holds.untaken) (f.given _ _
             ∙ (d.given _ _ ∙ b.given _ y)))
             (omega (arith, en.e5.is)) (omega arith) refl refl refl refl refl refl refl)
         | true ↦ λ remains.
             let lateness : (entry o m w % 4 == 3) ≡ true = ap (λ (j : ℕ). j % 4 == 3) en.e0.is ∙ remains in
-            comes program has o map Issues (plan true rest_of_call) (byte_in o.words (e + 4) ∷ []) pipe w k 0xB6 s _ h code (assumption)
+            comes program has o map Issues (plan true rest_of_call) (byte_in o.words (e + 4) ∷ []) pipe w k 0xB6 s _ h code (assumption c)
             (at_boundary o _ _ _
             (here.enters ps x rest more (s.at + 3) (e + 4) _ _ _ _ _ ops space b.is refl f.is same (a.untaken ∙ h.holds.untaken) (f.given _ _
             ∙ (d.given _ _ ∙ b.given _ y)))

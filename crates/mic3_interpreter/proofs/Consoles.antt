@@ -33,17 +33,19 @@ module _ (program : List ℕ) (has : Known program) (o : Origin) (map : IsMapEnd
   abbrev here : AtBoundary o s m.sp m.lv m.cpp m.tos w
   here = law.boundary o s m.sp m.lv m.cpp m.tos w map h.holds
 
+  c : Counts o s m
+  c = counts o s pipe w h inside
+
   out : (y : ℕ) (rest : List ℕ) → byte_in o.words s.at ≡ 0xFD → s.running.operands ≡ y ∷ rest →
       ReachesBoundary program o 14 (record { state = pipe; world = w; stalls = k }) (record (moved s rest (s.at + 1)) { given = s.given ++ y % 256 ∷ [] })
   out y rest code ops =
-      let c : Counts o s m = counts o s pipe w h inside in
       let t : Top o s m.sp m.lv m.cpp m.tos w y rest = here.top y rest ops in
       let p : IsConsoleAccess (length o.words) w = law.port (length o.words) w map h.holds.memory.long in
       let far : 0x8000 ≤ console_address = law.console in
       let same : slice_set w.words console_address m.tos ≡ w.words = p.words m.tos in
       comes program has o map Issues
       (HeldUp ∷ HeldUp ∷ Issues ∷ HeldUp ∷ HeldUp ∷ Issues ∷ Issues ∷ Issues ∷ Issues ∷ HeldUp ∷ HeldUp ∷ Issues ∷ HeldUp ∷ HeldUp ∷ [])
-      (byte_in o.words (s.at + 1) ∷ []) pipe w k 0xFD s _ h code (assumption)
+      (byte_in o.words (s.at + 1) ∷ []) pipe w k 0xFD s _ h code (assumption c)
       (at_boundary o _ _ _
       (here.drops rest (s.at + 1) _ _ _ _ _ (s.given ++ y % 256 ∷ []) t.frames (omega (arith, t.below))
       refl refl (omega (arith, t.down.is, t.above))
@@ -55,14 +57,13 @@ module _ (program : List ℕ) (has : Known program) (o : Origin) (map : IsMapEnd
   inp : byte_in o.words s.at ≡ 0xFC → base (frames_of s) < length o.words →
       ReachesBoundary program o 12 (record { state = pipe; world = w; stalls = k }) (push (taken s) (next_byte s.untaken) (s.at + 1))
   inp code space =
-      let c : Counts o s m = counts o s pipe w h inside in
       let r : IsWordAccess (length o.words) w (next m.sp) (base (frames_of s)) = here.room space in
       let p : IsConsoleAccess (length o.words) w = law.port (length o.words) w map h.holds.memory.long in
       let bottom : 0x8000 ≤ base s.callers = law.above s.callers in
       let high : 0x8000 ≤ next m.sp = omega (arith, r.is) in
       let v : read_value (length o.words) w.words w.untaken console_address ≡ next_byte s.untaken = p.value ∙ ap next_byte h.holds.untaken in
       comes program has o map Issues (HeldUp ∷ HeldUp ∷ Issues ∷ HeldUp ∷ HeldUp ∷ Issues ∷ Issues ∷ HeldUp ∷ HeldUp ∷ Issues ∷ HeldUp ∷ HeldUp ∷ [])
-      (byte_in o.words (s.at + 1) ∷ []) pipe w k 0xFC s _ h code (assumption)
+      (byte_in o.words (s.at + 1) ∷ []) pipe w k 0xFC s _ h code (assumption c)
       (at_boundary o _ _ _
       (here.pushes s.running.operands _ (s.at + 1) _ _ _ _ _ (drop 1 s.untaken) h.holds.frames space
       refl refl r.is v (ap₂ (slice_set w.words) r.is v) (p.untaken ∙ ap (drop 1) h.holds.untaken) (r.given _ _))

@@ -49,9 +49,11 @@ module _ (program : List ℕ) (has : Known program) (o : Origin) (map : IsMapEnd
   abbrev here : AtBoundary o s m.sp m.lv m.cpp m.tos w
   here = law.boundary o s m.sp m.lv m.cpp m.tos w map h.holds
 
+  c : Counts o s m
+  c = counts o s pipe w h inside
+
   jumps : jump o.words s.at < 0x10000 → Jump o s m
   jumps to =
-      let c : Counts o s m = counts o s pipe w h inside in
       let from : before m.pc ≡ s.at = law.words.before_is m.pc s.at h.ready.micro.pc h.ready.micro.low in
       let is : goes_to o.words m ≡ jump o.words s.at =
       ap₂ plus from (signed_pair_at o.words m.pc (s.at + 1) (s.at + 2) c.p0 (omega arith))
@@ -62,10 +64,9 @@ module _ (program : List ℕ) (has : Known program) (o : Origin) (map : IsMapEnd
   go : byte_in o.words s.at ≡ 0xA7 → jump o.words s.at < 0x10000 →
       ReachesBoundary program o 9 (record { state = pipe; world = w; stalls = k }) (moved s s.running.operands (jump o.words s.at))
   go code to =
-      let c : Counts o s m = counts o s pipe w h inside in
       let j : Jump o s m = jumps to in
       comes program has o map Issues (HeldUp ∷ HeldUp ∷ Issues ∷ Issues ∷ HeldUp ∷ Lacks WaitsFirst ∷ Issues ∷ HeldUp ∷ HeldUp ∷ [])
-      (byte_in o.words (jump o.words s.at) ∷ []) pipe w k 0xA7 s _ h code (assumption)
+      (byte_in o.words (jump o.words s.at) ∷ []) pipe w k 0xA7 s _ h code (assumption c)
       (at_boundary o _ _ _
       (here.drops s.running.operands (jump o.words s.at) _ _ _ _ _ s.given h.holds.frames h.holds.fits
       refl refl h.holds.sp_is h.holds.tos_is refl h.holds.untaken h.holds.given)
@@ -74,14 +75,13 @@ module _ (program : List ℕ) (has : Known program) (o : Origin) (map : IsMapEnd
   ifeq_taken : (y : ℕ) (rest : List ℕ) → byte_in o.words s.at ≡ 0x99 → s.running.operands ≡ y ∷ rest → (y == 0) ≡ true → jump o.words s.at < 0x10000 →
       ReachesBoundary program o 16 (record { state = pipe; world = w; stalls = k }) (moved s rest (jump o.words s.at))
   ifeq_taken y rest code ops flag to =
-      let c : Counts o s m = counts o s pipe w h inside in
       let t : Top o s m.sp m.lv m.cpp m.tos w y rest = here.top y rest ops in
       let j : Jump o s m = jumps to in
       let to_t : branch (m.tos == 0) ≡ 257 = ap branch (ap (λ (k : ℕ). k == 0) t.tos_is ∙ flag) in
       comes program has o map Issues
       (Issues ∷ HeldUp ∷ HeldUp ∷ Issues ∷ Issues ∷ HeldUp ∷ Issues ∷ HeldUp ∷ HeldUp ∷ Issues ∷ Issues ∷ HeldUp ∷
       Lacks WaitsFirst ∷ Issues ∷ HeldUp ∷ HeldUp ∷ [])
-      (257 ∷ byte_in o.words (jump o.words s.at) ∷ []) pipe w k 0x99 s _ h code (assumption)
+      (257 ∷ byte_in o.words (jump o.words s.at) ∷ []) pipe w k 0x99 s _ h code (assumption c)
       (at_boundary o _ _ _
       (here.drops rest (jump o.words s.at) _ _ _ _ _ s.given t.frames (omega (arith, t.below))
       refl refl (omega (arith, t.down.is, t.above)) t.next_top refl (t.down.untaken ∙ h.holds.untaken) h.holds.given)
@@ -90,11 +90,10 @@ module _ (program : List ℕ) (has : Known program) (o : Origin) (map : IsMapEnd
   ifeq_not : (y : ℕ) (rest : List ℕ) → byte_in o.words s.at ≡ 0x99 → s.running.operands ≡ y ∷ rest → (y == 0) ≡ false →
       ReachesBoundary program o 10 (record { state = pipe; world = w; stalls = k }) (moved s rest (s.at + 3))
   ifeq_not y rest code ops flag =
-      let c : Counts o s m = counts o s pipe w h inside in
       let t : Top o s m.sp m.lv m.cpp m.tos w y rest = here.top y rest ops in
       let to_f : branch (m.tos == 0) ≡ 1 = ap branch (ap (λ (k : ℕ). k == 0) t.tos_is ∙ flag) in
       comes program has o map Issues (Issues ∷ HeldUp ∷ HeldUp ∷ Issues ∷ Issues ∷ HeldUp ∷ Issues ∷ Issues ∷ HeldUp ∷ HeldUp ∷ [])
-      (1 ∷ byte_in o.words (s.at + 3) ∷ []) pipe w k 0x99 s _ h code (assumption)
+      (1 ∷ byte_in o.words (s.at + 3) ∷ []) pipe w k 0x99 s _ h code (assumption c)
       (at_boundary o _ _ _
       (here.drops rest (s.at + 3) _ _ _ _ _ s.given t.frames (omega (arith, t.below))
       refl refl (omega (arith, t.down.is, t.above)) t.next_top refl (t.down.untaken ∙ h.holds.untaken) h.holds.given)
@@ -103,14 +102,13 @@ module _ (program : List ℕ) (has : Known program) (o : Origin) (map : IsMapEnd
   iflt_taken : (y : ℕ) (rest : List ℕ) → byte_in o.words s.at ≡ 0x9B → s.running.operands ≡ y ∷ rest → is_negative y ≡ true → jump o.words s.at < 0x10000 →
       ReachesBoundary program o 16 (record { state = pipe; world = w; stalls = k }) (moved s rest (jump o.words s.at))
   iflt_taken y rest code ops flag to =
-      let c : Counts o s m = counts o s pipe w h inside in
       let t : Top o s m.sp m.lv m.cpp m.tos w y rest = here.top y rest ops in
       let j : Jump o s m = jumps to in
       let to_t : branch (is_negative m.tos) ≡ 257 = ap branch (ap is_negative t.tos_is ∙ flag) in
       comes program has o map Issues
       (Issues ∷ HeldUp ∷ HeldUp ∷ Issues ∷ Issues ∷ HeldUp ∷ Issues ∷ HeldUp ∷ HeldUp ∷ Issues ∷ Issues ∷ HeldUp ∷
       Lacks WaitsFirst ∷ Issues ∷ HeldUp ∷ HeldUp ∷ [])
-      (257 ∷ byte_in o.words (jump o.words s.at) ∷ []) pipe w k 0x9B s _ h code (assumption)
+      (257 ∷ byte_in o.words (jump o.words s.at) ∷ []) pipe w k 0x9B s _ h code (assumption c)
       (at_boundary o _ _ _
       (here.drops rest (jump o.words s.at) _ _ _ _ _ s.given t.frames (omega (arith, t.below))
       refl refl (omega (arith, t.down.is, t.above)) t.next_top refl (t.down.untaken ∙ h.holds.untaken) h.holds.given)
@@ -119,11 +117,10 @@ module _ (program : List ℕ) (has : Known program) (o : Origin) (map : IsMapEnd
   iflt_not : (y : ℕ) (rest : List ℕ) → byte_in o.words s.at ≡ 0x9B → s.running.operands ≡ y ∷ rest → is_negative y ≡ false →
       ReachesBoundary program o 10 (record { state = pipe; world = w; stalls = k }) (moved s rest (s.at + 3))
   iflt_not y rest code ops flag =
-      let c : Counts o s m = counts o s pipe w h inside in
       let t : Top o s m.sp m.lv m.cpp m.tos w y rest = here.top y rest ops in
       let to_f : branch (is_negative m.tos) ≡ 1 = ap branch (ap is_negative t.tos_is ∙ flag) in
       comes program has o map Issues (Issues ∷ HeldUp ∷ HeldUp ∷ Issues ∷ Issues ∷ HeldUp ∷ Issues ∷ Issues ∷ HeldUp ∷ HeldUp ∷ [])
-      (1 ∷ byte_in o.words (s.at + 3) ∷ []) pipe w k 0x9B s _ h code (assumption)
+      (1 ∷ byte_in o.words (s.at + 3) ∷ []) pipe w k 0x9B s _ h code (assumption c)
       (at_boundary o _ _ _
       (here.drops rest (s.at + 3) _ _ _ _ _ s.given t.frames (omega (arith, t.below))
       refl refl (omega (arith, t.down.is, t.above)) t.next_top refl (t.down.untaken ∙ h.holds.untaken) h.holds.given)
@@ -133,7 +130,6 @@ module _ (program : List ℕ) (has : Known program) (o : Origin) (map : IsMapEnd
       (x == y) ≡ true → jump o.words s.at < 0x10000 →
       ReachesBoundary program o 22 (record { state = pipe; world = w; stalls = k }) (moved s rest (jump o.words s.at))
   icmpeq_taken y x rest code ops ly lx flag to =
-      let c : Counts o s m = counts o s pipe w h inside in
       let t : Two o s m.sp m.lv m.cpp m.tos w y x rest = here.two y x rest ops in
       let bottom : 0x8000 ≤ base s.callers = law.above s.callers in
       let j : Jump o s m = jumps to in
@@ -142,7 +138,7 @@ module _ (program : List ℕ) (has : Known program) (o : Origin) (map : IsMapEnd
       comes program has o map Issues
       (HeldUp ∷ HeldUp ∷ Issues ∷ HeldUp ∷ HeldUp ∷ Issues ∷ Issues ∷ HeldUp ∷ HeldUp ∷ Issues ∷ Issues ∷ HeldUp ∷ Issues ∷
       HeldUp ∷ HeldUp ∷ Issues ∷ Issues ∷ HeldUp ∷ Lacks WaitsFirst ∷ Issues ∷ HeldUp ∷ HeldUp ∷ [])
-      (257 ∷ byte_in o.words (jump o.words s.at) ∷ []) pipe w k 0x9F s _ h code (assumption)
+      (257 ∷ byte_in o.words (jump o.words s.at) ∷ []) pipe w k 0x9F s _ h code (assumption c)
       (at_boundary o _ _ _
       (here.drops rest (jump o.words s.at) _ _ _ _ _ s.given t.frames (omega (arith, t.at.below))
       refl refl (omega (arith, t.down.is))
@@ -153,14 +149,13 @@ module _ (program : List ℕ) (has : Known program) (o : Origin) (map : IsMapEnd
   icmpeq_not : (y x : ℕ) (rest : List ℕ) → byte_in o.words s.at ≡ 0x9F → s.running.operands ≡ y ∷ x ∷ rest → IsWord y → IsWord x → (x == y) ≡ false →
       ReachesBoundary program o 16 (record { state = pipe; world = w; stalls = k }) (moved s rest (s.at + 3))
   icmpeq_not y x rest code ops ly lx flag =
-      let c : Counts o s m = counts o s pipe w h inside in
       let t : Two o s m.sp m.lv m.cpp m.tos w y x rest = here.two y x rest ops in
       let bottom : 0x8000 ≤ base s.callers = law.above s.callers in
       let goes : branch (minus m.tos (read_value (length o.words) w.words w.untaken (before m.sp)) == 0) ≡ 1 =
       ap branch (ap₂ (λ (i : ℕ) (k : ℕ). minus i k == 0) t.tos_is t.second ∙ (law.words.difference_zero y x ly lx ∙ flag)) in
       comes program has o map Issues
       (HeldUp ∷ HeldUp ∷ Issues ∷ HeldUp ∷ HeldUp ∷ Issues ∷ Issues ∷ HeldUp ∷ HeldUp ∷ Issues ∷ Issues ∷ HeldUp ∷ Issues ∷ Issues ∷ HeldUp ∷ HeldUp ∷ [])
-      (1 ∷ byte_in o.words (s.at + 3) ∷ []) pipe w k 0x9F s _ h code (assumption)
+      (1 ∷ byte_in o.words (s.at + 3) ∷ []) pipe w k 0x9F s _ h code (assumption c)
       (at_boundary o _ _ _
       (here.drops rest (s.at + 3) _ _ _ _ _ s.given t.frames (omega (arith, t.at.below))
       refl refl (omega (arith, t.down.is))

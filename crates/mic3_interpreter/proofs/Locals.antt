@@ -34,11 +34,13 @@ module _ (program : List ℕ) (has : Known program) (o : Origin) (map : IsMapEnd
   abbrev here : AtBoundary o s m.sp m.lv m.cpp m.tos w
   here = law.boundary o s m.sp m.lv m.cpp m.tos w map h.holds
 
+  c : Counts o s m
+  c = counts o s pipe w h inside
+
   iload : (i v : ℕ) → byte_in o.words s.at ≡ 0x15 → i ≡ byte_in o.words (s.at + 1) → slice_get s.running.locals i ≡ Some (Some v) →
       base (frames_of s) < length o.words →
       ReachesBoundary program o 6 (record { state = pipe; world = w; stalls = k }) (push s v (s.at + 2))
   iload i v code index local space =
-      let c : Counts o s m = counts o s pipe w h inside in
       let r : IsWordAccess (length o.words) w (next m.sp) (base (frames_of s)) = here.room space in
       let bottom : 0x8000 ≤ base s.callers = law.above s.callers in
       let high : 0x8000 ≤ next m.sp = omega (arith, r.is) in
@@ -50,7 +52,7 @@ module _ (program : List ℕ) (has : Known program) (o : Origin) (map : IsMapEnd
       let same : slice_set w.words (next m.sp) (read_value (length o.words) w.words w.untaken from) ≡ slice_set w.words (base (frames_of s)) v =
       ap₂ (slice_set w.words) r.is is in
       comes program has o map Issues (Issues ∷ HeldUp ∷ HeldUp ∷ Issues ∷ HeldUp ∷ HeldUp ∷ [])
-      (byte_in o.words (s.at + 2) ∷ []) pipe w k 0x15 s _ h code (assumption)
+      (byte_in o.words (s.at + 2) ∷ []) pipe w k 0x15 s _ h code (assumption c)
       (at_boundary o _ _ _
       (here.pushes s.running.operands _ (s.at + 2) _ _ _ _ _ s.untaken h.holds.frames space
       refl refl r.is is same (a.untaken ∙ h.holds.untaken) (r.given _ _))
@@ -60,7 +62,6 @@ module _ (program : List ℕ) (has : Known program) (o : Origin) (map : IsMapEnd
       i ≡ 256 * byte_in o.words (s.at + 2) + byte_in o.words (s.at + 3) → slice_get s.running.locals i ≡ Some (Some v) → base (frames_of s) < length o.words →
       ReachesBoundary program o 7 (record { state = pipe; world = w; stalls = k }) (push s v (s.at + 4))
   wide_iload i v code code2 index local space =
-      let c : Counts o s m = counts o s pipe w h inside in
       let r : IsWordAccess (length o.words) w (next m.sp) (base (frames_of s)) = here.room space in
       let bottom : 0x8000 ≤ base s.callers = law.above s.callers in
       let high : 0x8000 ≤ next m.sp = omega (arith, r.is) in
@@ -74,7 +75,7 @@ module _ (program : List ℕ) (has : Known program) (o : Origin) (map : IsMapEnd
       let same : slice_set w.words (next m.sp) (read_value (length o.words) w.words w.untaken from) ≡ slice_set w.words (base (frames_of s)) v =
       ap₂ (slice_set w.words) r.is is in
       comes program has o map Issues (Issues ∷ Issues ∷ HeldUp ∷ HeldUp ∷ Issues ∷ HeldUp ∷ HeldUp ∷ [])
-      (0x15 ∷ byte_in o.words (s.at + 4) ∷ []) pipe w k 0xC4 s _ h code (assumption)
+      (0x15 ∷ byte_in o.words (s.at + 4) ∷ []) pipe w k 0xC4 s _ h code (assumption c)
       (at_boundary o _ _ _
       (here.pushes s.running.operands _ (s.at + 4) _ _ _ _ _ s.untaken h.holds.frames space
       refl refl r.is is same (a.untaken ∙ h.holds.untaken) (r.given _ _))
@@ -84,7 +85,6 @@ module _ (program : List ℕ) (has : Known program) (o : Origin) (map : IsMapEnd
       slice_index o.words (0x4000 + i) ≡ v → base (frames_of s) < length o.words →
       ReachesBoundary program o 6 (record { state = pipe; world = w; stalls = k }) (push s v (s.at + 3))
   ldc_w i v code index small constant space =
-      let c : Counts o s m = counts o s pipe w h inside in
       let r : IsWordAccess (length o.words) w (next m.sp) (base (frames_of s)) = here.room space in
       let bottom : 0x8000 ≤ base s.callers = law.above s.callers in
       let high : 0x8000 ≤ next m.sp = omega (arith, r.is) in
@@ -97,7 +97,7 @@ module _ (program : List ℕ) (has : Known program) (o : Origin) (map : IsMapEnd
       let same : slice_set w.words (next m.sp) (read_value (length o.words) w.words w.untaken from) ≡ slice_set w.words (base (frames_of s)) v =
       ap₂ (slice_set w.words) r.is is in
       comes program has o map Issues (Issues ∷ HeldUp ∷ HeldUp ∷ Issues ∷ HeldUp ∷ HeldUp ∷ [])
-      (byte_in o.words (s.at + 3) ∷ []) pipe w k 0x13 s _ h code (assumption)
+      (byte_in o.words (s.at + 3) ∷ []) pipe w k 0x13 s _ h code (assumption c)
       (at_boundary o _ _ _
       (here.pushes s.running.operands _ (s.at + 3) _ _ _ _ _ s.untaken h.holds.frames space
       refl refl r.is is same (a.untaken ∙ h.holds.untaken) (r.given _ _))
@@ -107,7 +107,6 @@ module _ (program : List ℕ) (has : Known program) (o : Origin) (map : IsMapEnd
       i < length s.running.locals → is_own s.running.back i ≡ true →
       ReachesBoundary program o 8 (record { state = pipe; world = w; stalls = k }) (with_local s i y rest (s.at + 2))
   istore i y rest code index ops l own =
-      let c : Counts o s m = counts o s pipe w h inside in
       let t : Top o s m.sp m.lv m.cpp m.tos w y rest = here.top y rest ops in
       let to : ℕ = plus m.lv (byte_in o.words m.pc) in
       let a : IsWordAccess (length o.words) w to (base s.callers + i) =
@@ -116,7 +115,7 @@ module _ (program : List ℕ) (has : Known program) (o : Origin) (map : IsMapEnd
       let bottom : 0x8000 ≤ base s.callers = law.above s.callers in
       let high : 0x8000 ≤ to = omega (arith, a.is) in
       comes program has o map Issues (Issues ∷ Issues ∷ Issues ∷ HeldUp ∷ HeldUp ∷ Issues ∷ HeldUp ∷ HeldUp ∷ [])
-      (byte_in o.words (s.at + 2) ∷ []) pipe w k 0x36 s _ h code (assumption)
+      (byte_in o.words (s.at + 2) ∷ []) pipe w k 0x36 s _ h code (assumption c)
       (at_boundary o _ _ _
       (here.stores i y rest (s.at + 2) _ _ _ _ _ t l own refl refl refl refl same (t.down.untaken ∙ h.holds.untaken) (a.given _ _))
       (omega (arith, c.p11.is)) (omega arith) refl refl refl refl refl refl refl)
@@ -126,7 +125,6 @@ module _ (program : List ℕ) (has : Known program) (o : Origin) (map : IsMapEnd
       is_own s.running.back i ≡ true →
       ReachesBoundary program o 9 (record { state = pipe; world = w; stalls = k }) (with_local s i y rest (s.at + 4))
   wide_istore i y rest code code2 index ops l own =
-      let c : Counts o s m = counts o s pipe w h inside in
       let op2 : byte_in o.words m.pc ≡ 0x36 = c.p0.byte ∙ code2 in
       let t : Top o s m.sp m.lv m.cpp m.tos w y rest = here.top y rest ops in
       let to : ℕ = plus m.lv (256 * byte_in o.words (plus m.pc 1) + byte_in o.words (plus m.pc 1 + 1)) in
@@ -137,7 +135,7 @@ module _ (program : List ℕ) (has : Known program) (o : Origin) (map : IsMapEnd
       let bottom : 0x8000 ≤ base s.callers = law.above s.callers in
       let high : 0x8000 ≤ to = omega (arith, a.is) in
       comes program has o map Issues (Issues ∷ Issues ∷ Issues ∷ Issues ∷ HeldUp ∷ HeldUp ∷ Issues ∷ HeldUp ∷ HeldUp ∷ [])
-      (0x36 ∷ byte_in o.words (s.at + 4) ∷ []) pipe w k 0xC4 s _ h code (assumption)
+      (0x36 ∷ byte_in o.words (s.at + 4) ∷ []) pipe w k 0xC4 s _ h code (assumption c)
       (at_boundary o _ _ _
       (here.stores i y rest (s.at + 4) _ _ _ _ _ t l own refl refl refl refl same (t.down.untaken ∙ h.holds.untaken) (a.given _ _))
       (omega (arith, c.p121.is)) (omega arith) refl refl refl refl refl refl refl)
@@ -147,7 +145,6 @@ module _ (program : List ℕ) (has : Known program) (o : Origin) (map : IsMapEnd
       ReachesBoundary program o 6 (record { state = pipe; world = w; stalls = k })
       (with_local s i (plus v (signed_byte (byte_in o.words (s.at + 2)))) s.running.operands (s.at + 3))
   iinc i v code index local own =
-      let c : Counts o s m = counts o s pipe w h inside in
       let l : i < length s.running.locals = slice_get_within s.running.locals i (Some v) local in
       let at : ℕ = plus m.lv (byte_in o.words m.pc) in
       let a : IsWordAccess (length o.words) w at (base s.callers + i) =
@@ -161,7 +158,7 @@ module _ (program : List ℕ) (has : Known program) (o : Origin) (map : IsMapEnd
       let bottom : 0x8000 ≤ base s.callers = law.above s.callers in
       let high : 0x8000 ≤ at = omega (arith, a.is) in
       comes program has o map Issues (Issues ∷ HeldUp ∷ HeldUp ∷ Issues ∷ HeldUp ∷ HeldUp ∷ [])
-      (byte_in o.words (s.at + 3) ∷ []) pipe w k 0x84 s _ h code (assumption)
+      (byte_in o.words (s.at + 3) ∷ []) pipe w k 0x84 s _ h code (assumption c)
       (at_boundary o _ _ _
       (here.changes i y (s.at + 3) _ _ _ _ _ l own refl refl refl refl same (a.untaken ∙ h.holds.untaken) (a.given _ _))
       (omega (arith, c.p111.is)) (omega arith) refl refl refl refl refl refl refl)
@@ -171,7 +168,6 @@ module _ (program : List ℕ) (has : Known program) (o : Origin) (map : IsMapEnd
       ReachesBoundary program o 8 (record { state = pipe; world = w; stalls = k })
       (with_local s i (plus v (signed_pair (byte_in o.words (s.at + 4)) (byte_in o.words (s.at + 5)))) s.running.operands (s.at + 6))
   wide_iinc i v code code2 index local own =
-      let c : Counts o s m = counts o s pipe w h inside in
       let op2 : byte_in o.words m.pc ≡ 0x84 = c.p0.byte ∙ code2 in
       let l : i < length s.running.locals = slice_get_within s.running.locals i (Some v) local in
       let at : ℕ = plus m.lv (256 * byte_in o.words (plus m.pc 1) + byte_in o.words (plus m.pc 1 + 1)) in
@@ -189,7 +185,7 @@ module _ (program : List ℕ) (has : Known program) (o : Origin) (map : IsMapEnd
       let bottom : 0x8000 ≤ base s.callers = law.above s.callers in
       let high : 0x8000 ≤ at = omega (arith, a.is) in
       comes program has o map Issues (Issues ∷ Issues ∷ Issues ∷ HeldUp ∷ HeldUp ∷ Issues ∷ HeldUp ∷ HeldUp ∷ [])
-      (0x84 ∷ byte_in o.words (s.at + 6) ∷ []) pipe w k 0xC4 s _ h code (assumption)
+      (0x84 ∷ byte_in o.words (s.at + 6) ∷ []) pipe w k 0xC4 s _ h code (assumption c)
       (at_boundary o _ _ _
       (here.changes i y (s.at + 6) _ _ _ _ _ l own refl refl refl refl same (a.untaken ∙ h.holds.untaken) (a.given _ _))
       (omega (arith, c.p1221.is)) (omega arith) refl refl refl refl refl refl refl)

@@ -35,10 +35,12 @@ module _ (program : List ℕ) (has : Known program) (o : Origin) (map : IsMapEnd
   abbrev here : AtBoundary o s m.sp m.lv m.cpp m.tos w
   here = law.boundary o s m.sp m.lv m.cpp m.tos w map h.holds
 
+  c : Counts o s m
+  c = counts o s pipe w h inside
+
   nop : byte_in o.words s.at ≡ 0x00 → ReachesBoundary program o 2 (record { state = pipe; world = w; stalls = k }) (moved s s.running.operands (s.at + 1))
   nop code =
-      let c : Counts o s m = counts o s pipe w h inside in
-      comes program has o map Issues (HeldUp ∷ HeldUp ∷ []) (byte_in o.words (s.at + 1) ∷ []) pipe w k 0x00 s _ h code (assumption)
+      comes program has o map Issues (HeldUp ∷ HeldUp ∷ []) (byte_in o.words (s.at + 1) ∷ []) pipe w k 0x00 s _ h code (assumption c)
       (at_boundary o _ _ _
       (here.drops s.running.operands (s.at + 1) _ _ _ _ _ s.given h.holds.frames h.holds.fits
       refl refl h.holds.sp_is h.holds.tos_is refl h.holds.untaken h.holds.given)
@@ -47,12 +49,11 @@ module _ (program : List ℕ) (has : Known program) (o : Origin) (map : IsMapEnd
   bipush : byte_in o.words s.at ≡ 0x10 → base (frames_of s) < length o.words →
       ReachesBoundary program o 3 (record { state = pipe; world = w; stalls = k }) (push s (signed_byte (byte_in o.words (s.at + 1))) (s.at + 2))
   bipush code space =
-      let c : Counts o s m = counts o s pipe w h inside in
       let r : IsWordAccess (length o.words) w (next m.sp) (base (frames_of s)) = here.room space in
       let bottom : 0x8000 ≤ base s.callers = law.above s.callers in
       let high : 0x8000 ≤ next m.sp = omega (arith, r.is) in
       let v : signed_byte (byte_in o.words m.pc) ≡ signed_byte (byte_in o.words (s.at + 1)) = ap signed_byte c.p0.byte in
-      comes program has o map Issues (Issues ∷ HeldUp ∷ HeldUp ∷ []) (byte_in o.words (s.at + 2) ∷ []) pipe w k 0x10 s _ h code (assumption)
+      comes program has o map Issues (Issues ∷ HeldUp ∷ HeldUp ∷ []) (byte_in o.words (s.at + 2) ∷ []) pipe w k 0x10 s _ h code (assumption c)
       (at_boundary o _ _ _
       (here.pushes s.running.operands _ (s.at + 2) _ _ _ _ _ s.untaken h.holds.frames space
       refl refl r.is v (ap₂ (slice_set w.words) r.is v) h.holds.untaken (r.given _ _))
@@ -61,10 +62,9 @@ module _ (program : List ℕ) (has : Known program) (o : Origin) (map : IsMapEnd
   pop : (y : ℕ) (rest : List ℕ) → byte_in o.words s.at ≡ 0x57 → s.running.operands ≡ y ∷ rest →
       ReachesBoundary program o 6 (record { state = pipe; world = w; stalls = k }) (moved s rest (s.at + 1))
   pop y rest code ops =
-      let c : Counts o s m = counts o s pipe w h inside in
       let t : Top o s m.sp m.lv m.cpp m.tos w y rest = here.top y rest ops in
       comes program has o map Issues (Issues ∷ HeldUp ∷ HeldUp ∷ Issues ∷ HeldUp ∷ HeldUp ∷ [])
-      (byte_in o.words (s.at + 1) ∷ []) pipe w k 0x57 s _ h code (assumption)
+      (byte_in o.words (s.at + 1) ∷ []) pipe w k 0x57 s _ h code (assumption c)
       (at_boundary o _ _ _
       (here.drops rest (s.at + 1) _ _ _ _ _ s.given t.frames (omega (arith, t.below))
       refl refl (omega (arith, t.down.is, t.above)) t.next_top refl (t.down.untaken ∙ h.holds.untaken) h.holds.given)
@@ -73,12 +73,11 @@ module _ (program : List ℕ) (has : Known program) (o : Origin) (map : IsMapEnd
   dup : (y : ℕ) (rest : List ℕ) → byte_in o.words s.at ≡ 0x59 → s.running.operands ≡ y ∷ rest → base (frames_of s) < length o.words →
       ReachesBoundary program o 3 (record { state = pipe; world = w; stalls = k }) (push s y (s.at + 1))
   dup y rest code ops space =
-      let c : Counts o s m = counts o s pipe w h inside in
       let t : Top o s m.sp m.lv m.cpp m.tos w y rest = here.top y rest ops in
       let r : IsWordAccess (length o.words) w (next m.sp) (base (frames_of s)) = here.room space in
       let bottom : 0x8000 ≤ base s.callers = law.above s.callers in
       let high : 0x8000 ≤ next m.sp = omega (arith, r.is) in
-      comes program has o map Issues (Issues ∷ HeldUp ∷ HeldUp ∷ []) (byte_in o.words (s.at + 1) ∷ []) pipe w k 0x59 s _ h code (assumption)
+      comes program has o map Issues (Issues ∷ HeldUp ∷ HeldUp ∷ []) (byte_in o.words (s.at + 1) ∷ []) pipe w k 0x59 s _ h code (assumption c)
       (at_boundary o _ _ _
       (here.pushes s.running.operands _ (s.at + 1) _ _ _ _ _ s.untaken h.holds.frames space
       refl refl r.is t.tos_is (ap₂ (slice_set w.words) r.is t.tos_is) h.holds.untaken (r.given _ _))
@@ -87,7 +86,6 @@ module _ (program : List ℕ) (has : Known program) (o : Origin) (map : IsMapEnd
   swap : (y x : ℕ) (rest : List ℕ) → byte_in o.words s.at ≡ 0x5F → s.running.operands ≡ y ∷ x ∷ rest →
       ReachesBoundary program o 9 (record { state = pipe; world = w; stalls = k }) (moved s (x ∷ y ∷ rest) (s.at + 1))
   swap y x rest code ops =
-      let c : Counts o s m = counts o s pipe w h inside in
       let t : Two o s m.sp m.lv m.cpp m.tos w y x rest = here.two y x rest ops in
       let bottom : 0x8000 ≤ base s.callers = law.above s.callers in
       let len : length s.running.operands ≡ suc (suc (length rest)) = ap length ops in
@@ -101,7 +99,7 @@ module _ (program : List ℕ) (has : Known program) (o : Origin) (map : IsMapEnd
       (λ j. slice_set (slice_set w.words (top_at.is j) (t.second j)) (t.at.is j) (t.tos_is j))
       ∙ set_comm w.words (place_behind s rest + 1) (place_behind s rest) x y apart in
       comes program has o map Issues (Issues ∷ HeldUp ∷ HeldUp ∷ Issues ∷ Issues ∷ Issues ∷ Issues ∷ HeldUp ∷ HeldUp ∷ [])
-      (byte_in o.words (s.at + 1) ∷ []) pipe w k 0x5F s _ h code (assumption)
+      (byte_in o.words (s.at + 1) ∷ []) pipe w k 0x5F s _ h code (assumption c)
       (at_boundary o _ _ _
       (here.swaps y x rest (s.at + 1) _ _ _ _ _ t refl refl refl t.second same (t.at.untaken ∙ h.holds.untaken) (t.at.given _ _ ∙ top_at.given _ _))
       (omega (arith, c.p1.is)) (omega arith) refl refl refl refl refl refl refl)
@@ -109,13 +107,12 @@ module _ (program : List ℕ) (has : Known program) (o : Origin) (map : IsMapEnd
   iadd : (y x : ℕ) (rest : List ℕ) → byte_in o.words s.at ≡ 0x60 → s.running.operands ≡ y ∷ x ∷ rest →
       ReachesBoundary program o 6 (record { state = pipe; world = w; stalls = k }) (moved s (plus x y ∷ rest) (s.at + 1))
   iadd y x rest code ops =
-      let c : Counts o s m = counts o s pipe w h inside in
       let t : Two o s m.sp m.lv m.cpp m.tos w y x rest = here.two y x rest ops in
       let bottom : 0x8000 ≤ base s.callers = law.above s.callers in
       let high : 0x8000 ≤ before m.sp = omega (arith, t.at.is) in
       let v : plus (read_value (length o.words) w.words w.untaken (before m.sp)) m.tos ≡ plus x y = ap₂ plus t.second t.tos_is in
       comes program has o map Issues (Issues ∷ HeldUp ∷ HeldUp ∷ Issues ∷ HeldUp ∷ HeldUp ∷ [])
-      (byte_in o.words (s.at + 1) ∷ []) pipe w k 0x60 s _ h code (assumption)
+      (byte_in o.words (s.at + 1) ∷ []) pipe w k 0x60 s _ h code (assumption c)
       (at_boundary o _ _ _
       (here.pushes rest _ (s.at + 1) _ _ _ _ _ s.untaken t.frames t.at.below
       refl refl t.at.is v (ap₂ (slice_set w.words) t.at.is v) (t.at.untaken ∙ h.holds.untaken) (t.at.given _ _))
@@ -124,13 +121,12 @@ module _ (program : List ℕ) (has : Known program) (o : Origin) (map : IsMapEnd
   isub : (y x : ℕ) (rest : List ℕ) → byte_in o.words s.at ≡ 0x64 → s.running.operands ≡ y ∷ x ∷ rest →
       ReachesBoundary program o 6 (record { state = pipe; world = w; stalls = k }) (moved s (minus x y ∷ rest) (s.at + 1))
   isub y x rest code ops =
-      let c : Counts o s m = counts o s pipe w h inside in
       let t : Two o s m.sp m.lv m.cpp m.tos w y x rest = here.two y x rest ops in
       let bottom : 0x8000 ≤ base s.callers = law.above s.callers in
       let high : 0x8000 ≤ before m.sp = omega (arith, t.at.is) in
       let v : minus (read_value (length o.words) w.words w.untaken (before m.sp)) m.tos ≡ minus x y = ap₂ minus t.second t.tos_is in
       comes program has o map Issues (Issues ∷ HeldUp ∷ HeldUp ∷ Issues ∷ HeldUp ∷ HeldUp ∷ [])
-      (byte_in o.words (s.at + 1) ∷ []) pipe w k 0x64 s _ h code (assumption)
+      (byte_in o.words (s.at + 1) ∷ []) pipe w k 0x64 s _ h code (assumption c)
       (at_boundary o _ _ _
       (here.pushes rest _ (s.at + 1) _ _ _ _ _ s.untaken t.frames t.at.below
       refl refl t.at.is v (ap₂ (slice_set w.words) t.at.is v) (t.at.untaken ∙ h.holds.untaken) (t.at.given _ _))
@@ -139,13 +135,12 @@ module _ (program : List ℕ) (has : Known program) (o : Origin) (map : IsMapEnd
   iand : (y x : ℕ) (rest : List ℕ) → byte_in o.words s.at ≡ 0x7E → s.running.operands ≡ y ∷ x ∷ rest →
       ReachesBoundary program o 6 (record { state = pipe; world = w; stalls = k }) (moved s (bit_and x y ∷ rest) (s.at + 1))
   iand y x rest code ops =
-      let c : Counts o s m = counts o s pipe w h inside in
       let t : Two o s m.sp m.lv m.cpp m.tos w y x rest = here.two y x rest ops in
       let bottom : 0x8000 ≤ base s.callers = law.above s.callers in
       let high : 0x8000 ≤ before m.sp = omega (arith, t.at.is) in
       let v : bit_and (read_value (length o.words) w.words w.untaken (before m.sp)) m.tos ≡ bit_and x y = ap₂ bit_and t.second t.tos_is in
       comes program has o map Issues (Issues ∷ HeldUp ∷ HeldUp ∷ Issues ∷ HeldUp ∷ HeldUp ∷ [])
-      (byte_in o.words (s.at + 1) ∷ []) pipe w k 0x7E s _ h code (assumption)
+      (byte_in o.words (s.at + 1) ∷ []) pipe w k 0x7E s _ h code (assumption c)
       (at_boundary o _ _ _
       (here.pushes rest _ (s.at + 1) _ _ _ _ _ s.untaken t.frames t.at.below
       refl refl t.at.is v (ap₂ (slice_set w.words) t.at.is v) (t.at.untaken ∙ h.holds.untaken) (t.at.given _ _))
@@ -154,13 +149,12 @@ module _ (program : List ℕ) (has : Known program) (o : Origin) (map : IsMapEnd
   ior : (y x : ℕ) (rest : List ℕ) → byte_in o.words s.at ≡ 0xB0 → s.running.operands ≡ y ∷ x ∷ rest →
       ReachesBoundary program o 6 (record { state = pipe; world = w; stalls = k }) (moved s (bit_or x y ∷ rest) (s.at + 1))
   ior y x rest code ops =
-      let c : Counts o s m = counts o s pipe w h inside in
       let t : Two o s m.sp m.lv m.cpp m.tos w y x rest = here.two y x rest ops in
       let bottom : 0x8000 ≤ base s.callers = law.above s.callers in
       let high : 0x8000 ≤ before m.sp = omega (arith, t.at.is) in
       let v : bit_or (read_value (length o.words) w.words w.untaken (before m.sp)) m.tos ≡ bit_or x y = ap₂ bit_or t.second t.tos_is in
       comes program has o map Issues (Issues ∷ HeldUp ∷ HeldUp ∷ Issues ∷ HeldUp ∷ HeldUp ∷ [])
-      (byte_in o.words (s.at + 1) ∷ []) pipe w k 0xB0 s _ h code (assumption)
+      (byte_in o.words (s.at + 1) ∷ []) pipe w k 0xB0 s _ h code (assumption c)
       (at_boundary o _ _ _
       (here.pushes rest _ (s.at + 1) _ _ _ _ _ s.untaken t.frames t.at.below
       refl refl t.at.is v (ap₂ (slice_set w.words) t.at.is v) (t.at.untaken ∙ h.holds.untaken) (t.at.given _ _))
@@ -169,13 +163,12 @@ module _ (program : List ℕ) (has : Known program) (o : Origin) (map : IsMapEnd
   ior80 : (y x : ℕ) (rest : List ℕ) → byte_in o.words s.at ≡ 0x80 → s.running.operands ≡ y ∷ x ∷ rest →
       ReachesBoundary program o 6 (record { state = pipe; world = w; stalls = k }) (moved s (bit_or x y ∷ rest) (s.at + 1))
   ior80 y x rest code ops =
-      let c : Counts o s m = counts o s pipe w h inside in
       let t : Two o s m.sp m.lv m.cpp m.tos w y x rest = here.two y x rest ops in
       let bottom : 0x8000 ≤ base s.callers = law.above s.callers in
       let high : 0x8000 ≤ before m.sp = omega (arith, t.at.is) in
       let v : bit_or (read_value (length o.words) w.words w.untaken (before m.sp)) m.tos ≡ bit_or x y = ap₂ bit_or t.second t.tos_is in
       comes program has o map Issues (Issues ∷ HeldUp ∷ HeldUp ∷ Issues ∷ HeldUp ∷ HeldUp ∷ [])
-      (byte_in o.words (s.at + 1) ∷ []) pipe w k 0x80 s _ h code (assumption)
+      (byte_in o.words (s.at + 1) ∷ []) pipe w k 0x80 s _ h code (assumption c)
       (at_boundary o _ _ _
       (here.pushes rest _ (s.at + 1) _ _ _ _ _ s.untaken t.frames t.at.below
       refl refl t.at.is v (ap₂ (slice_set w.words) t.at.is v) (t.at.untaken ∙ h.holds.untaken) (t.at.given _ _))
