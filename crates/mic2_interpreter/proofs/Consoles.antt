@@ -52,8 +52,7 @@ module _ (program : List ℕ) (has : Known program) (o : Origin) (map : IsMapEnd
   inp code space =
       let r : IsWordAccess (length o.words) w (next m.sp) (base (frames_of s)) = here.room space in
       let p : IsConsoleAccess (length o.words) w = law.port (length o.words) w map h.holds.memory.long in
-      let bottom : 0x8000 ≤ base s.callers = law.above s.callers in
-      let high : 0x8000 ≤ next m.sp = omega (arith, r.is) in
+      let high : 0x8000 ≤ next m.sp = omega (arith, law.above s.callers, r.is) in
       let v : read_value (length o.words) w.words w.untaken console_address ≡ next_byte s.untaken = p.value ∙ ap next_byte h.holds.untaken in
       comes program has o map Goes (steps 4) (byte_in o.words (s.at + 1) ∷ []) m w k 0xFC 0 s _ h code (assumption c)
       (at_boundary o _ _ _

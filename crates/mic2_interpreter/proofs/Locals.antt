@@ -35,8 +35,7 @@ module _ (program : List ℕ) (has : Known program) (o : Origin) (map : IsMapEnd
       ReachesBoundary program o 2 0 (record { state = m; world = w; stalls = k }) (push s v (s.at + 2))
   iload i v code index local space =
       let r : IsWordAccess (length o.words) w (next m.sp) (base (frames_of s)) = here.room space in
-      let bottom : 0x8000 ≤ base s.callers = law.above s.callers in
-      let high : 0x8000 ≤ next m.sp = omega (arith, r.is) in
+      let high : 0x8000 ≤ next m.sp = omega (arith, law.above s.callers, r.is) in
       let from : ℕ = plus m.lv (byte_in o.words m.pc) in
       let l : i < length s.running.locals = slice_get_within s.running.locals i (Some v) local in
       let a : IsWordAccess (length o.words) w from (base s.callers + i) =
@@ -54,8 +53,7 @@ module _ (program : List ℕ) (has : Known program) (o : Origin) (map : IsMapEnd
       ReachesBoundary program o 3 0 (record { state = m; world = w; stalls = k }) (push s v (s.at + 4))
   wide_iload i v code code2 index local space =
       let r : IsWordAccess (length o.words) w (next m.sp) (base (frames_of s)) = here.room space in
-      let bottom : 0x8000 ≤ base s.callers = law.above s.callers in
-      let high : 0x8000 ≤ next m.sp = omega (arith, r.is) in
+      let high : 0x8000 ≤ next m.sp = omega (arith, law.above s.callers, r.is) in
       let op2 : byte_in o.words m.pc + 256 ≡ 0x115 = omega (arith, c.p0.byte ∙ code2) in
       let from : ℕ = plus m.lv (256 * byte_in o.words (plus m.pc 1) + byte_in o.words (plus m.pc 1 + 1)) in
       let l : i < length s.running.locals = slice_get_within s.running.locals i (Some v) local in
@@ -74,8 +72,7 @@ module _ (program : List ℕ) (has : Known program) (o : Origin) (map : IsMapEnd
       ReachesBoundary program o 2 0 (record { state = m; world = w; stalls = k }) (push s v (s.at + 3))
   ldc_w i v code index small constant space =
       let r : IsWordAccess (length o.words) w (next m.sp) (base (frames_of s)) = here.room space in
-      let bottom : 0x8000 ≤ base s.callers = law.above s.callers in
-      let high : 0x8000 ≤ next m.sp = omega (arith, r.is) in
+      let high : 0x8000 ≤ next m.sp = omega (arith, law.above s.callers, r.is) in
       let from : ℕ = plus m.cpp (256 * byte_in o.words m.pc + byte_in o.words (m.pc + 1)) in
       let a : IsWordAccess (length o.words) w from (0x4000 + i) =
       law.access (length o.words) w from (0x4000 + i) (law.words.plus_is h.holds.cpp_is (pair_at o.words m.pc (s.at + 1) (s.at + 2) c.p0 (omega arith) ∙ sym index) refl (omega (arith, small))) (omega (arith, map.low)) in
@@ -95,8 +92,7 @@ module _ (program : List ℕ) (has : Known program) (o : Origin) (map : IsMapEnd
       let to : ℕ = plus m.lv (byte_in o.words m.pc) in
       let a : IsWordAccess (length o.words) w to (base s.callers + i) = here.local to i l (law.words.plus_is h.holds.lv_is (c.p0.byte ∙ sym index) refl (omega (arith, h.holds.fits, map.high))) in
       let same : slice_set w.words to m.tos ≡ slice_set w.words (base s.callers + i) y = ap₂ (slice_set w.words) a.is t.tos_is in
-      let bottom : 0x8000 ≤ base s.callers = law.above s.callers in
-      let high : 0x8000 ≤ to = omega (arith, a.is) in
+      let high : 0x8000 ≤ to = omega (arith, law.above s.callers, a.is) in
       comes program has o map Goes (steps 4) (byte_in o.words (s.at + 2) ∷ []) m w k 0x36 0 s _ h code (assumption c)
       (at_boundary o _ _ _
       (here.stores i y rest (s.at + 2) _ _ _ _ _ t l own refl refl refl refl same (t.down.untaken ∙ h.holds.untaken) (a.given _ _))
@@ -111,8 +107,7 @@ module _ (program : List ℕ) (has : Known program) (o : Origin) (map : IsMapEnd
       let to : ℕ = plus m.lv (256 * byte_in o.words (plus m.pc 1) + byte_in o.words (plus m.pc 1 + 1)) in
       let a : IsWordAccess (length o.words) w to (base s.callers + i) = here.local to i l (law.words.plus_is h.holds.lv_is (pair_at o.words (plus m.pc 1) (s.at + 2) (s.at + 3) c.p1 (omega arith) ∙ sym index) refl (omega (arith, h.holds.fits, map.high))) in
       let same : slice_set w.words to m.tos ≡ slice_set w.words (base s.callers + i) y = ap₂ (slice_set w.words) a.is t.tos_is in
-      let bottom : 0x8000 ≤ base s.callers = law.above s.callers in
-      let high : 0x8000 ≤ to = omega (arith, a.is) in
+      let high : 0x8000 ≤ to = omega (arith, law.above s.callers, a.is) in
       comes program has o map Goes (steps 5) (0x136 ∷ byte_in o.words (s.at + 4) ∷ []) m w k 0xC4 0 s _ h code (assumption c)
       (at_boundary o _ _ _
       (here.stores i y rest (s.at + 4) _ _ _ _ _ t l own refl refl refl refl same (t.down.untaken ∙ h.holds.untaken) (a.given _ _))
@@ -128,8 +123,7 @@ module _ (program : List ℕ) (has : Known program) (o : Origin) (map : IsMapEnd
       let y : ℕ = plus v (signed_byte (byte_in o.words (s.at + 2))) in
       let is : plus (read_value (length o.words) w.words w.untaken at) (signed_byte (byte_in o.words (plus m.pc 1))) ≡ y = ap₂ plus (a.value ∙ h.holds.frames.0.locals i v local) (ap signed_byte c.p1.byte) in
       let same : slice_set w.words at (plus (read_value (length o.words) w.words w.untaken at) (signed_byte (byte_in o.words (plus m.pc 1)))) ≡ slice_set w.words (base s.callers + i) y = ap₂ (slice_set w.words) a.is is in
-      let bottom : 0x8000 ≤ base s.callers = law.above s.callers in
-      let high : 0x8000 ≤ at = omega (arith, a.is) in
+      let high : 0x8000 ≤ at = omega (arith, law.above s.callers, a.is) in
       comes program has o map Goes (steps 2) (byte_in o.words (s.at + 3) ∷ []) m w k 0x84 0 s _ h code (assumption c)
       (at_boundary o _ _ _
       (here.changes i y (s.at + 3) _ _ _ _ _ l own refl refl refl refl same (a.untaken ∙ h.holds.untaken) (a.given _ _))
@@ -146,8 +140,7 @@ module _ (program : List ℕ) (has : Known program) (o : Origin) (map : IsMapEnd
       let y : ℕ = plus v (signed_pair (byte_in o.words (s.at + 4)) (byte_in o.words (s.at + 5))) in
       let is : plus (read_value (length o.words) w.words w.untaken at) (signed_pair (byte_in o.words (plus (plus m.pc 1) 2)) (byte_in o.words (plus (plus m.pc 1) 2 + 1))) ≡ y = ap₂ plus (a.value ∙ h.holds.frames.0.locals i v local) (signed_pair_at o.words (plus (plus m.pc 1) 2) (s.at + 4) (s.at + 5) c.p12 (omega arith)) in
       let same : slice_set w.words at (plus (read_value (length o.words) w.words w.untaken at) (signed_pair (byte_in o.words (plus (plus m.pc 1) 2)) (byte_in o.words (plus (plus m.pc 1) 2 + 1)))) ≡ slice_set w.words (base s.callers + i) y = ap₂ (slice_set w.words) a.is is in
-      let bottom : 0x8000 ≤ base s.callers = law.above s.callers in
-      let high : 0x8000 ≤ at = omega (arith, a.is) in
+      let high : 0x8000 ≤ at = omega (arith, law.above s.callers, a.is) in
       comes program has o map Goes (steps 4) (0x184 ∷ byte_in o.words (s.at + 6) ∷ []) m w k 0xC4 0 s _ h code (assumption c)
       (at_boundary o _ _ _
       (here.changes i y (s.at + 6) _ _ _ _ _ l own refl refl refl refl same (a.untaken ∙ h.holds.untaken) (a.given _ _))

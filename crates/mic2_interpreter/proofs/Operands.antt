@@ -45,8 +45,7 @@ module _ (program : List ℕ) (has : Known program) (o : Origin) (map : IsMapEnd
       ReachesBoundary program o 1 0 (record { state = m; world = w; stalls = k }) (push s (signed_byte (byte_in o.words (s.at + 1))) (s.at + 2))
   bipush code space =
       let r : IsWordAccess (length o.words) w (next m.sp) (base (frames_of s)) = here.room space in
-      let bottom : 0x8000 ≤ base s.callers = law.above s.callers in
-      let high : 0x8000 ≤ next m.sp = omega (arith, r.is) in
+      let high : 0x8000 ≤ next m.sp = omega (arith, law.above s.callers, r.is) in
       let v : signed_byte (byte_in o.words m.pc) ≡ signed_byte (byte_in o.words (s.at + 1)) = ap signed_byte c.p0.byte in
       comes program has o map Goes (steps 1) (byte_in o.words (s.at + 2) ∷ []) m w k 0x10 0 s _ h code (assumption c)
       (at_boundary o _ _ _
@@ -71,8 +70,7 @@ module _ (program : List ℕ) (has : Known program) (o : Origin) (map : IsMapEnd
   dup y rest code ops space =
       let t : Top o s m.sp m.lv m.cpp m.tos w y rest = here.top y rest ops in
       let r : IsWordAccess (length o.words) w (next m.sp) (base (frames_of s)) = here.room space in
-      let bottom : 0x8000 ≤ base s.callers = law.above s.callers in
-      let high : 0x8000 ≤ next m.sp = omega (arith, r.is) in
+      let high : 0x8000 ≤ next m.sp = omega (arith, law.above s.callers, r.is) in
       comes program has o map Goes (steps 1) (byte_in o.words (s.at + 1) ∷ []) m w k 0x59 0 s _ h code (assumption c)
       (at_boundary o _ _ _
       (here.pushes s.running.operands _ (s.at + 1) _ _ _ _ _ s.untaken h.holds.frames space
@@ -102,8 +100,7 @@ module _ (program : List ℕ) (has : Known program) (o : Origin) (map : IsMapEnd
       ReachesBoundary program o 2 0 (record { state = m; world = w; stalls = k }) (moved s (plus x y ∷ rest) (s.at + 1))
   iadd y x rest code ops =
       let t : Two o s m.sp m.lv m.cpp m.tos w y x rest = here.two y x rest ops in
-      let bottom : 0x8000 ≤ base s.callers = law.above s.callers in
-      let high : 0x8000 ≤ before m.sp = omega (arith, t.at.is) in
+      let high : 0x8000 ≤ before m.sp = omega (arith, law.above s.callers, t.at.is) in
       let v : plus (read_value (length o.words) w.words w.untaken (before m.sp)) m.tos ≡ plus x y = ap₂ plus t.second t.tos_is in
       comes program has o map Goes (steps 2) (byte_in o.words (s.at + 1) ∷ []) m w k 0x60 0 s _ h code (assumption c)
       (at_boundary o _ _ _
@@ -116,8 +113,7 @@ module _ (program : List ℕ) (has : Known program) (o : Origin) (map : IsMapEnd
       ReachesBoundary program o 2 0 (record { state = m; world = w; stalls = k }) (moved s (minus x y ∷ rest) (s.at + 1))
   isub y x rest code ops =
       let t : Two o s m.sp m.lv m.cpp m.tos w y x rest = here.two y x rest ops in
-      let bottom : 0x8000 ≤ base s.callers = law.above s.callers in
-      let high : 0x8000 ≤ before m.sp = omega (arith, t.at.is) in
+      let high : 0x8000 ≤ before m.sp = omega (arith, law.above s.callers, t.at.is) in
       let v : minus (read_value (length o.words) w.words w.untaken (before m.sp)) m.tos ≡ minus x y = ap₂ minus t.second t.tos_is in
       comes program has o map Goes (steps 2) (byte_in o.words (s.at + 1) ∷ []) m w k 0x64 0 s _ h code (assumption c)
       (at_boundary o _ _ _
@@ -130,8 +126,7 @@ module _ (program : List ℕ) (has : Known program) (o : Origin) (map : IsMapEnd
       ReachesBoundary program o 2 0 (record { state = m; world = w; stalls = k }) (moved s (bit_and x y ∷ rest) (s.at + 1))
   iand y x rest code ops =
       let t : Two o s m.sp m.lv m.cpp m.tos w y x rest = here.two y x rest ops in
-      let bottom : 0x8000 ≤ base s.callers = law.above s.callers in
-      let high : 0x8000 ≤ before m.sp = omega (arith, t.at.is) in
+      let high : 0x8000 ≤ before m.sp = omega (arith, law.above s.callers, t.at.is) in
       let v : bit_and (read_value (length o.words) w.words w.untaken (before m.sp)) m.tos ≡ bit_and x y = ap₂ bit_and t.second t.tos_is in
       comes program has o map Goes (steps 2) (byte_in o.words (s.at + 1) ∷ []) m w k 0x7E 0 s _ h code (assumption c)
       (at_boundary o _ _ _
@@ -144,8 +139,7 @@ module _ (program : List ℕ) (has : Known program) (o : Origin) (map : IsMapEnd
       ReachesBoundary program o 2 0 (record { state = m; world = w; stalls = k }) (moved s (bit_or x y ∷ rest) (s.at + 1))
   ior y x rest code ops =
       let t : Two o s m.sp m.lv m.cpp m.tos w y x rest = here.two y x rest ops in
-      let bottom : 0x8000 ≤ base s.callers = law.above s.callers in
-      let high : 0x8000 ≤ before m.sp = omega (arith, t.at.is) in
+      let high : 0x8000 ≤ before m.sp = omega (arith, law.above s.callers, t.at.is) in
       let v : bit_or (read_value (length o.words) w.words w.untaken (before m.sp)) m.tos ≡ bit_or x y = ap₂ bit_or t.second t.tos_is in
       comes program has o map Goes (steps 2) (byte_in o.words (s.at + 1) ∷ []) m w k 0xB0 0 s _ h code (assumption c)
       (at_boundary o _ _ _
@@ -158,8 +152,7 @@ module _ (program : List ℕ) (has : Known program) (o : Origin) (map : IsMapEnd
       ReachesBoundary program o 2 0 (record { state = m; world = w; stalls = k }) (moved s (bit_or x y ∷ rest) (s.at + 1))
   ior80 y x rest code ops =
       let t : Two o s m.sp m.lv m.cpp m.tos w y x rest = here.two y x rest ops in
-      let bottom : 0x8000 ≤ base s.callers = law.above s.callers in
-      let high : 0x8000 ≤ before m.sp = omega (arith, t.at.is) in
+      let high : 0x8000 ≤ before m.sp = omega (arith, law.above s.callers, t.at.is) in
       let v : bit_or (read_value (length o.words) w.words w.untaken (before m.sp)) m.tos ≡ bit_or x y = ap₂ bit_or t.second t.tos_is in
       comes program has o map Goes (steps 2) (byte_in o.words (s.at + 1) ∷ []) m w k 0x80 0 s _ h code (assumption c)
       (at_boundary o _ _ _

@@ -42,8 +42,7 @@ module _ (program : List ℕ) (has : Known program) (o : Origin) (map : IsMapEnd
       ReachesBoundary program o 6 (record { state = pipe; world = w; stalls = k }) (push s v (s.at + 2))
   iload i v code index local space =
       let r : IsWordAccess (length o.words) w (next m.sp) (base (frames_of s)) = here.room space in
-      let bottom : 0x8000 ≤ base s.callers = law.above s.callers in
-      let high : 0x8000 ≤ next m.sp = omega (arith, r.is) in
+      let high : 0x8000 ≤ next m.sp = omega (arith, law.above s.callers, r.is) in
       let from : ℕ = plus m.lv (byte_in o.words m.pc) in
       let l : i < length s.running.locals = slice_get_within s.running.locals i (Some v) local in
       let a : IsWordAccess (length o.words) w from (base s.callers + i) =
@@ -63,8 +62,7 @@ module _ (program : List ℕ) (has : Known program) (o : Origin) (map : IsMapEnd
       ReachesBoundary program o 7 (record { state = pipe; world = w; stalls = k }) (push s v (s.at + 4))
   wide_iload i v code code2 index local space =
       let r : IsWordAccess (length o.words) w (next m.sp) (base (frames_of s)) = here.room space in
-      let bottom : 0x8000 ≤ base s.callers = law.above s.callers in
-      let high : 0x8000 ≤ next m.sp = omega (arith, r.is) in
+      let high : 0x8000 ≤ next m.sp = omega (arith, law.above s.callers, r.is) in
       let op2 : byte_in o.words m.pc ≡ 0x15 = c.p0.byte ∙ code2 in
       let from : ℕ = plus m.lv (256 * byte_in o.words (plus m.pc 1) + byte_in o.words (plus m.pc 1 + 1)) in
       let l : i < length s.running.locals = slice_get_within s.running.locals i (Some v) local in
@@ -86,8 +84,7 @@ module _ (program : List ℕ) (has : Known program) (o : Origin) (map : IsMapEnd
       ReachesBoundary program o 6 (record { state = pipe; world = w; stalls = k }) (push s v (s.at + 3))
   ldc_w i v code index small constant space =
       let r : IsWordAccess (length o.words) w (next m.sp) (base (frames_of s)) = here.room space in
-      let bottom : 0x8000 ≤ base s.callers = law.above s.callers in
-      let high : 0x8000 ≤ next m.sp = omega (arith, r.is) in
+      let high : 0x8000 ≤ next m.sp = omega (arith, law.above s.callers, r.is) in
       let from : ℕ = plus m.cpp (256 * byte_in o.words m.pc + byte_in o.words (m.pc + 1)) in
       let a : IsWordAccess (length o.words) w from (0x4000 + i) =
       law.access (length o.words) w from (0x4000 + i)
@@ -112,8 +109,7 @@ module _ (program : List ℕ) (has : Known program) (o : Origin) (map : IsMapEnd
       let a : IsWordAccess (length o.words) w to (base s.callers + i) =
       here.local to i l (law.words.plus_is h.holds.lv_is (c.p0.byte ∙ sym index) refl (omega (arith, h.holds.fits, map.high))) in
       let same : slice_set w.words to m.tos ≡ slice_set w.words (base s.callers + i) y = ap₂ (slice_set w.words) a.is t.tos_is in
-      let bottom : 0x8000 ≤ base s.callers = law.above s.callers in
-      let high : 0x8000 ≤ to = omega (arith, a.is) in
+      let high : 0x8000 ≤ to = omega (arith, law.above s.callers, a.is) in
       comes program has o map Issues (Issues ∷ Issues ∷ Issues ∷ HeldUp ∷ HeldUp ∷ Issues ∷ HeldUp ∷ HeldUp ∷ [])
       (byte_in o.words (s.at + 2) ∷ []) pipe w k 0x36 s _ h code (assumption c)
       (at_boundary o _ _ _
@@ -132,8 +128,7 @@ module _ (program : List ℕ) (has : Known program) (o : Origin) (map : IsMapEnd
       here.local to i l (law.words.plus_is h.holds.lv_is (pair_at o.words (plus m.pc 1) (s.at + 2) (s.at + 3) c.p1 (omega arith)
       ∙ sym index) refl (omega (arith, h.holds.fits, map.high))) in
       let same : slice_set w.words to m.tos ≡ slice_set w.words (base s.callers + i) y = ap₂ (slice_set w.words) a.is t.tos_is in
-      let bottom : 0x8000 ≤ base s.callers = law.above s.callers in
-      let high : 0x8000 ≤ to = omega (arith, a.is) in
+      let high : 0x8000 ≤ to = omega (arith, law.above s.callers, a.is) in
       comes program has o map Issues (Issues ∷ Issues ∷ Issues ∷ Issues ∷ HeldUp ∷ HeldUp ∷ Issues ∷ HeldUp ∷ HeldUp ∷ [])
       (0x36 ∷ byte_in o.words (s.at + 4) ∷ []) pipe w k 0xC4 s _ h code (assumption c)
       (at_boundary o _ _ _
@@ -155,8 +150,7 @@ module _ (program : List ℕ) (has : Known program) (o : Origin) (map : IsMapEnd
       let same : slice_set w.words at
       (plus (read_value (length o.words) w.words w.untaken at) (signed_byte (byte_in o.words (plus m.pc 1)))) ≡ slice_set w.words
       (base s.callers + i) y = ap₂ (slice_set w.words) a.is is in
-      let bottom : 0x8000 ≤ base s.callers = law.above s.callers in
-      let high : 0x8000 ≤ at = omega (arith, a.is) in
+      let high : 0x8000 ≤ at = omega (arith, law.above s.callers, a.is) in
       comes program has o map Issues (Issues ∷ HeldUp ∷ HeldUp ∷ Issues ∷ HeldUp ∷ HeldUp ∷ [])
       (byte_in o.words (s.at + 3) ∷ []) pipe w k 0x84 s _ h code (assumption c)
       (at_boundary o _ _ _
@@ -182,8 +176,7 @@ module _ (program : List ℕ) (has : Known program) (o : Origin) (map : IsMapEnd
       (plus (read_value (length o.words) w.words w.untaken at)
       (signed_pair (byte_in o.words (plus (plus m.pc 1) 2)) (byte_in o.words (plus (plus m.pc 1) 2 + 1)))) ≡ slice_set w.words
       (base s.callers + i) y = ap₂ (slice_set w.words) a.is is in
-      let bottom : 0x8000 ≤ base s.callers = law.above s.callers in
-      let high : 0x8000 ≤ at = omega (arith, a.is) in
+      let high : 0x8000 ≤ at = omega (arith, law.above s.callers, a.is) in
       comes program has o map Issues (Issues ∷ Issues ∷ Issues ∷ HeldUp ∷ HeldUp ∷ Issues ∷ HeldUp ∷ HeldUp ∷ [])
       (0x84 ∷ byte_in o.words (s.at + 6) ∷ []) pipe w k 0xC4 s _ h code (assumption c)
       (at_boundary o _ _ _

@@ -50,8 +50,7 @@ module _ (program : List ℕ) (has : Known program) (o : Origin) (map : IsMapEnd
       ReachesBoundary program o 3 (record { state = pipe; world = w; stalls = k }) (push s (signed_byte (byte_in o.words (s.at + 1))) (s.at + 2))
   bipush code space =
       let r : IsWordAccess (length o.words) w (next m.sp) (base (frames_of s)) = here.room space in
-      let bottom : 0x8000 ≤ base s.callers = law.above s.callers in
-      let high : 0x8000 ≤ next m.sp = omega (arith, r.is) in
+      let high : 0x8000 ≤ next m.sp = omega (arith, law.above s.callers, r.is) in
       let v : signed_byte (byte_in o.words m.pc) ≡ signed_byte (byte_in o.words (s.at + 1)) = ap signed_byte c.p0.byte in
       comes program has o map Issues (Issues ∷ HeldUp ∷ HeldUp ∷ []) (byte_in o.words (s.at + 2) ∷ []) pipe w k 0x10 s _ h code (assumption c)
       (at_boundary o _ _ _
@@ -75,8 +74,7 @@ module _ (program : List ℕ) (has : Known program) (o : Origin) (map : IsMapEnd
   dup y rest code ops space =
       let t : Top o s m.sp m.lv m.cpp m.tos w y rest = here.top y rest ops in
       let r : IsWordAccess (length o.words) w (next m.sp) (base (frames_of s)) = here.room space in
-      let bottom : 0x8000 ≤ base s.callers = law.above s.callers in
-      let high : 0x8000 ≤ next m.sp = omega (arith, r.is) in
+      let high : 0x8000 ≤ next m.sp = omega (arith, law.above s.callers, r.is) in
       comes program has o map Issues (Issues ∷ HeldUp ∷ HeldUp ∷ []) (byte_in o.words (s.at + 1) ∷ []) pipe w k 0x59 s _ h code (assumption c)
       (at_boundary o _ _ _
       (here.pushes s.running.operands _ (s.at + 1) _ _ _ _ _ s.untaken h.holds.frames space
@@ -108,8 +106,7 @@ module _ (program : List ℕ) (has : Known program) (o : Origin) (map : IsMapEnd
       ReachesBoundary program o 6 (record { state = pipe; world = w; stalls = k }) (moved s (plus x y ∷ rest) (s.at + 1))
   iadd y x rest code ops =
       let t : Two o s m.sp m.lv m.cpp m.tos w y x rest = here.two y x rest ops in
-      let bottom : 0x8000 ≤ base s.callers = law.above s.callers in
-      let high : 0x8000 ≤ before m.sp = omega (arith, t.at.is) in
+      let high : 0x8000 ≤ before m.sp = omega (arith, law.above s.callers, t.at.is) in
       let v : plus (read_value (length o.words) w.words w.untaken (before m.sp)) m.tos ≡ plus x y = ap₂ plus t.second t.tos_is in
       comes program has o map Issues (Issues ∷ HeldUp ∷ HeldUp ∷ Issues ∷ HeldUp ∷ HeldUp ∷ [])
       (byte_in o.words (s.at + 1) ∷ []) pipe w k 0x60 s _ h code (assumption c)
@@ -122,8 +119,7 @@ module _ (program : List ℕ) (has : Known program) (o : Origin) (map : IsMapEnd
       ReachesBoundary program o 6 (record { state = pipe; world = w; stalls = k }) (moved s (minus x y ∷ rest) (s.at + 1))
   isub y x rest code ops =
       let t : Two o s m.sp m.lv m.cpp m.tos w y x rest = here.two y x rest ops in
-      let bottom : 0x8000 ≤ base s.callers = law.above s.callers in
-      let high : 0x8000 ≤ before m.sp = omega (arith, t.at.is) in
+      let high : 0x8000 ≤ before m.sp = omega (arith, law.above s.callers, t.at.is) in
       let v : minus (read_value (length o.words) w.words w.untaken (before m.sp)) m.tos ≡ minus x y = ap₂ minus t.second t.tos_is in
       comes program has o map Issues (Issues ∷ HeldUp ∷ HeldUp ∷ Issues ∷ HeldUp ∷ HeldUp ∷ [])
       (byte_in o.words (s.at + 1) ∷ []) pipe w k 0x64 s _ h code (assumption c)
@@ -136,8 +132,7 @@ module _ (program : List ℕ) (has : Known program) (o : Origin) (map : IsMapEnd
       ReachesBoundary program o 6 (record { state = pipe; world = w; stalls = k }) (moved s (bit_and x y ∷ rest) (s.at + 1))
   iand y x rest code ops =
       let t : Two o s m.sp m.lv m.cpp m.tos w y x rest = here.two y x rest ops in
-      let bottom : 0x8000 ≤ base s.callers = law.above s.callers in
-      let high : 0x8000 ≤ before m.sp = omega (arith, t.at.is) in
+      let high : 0x8000 ≤ before m.sp = omega (arith, law.above s.callers, t.at.is) in
       let v : bit_and (read_value (length o.words) w.words w.untaken (before m.sp)) m.tos ≡ bit_and x y = ap₂ bit_and t.second t.tos_is in
       comes program has o map Issues (Issues ∷ HeldUp ∷ HeldUp ∷ Issues ∷ HeldUp ∷ HeldUp ∷ [])
       (byte_in o.words (s.at + 1) ∷ []) pipe w k 0x7E s _ h code (assumption c)
@@ -150,8 +145,7 @@ module _ (program : List ℕ) (has : Known program) (o : Origin) (map : IsMapEnd
       ReachesBoundary program o 6 (record { state = pipe; world = w; stalls = k }) (moved s (bit_or x y ∷ rest) (s.at + 1))
   ior y x rest code ops =
       let t : Two o s m.sp m.lv m.cpp m.tos w y x rest = here.two y x rest ops in
-      let bottom : 0x8000 ≤ base s.callers = law.above s.callers in
-      let high : 0x8000 ≤ before m.sp = omega (arith, t.at.is) in
+      let high : 0x8000 ≤ before m.sp = omega (arith, law.above s.callers, t.at.is) in
       let v : bit_or (read_value (length o.words) w.words w.untaken (before m.sp)) m.tos ≡ bit_or x y = ap₂ bit_or t.second t.tos_is in
       comes program has o map Issues (Issues ∷ HeldUp ∷ HeldUp ∷ Issues ∷ HeldUp ∷ HeldUp ∷ [])
       (byte_in o.words (s.at + 1) ∷ []) pipe w k 0xB0 s _ h code (assumption c)
@@ -164,8 +158,7 @@ module _ (program : List ℕ) (has : Known program) (o : Origin) (map : IsMapEnd
       ReachesBoundary program o 6 (record { state = pipe; world = w; stalls = k }) (moved s (bit_or x y ∷ rest) (s.at + 1))
   ior80 y x rest code ops =
       let t : Two o s m.sp m.lv m.cpp m.tos w y x rest = here.two y x rest ops in
-      let bottom : 0x8000 ≤ base s.callers = law.above s.callers in
-      let high : 0x8000 ≤ before m.sp = omega (arith, t.at.is) in
+      let high : 0x8000 ≤ before m.sp = omega (arith, law.above s.callers, t.at.is) in
       let v : bit_or (read_value (length o.words) w.words w.untaken (before m.sp)) m.tos ≡ bit_or x y = ap₂ bit_or t.second t.tos_is in
       comes program has o map Issues (Issues ∷ HeldUp ∷ HeldUp ∷ Issues ∷ HeldUp ∷ HeldUp ∷ [])
       (byte_in o.words (s.at + 1) ∷ []) pipe w k 0x80 s _ h code (assumption c)
