@@ -1,5 +1,5 @@
 -- Runs of the definition with the cycles of two machines end alike, and so do the machines.
-use Rattle.std.proofs.Common.{◌≡◌, ◌≢◌, ℕ, zero, suc, ◌+◌, ◌++◌, Bool, true, false, Option, Some, None, List, refl, sym, ◌∙◌, ap}
+use Rattle.std.proofs.Common.{◌≡◌, ◌≢◌, ℕ, zero, suc, ◌+◌, ◌++◌, Bool, true, false, Option, Some, None, List, refl, sym, ◌∙◌, ap, subst}
 use Rattle.std.specs.Prelude.{nat_le, IfSome}
 use Rattle.std.proofs.lemmas.Option.{same_Some}
 use Rattle.mic_clock.specs.declared.counts.Counts.{Counts}
@@ -23,6 +23,9 @@ pub record Alike (f g : Finish) : Type 0 where
   pub left : f.left ≡ g.left
   pub instructions : f.instructions ≡ g.instructions
 
+carried : (x y f g : Finish) → x ≡ f → y ≡ g → Alike x y → Alike f g
+carried x y f g one other h = subst (λ (z : Finish). Alike z g) one (subst (λ (z : Finish). Alike x z) other h)
+
 module _ (p q : TimedImage) (image : q.image ≡ p.image) (stack_end : q.stack_end ≡ p.stack_end) (b c : ℕ) where
   abbrev Later : ℕ → ℕ → Type 0
   Later n k = (at to : Point) (f g : Finish) → at.state ≡ to.state → at.instructions ≡ to.instructions →
@@ -32,29 +35,14 @@ module _ (p q : TimedImage) (image : q.image ≡ p.image) (stack_end : q.stack_e
       after_outcome (finish_from p b n) p at out ≡ Some f → after_outcome (finish_from q c k) q to out ≡ Some g → f.end ≢ defined.Bound → g.end ≢ defined.Bound → Alike f g
   by_outcome n k later at to f g same many (Goes s) ef eg nf ng = later (point_after p at s) (point_after q to s) f g refl (ap (λ (i : ℕ). i + 1) many) ef eg nf ng
   by_outcome n k later at to f g same many Halts ef eg nf ng =
-      let one : completed p at defined.Halt ≡ f = same_Some _ _ ef in
-      let other : completed q to defined.Halt ≡ g = same_Some _ _ eg in
-      record {
-        end = ap (λ (x : Finish). x.end) (sym one) ∙ ap (λ (x : Finish). x.end) other;
-        left = ap (λ (x : Finish). x.left) (sym one) ∙ (same ∙ ap (λ (x : Finish). x.left) other);
-        instructions = ap (λ (x : Finish). x.instructions) (sym one) ∙ (ap (λ (i : ℕ). i + 1) many ∙ ap (λ (x : Finish). x.instructions) other);
-      }
+      carried (completed p at defined.Halt) (completed q to defined.Halt) f g (same_Some _ _ ef) (same_Some _ _ eg)
+      (record { end = refl; left = same; instructions = ap (λ (i : ℕ). i + 1) many })
   by_outcome n k later at to f g same many Errs ef eg nf ng =
-      let one : completed p at defined.Err ≡ f = same_Some _ _ ef in
-      let other : completed q to defined.Err ≡ g = same_Some _ _ eg in
-      record {
-        end = ap (λ (x : Finish). x.end) (sym one) ∙ ap (λ (x : Finish). x.end) other;
-        left = ap (λ (x : Finish). x.left) (sym one) ∙ (same ∙ ap (λ (x : Finish). x.left) other);
-        instructions = ap (λ (x : Finish). x.instructions) (sym one) ∙ (ap (λ (i : ℕ). i + 1) many ∙ ap (λ (x : Finish). x.instructions) other);
-      }
+      carried (completed p at defined.Err) (completed q to defined.Err) f g (same_Some _ _ ef) (same_Some _ _ eg)
+      (record { end = refl; left = same; instructions = ap (λ (i : ℕ). i + 1) many })
   by_outcome n k later at to f g same many (Limits left) ef eg nf ng =
-      let one : stopped at defined.StackLimit left ≡ f = same_Some _ _ ef in
-      let other : stopped to defined.StackLimit left ≡ g = same_Some _ _ eg in
-      record {
-        end = ap (λ (x : Finish). x.end) (sym one) ∙ ap (λ (x : Finish). x.end) other;
-        left = ap (λ (x : Finish). x.left) (sym one) ∙ ap (λ (x : Finish). x.left) other;
-        instructions = ap (λ (x : Finish). x.instructions) (sym one) ∙ (many ∙ ap (λ (x : Finish). x.instructions) other);
-      }
+      carried (stopped at defined.StackLimit left) (stopped to defined.StackLimit left) f g (same_Some _ _ ef) (same_Some _ _ eg)
+      (record { end = refl; left = refl; instructions = many })
   by_outcome n k later at to f g same many Stuck ef eg nf ng = absurd (cc)
 
   by_tests : (n k : ℕ) → Later n k → (at to : Point) (f g : Finish) → at.state ≡ to.state → at.instructions ≡ to.instructions → (t u : Bool) →
