@@ -1,5 +1,6 @@
 -- What comes next in a run of a verified image, and how the law of a machine's instructions becomes the law of its boundaries.
 use Rattle.std.proofs.Common.{◌≡◌, ℕ, ◌+◌, ◌*◌, ◌<◌, Bool, true, false, Some, List, [], ◌∷◌, ◌++◌, length, refl, arith, sym, ◌∙◌, ap, ap₂, subst, inl, inr}
+use Rattle.std.proofs.lemmas.Option.{same_Some}
 use Rattle.mic_words.specs.Arithmetic.{signed_byte, signed_pair}
 use Rattle.console_port.specs.World.{World, byte_in}
 use Rattle.mic_clock.specs.Meaning.{Meaning}
@@ -94,7 +95,7 @@ module _ (v : VerifiedView) (o : Origin) (loads : Loads v o) (known : Known) whe
   some_byte true opcode operands = omega arith
   some_byte false opcode operands = omega arith
 
-  pub next : (s : State) → Fine v s → (i : Instr) × IsNext v o s i
+  next : (s : State) → Fine v s → (i : Instr) × IsNext v o s i
   next s fine =
       let sound : KeepsSound v.image v.map.stack_end v.main_locals =
       known.sound v.image v.map.stack_end v.main_locals loads.accepted.accepts loads.accepted.main in
@@ -102,8 +103,14 @@ module _ (v : VerifiedView) (o : Origin) (loads : Loads v o) (known : Known) whe
       let some : 0 < size_of (row_of f.0) = some_byte (row_of f.0).wide (row_of f.0).opcode (operand_bytes (row_of f.0).operands) in
       (f.0, record { begins = omega (arith, some, f.1.whole); finds = f.1; reads = reads s f.0 f.1 })
 
+  -- the next instruction is the one that is read
+  pub next_of : (s : State) → Fine v s → (i : Instr) → instr_at v.image.text s.at ≡ Some i → IsNext v o s i
+  next_of s fine i code =
+      let n = next s fine in
+      subst (λ (j : Instr). IsNext v o s j) (same_Some n.0 i (sym n.1.finds.code ∙ code)) n.1
+
   -- what the outcome of the next instruction shows
-  said : (s : State) (i : Instr) (out : StepOutcome) → instr_at v.image.text s.at ≡ Some i → step_outcome v.image v.map.stack_end s ≡ out → IsOutcome v.image v.map.stack_end s i out
+  pub said : (s : State) (i : Instr) (out : StepOutcome) → instr_at v.image.text s.at ≡ Some i → step_outcome v.image v.map.stack_end s ≡ out → IsOutcome v.image v.map.stack_end s i out
   said s i out code e =
       subst (λ (x : StepOutcome). IsOutcome v.image v.map.stack_end s i x) (ap (step_if_any v.image v.map.stack_end s) (sym code) ∙ e) (says v.image v.map.stack_end s i)
 

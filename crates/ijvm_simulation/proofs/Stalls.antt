@@ -2,7 +2,6 @@
 use Rattle.std.proofs.Common.{◌≡◌, ℕ, suc, ◌+◌, ◌<◌, Some, false, List, refl, arith, sym, ◌∙◌, ap, subst, zero-add}
 use Rattle.std.specs.Prelude.{nat_le}
 use Rattle.std.proofs.lemmas.Bool.Decides.{nat_tests}
-use Rattle.std.proofs.lemmas.Option.{same_Some}
 use Rattle.console_port.specs.World.{World, StackLimit}
 use Rattle.mic_clock.specs.Meaning.{Meaning, Refused}
 use Rattle.mic_clock.specs.Run.{MicroRun, turns, after_step, last_cycles}
@@ -10,22 +9,21 @@ use Rattle.ijvm_image.specs.Image.{ImageView}
 use Rattle.ijvm_instr.specs.declared.instr.Instr.{Instr}
 use Rattle.ijvm_instr.specs.Instructions.{instr_at}
 use Rattle.ijvm_meaning.specs.Frames.{State, start_of}
-use Rattle.ijvm_meaning.specs.Step.{StepOutcome, Goes, Limits, step_outcome, step_if_any}
+use Rattle.ijvm_meaning.specs.Step.{Goes, Limits, step_outcome}
 use Rattle.ijvm_meaning.specs.Cost.{Timing, cost, cost_at, next_cost}
 use Rattle.ijvm_meaning.specs.Run.{TimedImage, Point, point_after, first_point}
 use Rattle.verifier_facts.specs.Accepted.{VerifiedView}
 use Rattle.ijvm_simulation.specs.Stands.{Origin}
-use Rattle.ijvm_simulation.specs.Outcomes.{Went, Overran, IsOutcome}
+use Rattle.ijvm_simulation.specs.Outcomes.{Went, Overran}
 use Rattle.ijvm_simulation.specs.Verified.{program, Loads, Fine, IsNext}
 use Rattle.ijvm_simulation.specs.Simulates.{IsBoundary}
 use Rattle.ijvm_simulation.specs.Law.{Law, ShowsState, Boots, reset_moment}
 use Rattle.mic_image_board.specs.Reset.{reset_run}
 use Rattle.ijvm_simulation.specs.Stalls.{MovesWithStalls, OverrunsWithStalls, TakesWithStalls, HasStalled, StoppedWithin, Booted, Behind}
-use Rattle.ijvm_simulation.proofs.Cases.{says}
 use Rattle.ijvm_simulation.proofs.Passes.{not_boundary}
 use Rattle.ijvm_simulation.proofs.Turns.{moment_of, run_at, run_inside, IsReady, ready_inside, whole_turn, clocks, turns-add, pass_turns, pass_turns_inside}
 use Rattle.ijvm_simulation.proofs.Instruction.{Law as BoundaryLaw, Keeps, Moved, moved}
-use Rattle.ijvm_simulation.proofs.Next.{Known, fine_start, keeps, next, boundary_law}
+use Rattle.ijvm_simulation.proofs.Next.{Known, fine_start, keeps, next_of, said, boundary_law}
 use Rattle.ijvm_simulation.proofs.Boots.{booted}
 
 module _ {S : Type 0} (m : Meaning S) (store : List ℕ) (IsAt : State → S → World → Type 0) (o : Origin) (v : VerifiedView) (loads : Loads v o) (known : Known)
@@ -47,11 +45,8 @@ module _ {S : Type 0} (m : Meaning S) (store : List ℕ) (IsAt : State → S →
       instr_at v.image.text at.state.at ≡ Some i → step_outcome v.image v.map.stack_end at.state ≡ Goes to →
       (turns m store (Some bound) (next_cost v.image timing at.state) r).counts.stalls ≡ stalls + stalls_of v.image i
   stalls_behind at stalls r i to h below code goes =
-      let n = next v o loads known at.state h.fine in
-      let same : n.0 ≡ i = same_Some n.0 i (sym n.1.finds.code ∙ code) in
-      let is : IsNext v o at.state i = subst (λ (j : Instr). IsNext v o at.state j) same n.1 in
-      let went : Went v.image v.map.stack_end at.state to i =
-      subst (λ (x : StepOutcome). IsOutcome v.image v.map.stack_end at.state i x) (ap (step_if_any v.image v.map.stack_end at.state) (sym code) ∙ goes) (says v.image v.map.stack_end at.state i) in
+      let is : IsNext v o at.state i = next_of v o loads known at.state h.fine i code in
+      let went : Went v.image v.map.stack_end at.state to i = said v o loads known at.state i (Goes to) code goes in
       let w : MovesWithStalls m store IsAt o.given (moment_of r) (cost v.image timing i at.state) (stalls_of v.image i) to =
       takes.goes at.state to (moment_of r) i tt h.fine is h.boundary.stands went in
       let shows : ShowsState m store IsAt o.given to w.moves.there.state w.moves.there.world = law.shows to w.moves.there.state w.moves.there.world w.moves.stands in
@@ -86,11 +81,8 @@ module _ {S : Type 0} (m : Meaning S) (store : List ℕ) (IsAt : State → S →
       instr_at v.image.text at.state.at ≡ Some i → step_outcome v.image v.map.stack_end at.state ≡ Limits left →
       (n : ℕ) × StoppedWithin (stalls + stalls_of v.image i) (turns m store (Some bound) n r)
   cut_behind at stalls r i left h below code limits =
-      let n = next v o loads known at.state h.fine in
-      let same : n.0 ≡ i = same_Some n.0 i (sym n.1.finds.code ∙ code) in
-      let is : IsNext v o at.state i = subst (λ (j : Instr). IsNext v o at.state j) same n.1 in
-      let over : Overran v.image v.map.stack_end at.state left i =
-      subst (λ (x : StepOutcome). IsOutcome v.image v.map.stack_end at.state i x) (ap (step_if_any v.image v.map.stack_end at.state) (sym code) ∙ limits) (says v.image v.map.stack_end at.state i) in
+      let is : IsNext v o at.state i = next_of v o loads known at.state h.fine i code in
+      let over : Overran v.image v.map.stack_end at.state left i = said v o loads known at.state i (Limits left) code limits in
       let w : OverrunsWithStalls m store IsAt o.given (moment_of r) (stalls_of v.image i) left = takes.limits at.state left (moment_of r) i tt h.fine is h.boundary.stands over in
       let u = w.overruns in
       let t : nat_le bound at.cycles ≡ false = grind (arith, nat_tests) in
