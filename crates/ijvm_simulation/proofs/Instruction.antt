@@ -51,6 +51,12 @@ module _ {S : Type 0} (m : Meaning S) (words : List ℕ) (IsAt : State → S →
       let e : last_cycles r.counts.boundary ≡ at.cycles = ap last_cycles h.boundary in
       omega (arith, h.cycles)
 
+  -- n + 1 cycles inside an instruction
+  inside_turns : (n : ℕ) (there : Moment S) → nat_le bound at.cycles ≡ false → HasWord m r.state → n < 1023 → pass m words n (moment_of r) ≡ Some there →
+      m.is_boundary there.state ≡ false → turns m words (Some bound) (suc n) r ≡ run_inside m r (r.counts.cycles + n + 1) there
+  inside_turns n there t begins short passes off =
+      pass_turns_inside m words bound n r there (r.counts.cycles + n + 1) refl (ready t begins) (near n (omega (arith, short))) passes off
+
   -- the boundary after an instruction that goes on
   pub record Moved (to : State) : Type 0 where
     pub k : ℕ
@@ -119,25 +125,20 @@ module _ {S : Type 0} (m : Meaning S) (words : List ℕ) (IsAt : State → S →
         quiet = λ j pos l. absurd (omega arith);
       }
 
-  -- by HALT or ERR
-  stops_behind : (mpc : ℕ) (e : End) (f : Finish) (v : StopsBehind m words IsAt before (moment_of r) (next_cost p.image p.timing at.state) mpc) → nat_le bound at.cycles ≡ false →
-      end_before m v.there.state (run_inside m r (r.counts.cycles + v.n + 1) v.there).counts ≡ Some e →
-      IsEnd before f (after_end_or_step m words (Some e) (run_inside m r (r.counts.cycles + v.n + 1) v.there)) → Ended f
-  stops_behind mpc e f v t ending is =
-      let q : MicroRun S = run_inside m r (r.counts.cycles + v.n + 1) v.there in
-      let first : turns m words (Some bound) (suc v.n) r ≡ q =
-      pass_turns_inside m words bound v.n r v.there (r.counts.cycles + v.n + 1) refl (ready t v.begins) (near v.n (omega (arith, v.short))) v.passes v.off in
-      let whole : turns m words (Some bound) (suc v.n + 1) r ≡ after_end_or_step m words (Some e) q =
-      turns-add m words bound (suc v.n) 1 r ∙ (ap (whole_turn m words bound) first ∙ ending_turn m words bound q e refl v.off ending) in
+  -- by a turn after n + 1 cycles inside an instruction
+  ended_by : (f : Finish) (n : ℕ) (there : Moment S) (last : MicroRun S) → nat_le bound at.cycles ≡ false → HasWord m r.state → n < 1023 →
+      pass m words n (moment_of r) ≡ Some there → m.is_boundary there.state ≡ false → turns m words (Some bound) (suc n + 1) r ≡ last → IsEnd before f last → Ended f
+  ended_by f n there last t begins short passes off whole is =
       record {
-        k = suc v.n + 1;
+        k = suc n + 1;
         some = omega arith;
         is = subst (λ (x : MicroRun S). IsEnd before f x) (sym whole) is;
-        quiet = λ j pos l. elim (cases_lt j (suc v.n)) [
-          | inl low ↦ inside_pass v.n v.there t v.begins (omega (arith, v.short)) v.passes j pos low
+        quiet = λ j pos l. elim (cases_lt j (suc n)) [
+          | inl low ↦ inside_pass n there t begins (omega (arith, short)) passes j pos low
           | inr high ↦
-              let here : j ≡ suc v.n = omega arith in
-              ap (λ (i : ℕ). m.is_boundary (turns m words (Some bound) i r).state) here ∙ (ap (λ (x : MicroRun S). m.is_boundary x.state) first ∙ v.off)
+              let here : j ≡ suc n = omega arith in
+              ap (λ (i : ℕ). m.is_boundary (turns m words (Some bound) i r).state) here
+              ∙ (ap (λ (x : MicroRun S). m.is_boundary x.state) (inside_turns n there t begins short passes off) ∙ off)
         ];
       }
 
@@ -183,7 +184,12 @@ module _ {S : Type 0} (m : Meaning S) (words : List ℕ) (IsAt : State → S →
       ((x : S) (c : Counts) → (m.registers x).mpc ≡ mpc → end_before m x c ≡ Some (board_end e)) → completes (board_end e) ≡ true → Ended (completed p at e)
   stops mpc e (inl v) t ending done = stops_here mpc e v t (ending r.state r.counts v.mpc_is) done
   stops mpc e (inr v) t ending done =
-      stops_behind mpc (board_end e) (completed p at e) v t (ending v.there.state (run_inside m r (r.counts.cycles + v.n + 1) v.there).counts v.mpc_is) (completed_behind mpc e v done)
+      let q : MicroRun S = run_inside m r (r.counts.cycles + v.n + 1) v.there in
+      ended_by (completed p at e) v.n v.there (after_end_or_step m words (Some (board_end e)) q) t v.begins v.short v.passes v.off
+      (turns-add m words bound (suc v.n) 1 r
+      ∙ (ap (whole_turn m words bound) (inside_turns v.n v.there t v.begins v.short v.passes v.off)
+      ∙ ending_turn m words bound q (board_end e) refl v.off (ending v.there.state q.counts v.mpc_is)))
+      (completed_behind mpc e v done)
 
   pub halts : nat_le bound at.cycles ≡ false → step_outcome p.image p.stack_end at.state ≡ Halts → Ended (completed p at defined.Halt)
   halts t o = stops 255 defined.Halt (law.halts at.state (moment_of r) fine h.stands o) t ends_by refl
@@ -200,31 +206,23 @@ module _ {S : Type 0} (m : Meaning S) (words : List ℕ) (IsAt : State → S →
           let at_err : ((m.registers x).mpc == 254) ≡ true = ap (λ (i : ℕ). i == 254) is in
           rw (not_halt, at_err)
 
+  -- some cycles inside an instruction, and then a write that meets the stack's end
+  pub overrun : (left : State) (v : Overruns m words IsAt before (moment_of r) left) → nat_le bound at.cycles ≡ false →
+      turns m words (Some bound) (suc v.n + 1) r ≡ after_step m words (run_inside m r (r.counts.cycles + v.n + 1) v.there) (Refused (StackLimit v.at))
+  overrun left v t =
+      let q : MicroRun S = run_inside m r (r.counts.cycles + v.n + 1) v.there in
+      let nearby : r.counts.cycles + v.n + 1 < last_cycles r.counts.boundary + 1024 = omega (arith, near (v.n + 1) (omega (arith, v.short))) in
+      turns-add m words bound (suc v.n) 1 r
+      ∙ (ap (whole_turn m words bound) (inside_turns v.n v.there t v.begins v.short v.passes (not_boundary m v.there.state v.inside))
+      ∙ clocks m words bound q (Refused (StackLimit v.at)) (ready_inside m words bound r v.there (r.counts.cycles + v.n + 1) v.inside) nearby v.refused)
+
   -- by the stack limit
   pub limits : (left : State) → nat_le bound at.cycles ≡ false → step_outcome p.image p.stack_end at.state ≡ Limits left → Ended (stopped at defined.StackLimit left)
   limits left t o =
       let v : Overruns m words IsAt before (moment_of r) left = law.limits at.state left (moment_of r) fine h.stands o in
-      let q : MicroRun S = run_inside m r (r.counts.cycles + v.n + 1) v.there in
-      let off : m.is_boundary v.there.state ≡ false = not_boundary m v.there.state v.inside in
-      let first : turns m words (Some bound) (suc v.n) r ≡ q =
-      pass_turns_inside m words bound v.n r v.there (r.counts.cycles + v.n + 1) refl (ready t v.begins) (near v.n (omega (arith, v.short))) v.passes off in
-      let nearby : r.counts.cycles + v.n + 1 < last_cycles r.counts.boundary + 1024 = omega (arith, near (v.n + 1) (omega (arith, v.short))) in
-      let last : whole_turn m words bound q ≡ after_step m words q (Refused (StackLimit v.at)) =
-      clocks m words bound q (Refused (StackLimit v.at)) (ready_inside m words bound r v.there (r.counts.cycles + v.n + 1) v.inside) nearby v.refused in
-      let whole : turns m words (Some bound) (suc v.n + 1) r ≡ after_step m words q (Refused (StackLimit v.at)) =
-      turns-add m words bound (suc v.n) 1 r ∙ (ap (whole_turn m words bound) first ∙ last) in
-      record {
-        k = suc v.n + 1;
-        some = omega arith;
-        is = subst (λ (x : MicroRun S). IsEnd before (stopped at defined.StackLimit left) x) (sym whole)
-            (record { end = refl; cycles = λ ne. absurd (ne refl); instructions = h.instructions; boundary = h.boundary; untaken = v.untaken; given = v.given });
-        quiet = λ j pos l. elim (cases_lt j (suc v.n)) [
-          | inl low ↦ inside_pass v.n v.there t v.begins (omega (arith, v.short)) v.passes j pos low
-          | inr high ↦
-              let here : j ≡ suc v.n = omega arith in
-              ap (λ (i : ℕ). m.is_boundary (turns m words (Some bound) i r).state) here ∙ (ap (λ (x : MicroRun S). m.is_boundary x.state) first ∙ off)
-        ];
-      }
+      ended_by (stopped at defined.StackLimit left) v.n v.there (after_step m words (run_inside m r (r.counts.cycles + v.n + 1) v.there) (Refused (StackLimit v.at)))
+      t v.begins v.short v.passes (not_boundary m v.there.state v.inside) (overrun left v t)
+      (record { end = refl; cycles = λ ne. absurd (ne refl); instructions = h.instructions; boundary = h.boundary; untaken = v.untaken; given = v.given })
 
   -- how both runs go on from here, or end
   pub data Turnout : Type 0 where

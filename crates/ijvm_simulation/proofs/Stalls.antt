@@ -2,9 +2,9 @@
 use Rattle.std.proofs.Common.{◌≡◌, ℕ, suc, ◌+◌, ◌<◌, Some, false, List, refl, arith, sym, ◌∙◌, ap, subst, zero-add}
 use Rattle.std.specs.Prelude.{nat_le}
 use Rattle.std.proofs.lemmas.Bool.Decides.{nat_tests}
-use Rattle.console_port.specs.World.{World, StackLimit}
-use Rattle.mic_clock.specs.Meaning.{Meaning, Refused}
-use Rattle.mic_clock.specs.Run.{MicroRun, turns, after_step, last_cycles}
+use Rattle.console_port.specs.World.{World}
+use Rattle.mic_clock.specs.Meaning.{Meaning}
+use Rattle.mic_clock.specs.Run.{MicroRun, turns, last_cycles}
 use Rattle.ijvm_image.specs.Image.{ImageView}
 use Rattle.ijvm_instr.specs.declared.instr.Instr.{Instr}
 use Rattle.ijvm_instr.specs.Instructions.{instr_at}
@@ -20,9 +20,8 @@ use Rattle.ijvm_simulation.specs.Simulates.{IsBoundary}
 use Rattle.ijvm_simulation.specs.Law.{Law, ShowsState, Boots, reset_moment}
 use Rattle.mic_image_board.specs.Reset.{reset_run}
 use Rattle.ijvm_simulation.specs.Stalls.{MovesWithStalls, OverrunsWithStalls, TakesWithStalls, HasStalled, StoppedWithin, Booted, Behind}
-use Rattle.ijvm_simulation.proofs.Passes.{not_boundary}
-use Rattle.ijvm_simulation.proofs.Turns.{moment_of, run_at, run_inside, IsReady, ready_inside, whole_turn, clocks, turns-add, pass_turns, pass_turns_inside}
-use Rattle.ijvm_simulation.proofs.Instruction.{Law as BoundaryLaw, Keeps, Moved, moved}
+use Rattle.ijvm_simulation.proofs.Turns.{moment_of, run_at, IsReady, turns-add, pass_turns}
+use Rattle.ijvm_simulation.proofs.Instruction.{Law as BoundaryLaw, Keeps, Moved, moved, overrun}
 use Rattle.ijvm_simulation.proofs.Next.{Known, fine_start, keeps, next_of, said, boundary_law}
 use Rattle.ijvm_simulation.proofs.Boots.{booted}
 
@@ -84,22 +83,9 @@ module _ {S : Type 0} (m : Meaning S) (store : List ℕ) (IsAt : State → S →
       let is : IsNext v o at.state i = next_of v o loads known at.state h.fine i code in
       let over : Overran v.image v.map.stack_end at.state left i = said v o loads known at.state i (Limits left) code limits in
       let w : OverrunsWithStalls m store IsAt o.given (moment_of r) (stalls_of v.image i) left = takes.limits at.state left (moment_of r) i tt h.fine is h.boundary.stands over in
-      let u = w.overruns in
       let t : nat_le bound at.cycles ≡ false = grind (arith, nat_tests) in
-      let later : nat_le bound r.counts.cycles ≡ false = ap (nat_le bound) h.boundary.cycles ∙ t in
-      let last : last_cycles r.counts.boundary ≡ at.cycles = ap last_cycles h.boundary.boundary in
-      let ready : IsReady m bound r =
-      record { no_bound = grind (arith, nat_tests); no_halt = u.begins.no_halt; no_err = u.begins.no_err; not_ended = h.boundary.not_ended } in
-      let q : MicroRun S = run_inside m r (r.counts.cycles + u.n + 1) u.there in
-      let off : m.is_boundary u.there.state ≡ false = not_boundary m u.there.state u.inside in
-      let first : turns m store (Some bound) (suc u.n) r ≡ q =
-      pass_turns_inside m store bound u.n r u.there (r.counts.cycles + u.n + 1) refl ready (omega (arith, h.boundary.cycles, u.short)) u.passes off in
-      let nearby : r.counts.cycles + u.n + 1 < last_cycles r.counts.boundary + 1024 = omega (arith, h.boundary.cycles, u.short) in
-      let final : whole_turn m store bound q ≡ after_step m store q (Refused (StackLimit u.at)) =
-      clocks m store bound q (Refused (StackLimit u.at)) (ready_inside m store bound r u.there (r.counts.cycles + u.n + 1) u.inside) nearby u.refused in
-      let whole : turns m store (Some bound) (suc u.n + 1) r ≡ after_step m store q (Refused (StackLimit u.at)) =
-      turns-add m store bound (suc u.n) 1 r ∙ (ap (whole_turn m store bound) first ∙ final) in
-      (suc u.n + 1, subst (λ (x : MicroRun S). StoppedWithin (stalls + stalls_of v.image i) x) (sym whole) (record { end = refl; stalled = omega (arith, w.stalled, h.stalled) }))
+      let whole = overrun m store IsAt o.given p (Fine v) each (keeps v timing loads.accepted loads.image known) bound at r h.boundary h.fine left w.overruns t in
+      (suc w.overruns.n + 1, subst (λ (x : MicroRun S). StoppedWithin (stalls + stalls_of v.image i) x) (sym whole) (record { end = refl; stalled = omega (arith, w.stalled, h.stalled) }))
 
   module _ (entry booting : ℕ) (input : List ℕ) (boots : MovesWithStalls m store IsAt o.given (reset_moment m entry v.main_locals o input) timing.boot booting (start_of v.main_locals input))
       (off : Boots m store IsAt o.given timing (reset_moment m entry v.main_locals o input) (start_of v.main_locals input)) where
