@@ -1,6 +1,5 @@
 -- The listed addresses are the chosen placement.
-use Rattle.std.proofs.Common.{◌≡◌, ℕ, List, refl}
-use Rattle.std.proofs.Common.{◌<◌, zero, suc, ◌&&◌, Bool, true, nat_lt, [], ◌∷◌, length, All, Option, Some, None, subst, arith}
+use Rattle.std.proofs.Common.{◌≡◌, ℕ, List, refl, ◌<◌, zero, suc, ◌&&◌, Bool, true, nat_lt, [], ◌∷◌, length, All, Option, Some, None, subst, arith}
 use Rattle.std.specs.Prelude.{slice_index_or}
 use Rattle.std.specs.List.{list_all}
 use Rattle.std.proofs.lemmas.Bool.{ltb-true, and_parts}

@@ -9,9 +9,8 @@ use Rattle.micro_word.specs.declared.statement.Placed.{Placed}
 use Rattle.mic_clock.specs.Meaning.{Done, Refused}
 use Rattle.mic1_datapath.specs.Micro.{Micro}
 use Rattle.mic_datapath.specs.declared.ports.Ports.{Ports}
-use Rattle.mic_datapath.specs.Memory.{written, sampled, memory_refusal, byte_refusal}
+use Rattle.mic_datapath.specs.Memory.{written, sampled, memory_refusal, byte_refusal, outcome}
 use Rattle.mic1_datapath.specs.Microstep.{clock, world_after, ports_of, settled, refusal}
-use Rattle.mic_datapath.specs.Memory.{outcome}
 use Rattle.mic1_datapath.specs.Mic1.{mic1_meaning, microstep, step_of_word, driven}
 use Rattle.mic1_interpreter.proofs.Store.{shipped, HasStatements}
 use Rattle.ijvm_simulation.specs.Passes.{Moment, is_inside, outcome_at, stalls_at, last, onward, pass}

@@ -11,8 +11,7 @@ use Rattle.mic2_interpreter.specs.Stands.{Stands}
 use Rattle.mic2_interpreter.specs.Stalls.{BootsWithStall}
 use Rattle.mic2_interpreter.proofs.Store.{Known}
 use Rattle.mic2_queue.specs.Held.{Jumped, Waits}
-use Rattle.mic2_interpreter.proofs.Guided.{Goes, Lacks}
-use Rattle.mic2_interpreter.proofs.Guided.{Short, moment_of, clocked, Arrives, IsSmooth, pass-clocked}
+use Rattle.mic2_interpreter.proofs.Guided.{Goes, Lacks, Short, moment_of, clocked, Arrives, IsSmooth, pass-clocked}
 use Rattle.mic2_interpreter.proofs.Boundaries.{ReachesBoundary, at_boundary, stands_at, Place, place_at, place_on}
 use Rattle.ijvm_simulation.specs.Stands.{Origin, IsMemory}
 use Rattle.ijvm_simulation.specs.Stack.{IsMapEnd, StackLaw}
