@@ -1,18 +1,15 @@
 -- The bytes that a microstep of Mic-1 gives come after those given before.
-use Rattle.std.proofs.Common.{ℕ, Some, List, [], sym}
+use Rattle.std.proofs.Common.{ℕ, Some, None, Option, List, [], length, sym}
 use Rattle.std.proofs.lemmas.List.{append-nil}
 use Rattle.micro_word.specs.declared.statement.Mem.{Mem}
-use Rattle.micro_word.specs.declared.statement.Mem.TheVariants.{None as Idle, Read, Write}
+use Rattle.micro_word.specs.declared.statement.Mem.TheVariants.{Write}
 use Rattle.mic1_datapath.specs.Micro.{Micro}
 use Rattle.mic_datapath.specs.declared.ports.Ports.{Ports}
-use Rattle.mic_datapath.specs.Memory.{written, sampled}
-use Rattle.mic1_datapath.specs.Microstep.{ports_of, settled}
-use Rattle.std.specs.Prelude.{length, Option, None}
+use Rattle.mic_datapath.specs.Memory.{written, sampled, outcome}
+use Rattle.mic1_datapath.specs.Microstep.{ports_of, settled, clock, world_after, refusal}
 use Rattle.console_port.specs.World.{World, Refusal}
 use Rattle.mic_words.specs.declared.machine.Machine.TheVariants as machines
 use Rattle.micro_word.specs.Coding.{statement_of}
-use Rattle.mic1_datapath.specs.Microstep.{clock, world_after, refusal}
-use Rattle.mic_datapath.specs.Memory.{outcome}
 use Rattle.mic1_datapath.specs.Mic1.{step_of_word}
 use Rattle.ijvm_simulation.specs.Law.{Grows, OnDone}
 use Rattle.ijvm_simulation.specs.Words.{WordLaw}
@@ -23,8 +20,7 @@ stays xs = record { more = []; are = sym (append-nil xs) }
 module _ (words : WordLaw) where
   access_grows : (top : ℕ) (mem : Mem) (p : Ports) (w : World) → Grows w.given (sampled top mem p (written top mem p w)).given
   access_grows top Write p w = words.given_grows top w.given p.mar p.mdr
-  access_grows top Read p w = stays w.given
-  access_grows top Idle p w = stays w.given
+  access_grows top _ p w = stays w.given
 
   pub step_grows : (word : ℕ) (m : Micro) (w : World) → OnDone (λ (v : World). Grows w.given v.given) (step_of_word word m w)
   unfolding step_of_word

@@ -5,7 +5,7 @@ use Rattle.console_port.specs.World.{World, Refusal}
 use Rattle.mic_words.specs.declared.machine.Machine.TheVariants as machines
 use Rattle.micro_word.specs.Coding.{statement_of}
 use Rattle.micro_word.specs.declared.statement.Mem.{Mem}
-use Rattle.micro_word.specs.declared.statement.Mem.TheVariants.{None as Idle, Read, Write}
+use Rattle.micro_word.specs.declared.statement.Mem.TheVariants.{Write}
 use Rattle.micro_word.specs.declared.statement.Placed.{Placed}
 use Rattle.mic_datapath.specs.Registers.{ports_given}
 use Rattle.mic_datapath.specs.declared.ports.Ports.{Ports}
@@ -23,8 +23,7 @@ stays xs = record { more = []; are = sym (append-nil xs) }
 module _ (words : WordLaw) where
   access_grows : (top : ℕ) (mem : Mem) (p : Ports) (w : World) → Grows w.given (sampled top mem p (written top mem p w)).given
   access_grows top Write p w = words.given_grows top w.given p.mar p.mdr
-  access_grows top Read p w = stays w.given
-  access_grows top Idle p w = stays w.given
+  access_grows top _ p w = stays w.given
 
   pub step_grows : (word : ℕ) (m : Micro) (w : World) → OnDone (λ (v : World). Grows w.given v.given) (step_of_word word m w)
   unfolding step_of_word
