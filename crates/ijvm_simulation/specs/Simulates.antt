@@ -9,16 +9,13 @@ use Rattle.mic_clock.specs.Run.{MicroRun, turns}
 use Rattle.ijvm_meaning.specs.declared.run.RunEnd.{RunEnd}
 use Rattle.ijvm_meaning.specs.declared.run.RunEnd.TheVariants as defined
 use Rattle.ijvm_meaning.specs.Frames.{State, sp_of, lv_of}
-use Rattle.ijvm_meaning.specs.Step.{StepOutcome, Goes, Halts, Errs, Limits, Stuck, step_outcome}
+use Rattle.ijvm_meaning.specs.Step.{StepOutcome, Goes, step_outcome}
 use Rattle.ijvm_meaning.specs.Run.{TimedImage, Point, Finish, point_after, EndsBy}
 
 -- what comes after an outcome, where the run goes on; `more` is the rest of the run
 abbrev pub going_on : (Point → Option Point) → TimedImage → Point → StepOutcome → Option Point
 going_on more p at (Goes to) = more (point_after p at to)
-going_on more p at Halts = None
-going_on more p at Errs = None
-going_on more p at (Limits left) = None
-going_on more p at Stuck = None
+going_on more p at _ = None
 
 abbrev pub below : (Point → Option Point) → TimedImage → Point → Bool → Option Point
 below more p at true = None
