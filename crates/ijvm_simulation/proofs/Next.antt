@@ -6,7 +6,7 @@ use Rattle.console_port.specs.World.{World, byte_in}
 use Rattle.mic_clock.specs.Meaning.{Meaning}
 use Rattle.ijvm_image.specs.Image.{ImageView, IsImage}
 use Rattle.ijvm_instr.specs.declared.instr.Instr.{Instr}
-use Rattle.ijvm_instr.specs.declared.instr.Instr.TheVariants.{Nop, Bipush, LdcW, Iload, Istore, Pop, Dup, Swap, Iadd, Isub, Iand, Iinc, Ifeq, Iflt, IfIcmpeq, Goto, Ireturn, Ior, Invokevirtual, WideIload, WideIstore, WideIinc, In, Err, Halt}
+use Rattle.ijvm_instr.specs.declared.instr.Instr.TheVariants.{Bipush, LdcW, Iload, Istore, Iinc, Ifeq, Iflt, IfIcmpeq, Goto, Ior, Invokevirtual, WideIload, WideIstore, WideIinc, Err, Halt}
 use Rattle.ijvm_instr.specs.Instructions.{row_of, size_of, prefix, operand_bytes, instr_at}
 use Rattle.ijvm_meaning.specs.Frames.{State, AreWords, start_of}
 use Rattle.ijvm_meaning.specs.Step.{StepOutcome, Goes, Halts, Errs, Limits, step_outcome, step_if_any}
@@ -32,30 +32,21 @@ module _ (a b c d e f a' b' c' d' e' f' : ℕ) where
   -- one row of bytes reads as an instruction where another does that has the same bytes as far as the instruction goes
   reads_along : (i : Instr) → (0 < size_of (row_of i) → a' ≡ a) → (1 < size_of (row_of i) → b' ≡ b) → (2 < size_of (row_of i) → c' ≡ c) →
       (3 < size_of (row_of i) → d' ≡ d) → (4 < size_of (row_of i) → e' ≡ e) → (5 < size_of (row_of i) → f' ≡ f) → Reads a b c d e f i → Reads a' b' c' d' e' f' i
-  reads_along Nop p q r s t u h = p (omega arith) ∙ h
   reads_along (Bipush z) p q r s t u h = (p (omega arith) ∙ h.0, h.1 ∙ ap signed_byte (sym (q (omega arith))))
   reads_along (LdcW k) p q r s t u h = (p (omega arith) ∙ h.0, h.1 ∙ two (q (omega arith)) (r (omega arith)))
   reads_along (Iload k) p q r s t u h = (p (omega arith) ∙ h.0, h.1 ∙ sym (q (omega arith)))
   reads_along (Istore k) p q r s t u h = (p (omega arith) ∙ h.0, h.1 ∙ sym (q (omega arith)))
-  reads_along Pop p q r s t u h = p (omega arith) ∙ h
-  reads_along Dup p q r s t u h = p (omega arith) ∙ h
-  reads_along Swap p q r s t u h = p (omega arith) ∙ h
-  reads_along Iadd p q r s t u h = p (omega arith) ∙ h
-  reads_along Isub p q r s t u h = p (omega arith) ∙ h
-  reads_along Iand p q r s t u h = p (omega arith) ∙ h
   reads_along (Iinc k z) p q r s t u h = (p (omega arith) ∙ h.0, h.1 ∙ sym (q (omega arith)), h.2 ∙ ap signed_byte (sym (r (omega arith))))
   reads_along (Ifeq z) p q r s t u h = (p (omega arith) ∙ h.0, h.1 ∙ ap₂ signed_pair (sym (q (omega arith))) (sym (r (omega arith))))
   reads_along (Iflt z) p q r s t u h = (p (omega arith) ∙ h.0, h.1 ∙ ap₂ signed_pair (sym (q (omega arith))) (sym (r (omega arith))))
   reads_along (IfIcmpeq z) p q r s t u h = (p (omega arith) ∙ h.0, h.1 ∙ ap₂ signed_pair (sym (q (omega arith))) (sym (r (omega arith))))
   reads_along (Goto z) p q r s t u h = (p (omega arith) ∙ h.0, h.1 ∙ ap₂ signed_pair (sym (q (omega arith))) (sym (r (omega arith))))
-  reads_along Ireturn p q r s t u h = p (omega arith) ∙ h
   reads_along Ior p q r s t u h = elim h [ inl x ↦ inl (p (omega arith) ∙ x) | inr x ↦ inr (p (omega arith) ∙ x) ]
   reads_along (Invokevirtual k) p q r s t u h = (p (omega arith) ∙ h.0, h.1 ∙ two (q (omega arith)) (r (omega arith)))
   reads_along (WideIload k) p q r s t u h = (p (omega arith) ∙ h.0, q (omega arith) ∙ h.1, h.2 ∙ two (r (omega arith)) (s (omega arith)))
   reads_along (WideIstore k) p q r s t u h = (p (omega arith) ∙ h.0, q (omega arith) ∙ h.1, h.2 ∙ two (r (omega arith)) (s (omega arith)))
   reads_along (WideIinc k z) p q r s t u h =
       (p (omega arith) ∙ h.0, q (omega arith) ∙ h.1, h.2 ∙ two (r (omega arith)) (s (omega arith)), h.3 ∙ ap₂ signed_pair (sym (t (omega arith))) (sym (u (omega arith))))
-  reads_along In p q r s t u h = p (omega arith) ∙ h
   reads_along _ p q r s t u h = p (omega arith) ∙ h
 
 -- what is known of the runs of every verified image
