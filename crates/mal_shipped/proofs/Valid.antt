@@ -19,10 +19,9 @@ use Rattle.mal_shipped.specs.Listing.{listed_program, program1, rows1, program2,
 -- ---- each statement may stand where it stands
 
 leads : MalView → Next ℕ → Bool
-leads p nexts.Following = true
 leads p (nexts.Goto to) = is_some (label_at p.statements to)
-leads p (nexts.Dispatch high) = true
 leads p (nexts.Branch test high low) = is_some (label_at p.statements high) && is_some (label_at p.statements low)
+leads p _ = true
 
 follows : ℕ → ℕ → Next ℕ → Bool
 follows count number nexts.Following = nat_lt (number + 1) count
@@ -46,10 +45,9 @@ all_stand p number (s ∷ ss) = stands p number s && all_stand p (number + 1) ss
 
 leads_is : (p : MalView) (next : Next ℕ) → leads p next ≡ true → HasTargets p.statements next
 unfolding leads
-leads_is p nexts.Following h = tt
 leads_is p (nexts.Goto to) h = h
-leads_is p (nexts.Dispatch high) h = tt
 leads_is p (nexts.Branch test high low) h = and_parts _ _ h
+leads_is p _ h = tt
 
 follows_is : (count number : ℕ) (next : Next ℕ) → follows count number next ≡ true → next ≡ nexts.Following → number + 1 < count
 unfolding follows
