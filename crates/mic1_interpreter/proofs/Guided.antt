@@ -4,7 +4,7 @@ use Rattle.std.specs.Prelude.{nat_lt}
 use Rattle.std.proofs.lemmas.Bool.Decides.{nat_tests}
 use Rattle.console_port.specs.World.{World, Refusal}
 use Rattle.micro_word.specs.declared.statement.Mem.{Mem}
-use Rattle.micro_word.specs.declared.statement.Mem.TheVariants.{None as Idle, Read, Write}
+use Rattle.micro_word.specs.declared.statement.Mem.TheVariants.{Write}
 use Rattle.micro_word.specs.declared.statement.Placed.{Placed}
 use Rattle.mic_clock.specs.Meaning.{Done, Refused}
 use Rattle.mic1_datapath.specs.Micro.{Micro}
@@ -57,8 +57,7 @@ module _ (top : ℕ) where
 
   written-long : (mem : Mem) (p : Ports) (w : World) → length (written top mem p w).words ≡ length w.words
   written-long Write p w = length-set w.words p.mar p.mdr
-  written-long Read p w = refl
-  written-long Idle p w = refl
+  written-long _ p w = refl
 
   sampled-long : (mem : Mem) (p : Ports) (w : World) → length (sampled top mem p w).words ≡ length w.words
   sampled-long Write p w = refl
