@@ -9,11 +9,11 @@ use Rattle.micro_word.specs.Operation.{alu, shifted}
 use Rattle.micro_word.specs.declared.statement.BusSource.{BusSource}
 use Rattle.micro_word.specs.declared.statement.BusSource.TheVariants as sources
 use Rattle.micro_word.specs.declared.statement.Mem.{Mem}
-use Rattle.micro_word.specs.declared.statement.Mem.TheVariants.{None as Idle, Read, Write}
+use Rattle.micro_word.specs.declared.statement.Mem.TheVariants.{Write}
 use Rattle.micro_word.specs.declared.statement.Part.{Part}
 use Rattle.micro_word.specs.declared.statement.Placed.{Placed}
 use Rattle.micro_word.specs.declared.statement.PlacedNext.{PlacedNext}
-use Rattle.micro_word.specs.declared.statement.PlacedNext.TheVariants.{Goto, Dispatch, Branch}
+use Rattle.micro_word.specs.declared.statement.PlacedNext.TheVariants.{Dispatch}
 use Rattle.mic_clock.specs.Meaning.{Outcome, Done, Refused}
 use Rattle.mic_datapath.specs.declared.ports.Ports.{Ports}
 use Rattle.mic_datapath.specs.Registers.{NineRegisters, on_bus, loaded, ports_given}
@@ -60,21 +60,11 @@ abbrev wants : Option BusSource → ℕ
 wants side = if is_pair side then 2 else if is_byte side then 1 else 0
 
 source_same : (f g : ℕ → ℕ) (side : Option BusSource) (m : Micro) → ((k : ℕ) → k < wants side → f k ≡ g k) → source_of f side m ≡ source_of g side m
-source_same f g None m h = refl
-source_same f g (Some sources.Mdr) m h = refl
-source_same f g (Some sources.Pc) m h = refl
-source_same f g (Some sources.Sp) m h = refl
-source_same f g (Some sources.Lv) m h = refl
-source_same f g (Some sources.Cpp) m h = refl
-source_same f g (Some sources.Tos) m h = refl
-source_same f g (Some sources.Opc) m h = refl
-source_same f g (Some sources.H) m h = refl
-source_same f g (Some sources.Mbr) m h = refl
-source_same f g (Some sources.Mbru) m h = refl
 source_same f g (Some sources.Mbr1) m h = ap signed_byte (h 0 (omega arith))
 source_same f g (Some sources.Mbr1u) m h = h 0 (omega arith)
 source_same f g (Some sources.Mbr2) m h = ap₂ signed_pair (h 0 (omega arith)) (h 1 (omega arith))
 source_same f g (Some sources.Mbr2u) m h = ap₂ (λ (i : ℕ) (j : ℕ). 256 * i + j) (h 0 (omega arith)) (h 1 (omega arith))
+source_same f g _ m h = refl
 
 -- the result where the unit stands at PC
 abbrev pub text_result : List ℕ → Part → Micro → ℕ
@@ -90,9 +80,8 @@ result_same queue origin part m have h =
     (source_same (byte_at (unit_at origin m.pc have)) (text_from origin m.pc) part.b m (λ k l. queue.front origin m.pc have k (omega arith)))
 
 target_same : (n : PlacedNext) (x b c : ℕ) → (0 < dispatch_bytes n → b ≡ c) → next_address n x b ≡ next_address n x c
-target_same (Goto to) x b c h = refl
 target_same (Dispatch high) x b c h = ap (λ (k : ℕ). if high then k + 256 else k) (h (omega arith))
-target_same (Branch test low) x b c h = refl
+target_same _ x b c h = refl
 
 -- the registers after the loads, where x is the result
 abbrev pub settled_by : Placed → ℕ → Micro → NineRegisters
@@ -123,8 +112,7 @@ have_behind false pc t have = have_after pc have t
 -- a write does not reach below the stack
 abbrev pub IsAbove : Mem → ℕ → Type 0
 IsAbove Write at = 0x8000 ≤ at
-IsAbove Read at = Unit {0}
-IsAbove Idle at = Unit {0}
+IsAbove _ at = Unit {0}
 
 -- `origin` has the memory's words when the run began.
 module _ (origin : List ℕ) where
@@ -225,8 +213,7 @@ module _ (origin : List ℕ) where
 
     written-memory : (mem : Mem) (p : Ports) (w : World) → IsAbove mem p.mar → IsMemory origin w.words → IsMemory origin (written top mem p w).words
     written-memory Write p w above h = memory_set w.words p.mar p.mdr above h
-    written-memory Read p w above h = h
-    written-memory Idle p w above h = h
+    written-memory _ p w above h = h
 
     sampled-memory : (mem : Mem) (p : Ports) (w : World) → IsMemory origin w.words → IsMemory origin (sampled top mem p w).words
     sampled-memory Write p w h = h
