@@ -8,10 +8,10 @@ use Rattle.micro_word.specs.Words.{is_byte, is_pair}
 use Rattle.micro_word.specs.declared.statement.BusSource.{BusSource}
 use Rattle.micro_word.specs.declared.statement.BusSource.TheVariants as sources
 use Rattle.micro_word.specs.declared.statement.Mem.{Mem}
-use Rattle.micro_word.specs.declared.statement.Mem.TheVariants.{None as Idle, Read, Write}
+use Rattle.micro_word.specs.declared.statement.Mem.TheVariants.{Write}
 use Rattle.micro_word.specs.declared.statement.Placed.{Placed}
 use Rattle.micro_word.specs.declared.statement.PlacedNext.{PlacedNext}
-use Rattle.micro_word.specs.declared.statement.PlacedNext.TheVariants.{Goto, Dispatch, Branch}
+use Rattle.micro_word.specs.declared.statement.PlacedNext.TheVariants.{Dispatch, Branch}
 use Rattle.mic_clock.specs.Meaning.{Done, Refused}
 use Rattle.mic_clock.specs.Run.{number_of}
 use Rattle.mic_datapath.specs.declared.ports.Ports.{Ports}
@@ -58,47 +58,29 @@ abbrev wants : Option BusSource → ℕ
 wants side = if is_pair side then 2 else if is_byte side then 1 else 0
 
 source_same : (f g : ℕ → ℕ) (side : Option BusSource) (m : Micro) → ((k : ℕ) → k < wants side → f k ≡ g k) → source_of f side m ≡ source_of g side m
-source_same f g None m h = refl
-source_same f g (Some sources.Mdr) m h = refl
-source_same f g (Some sources.Pc) m h = refl
-source_same f g (Some sources.Sp) m h = refl
-source_same f g (Some sources.Lv) m h = refl
-source_same f g (Some sources.Cpp) m h = refl
-source_same f g (Some sources.Tos) m h = refl
-source_same f g (Some sources.Opc) m h = refl
-source_same f g (Some sources.H) m h = refl
-source_same f g (Some sources.Mbr) m h = refl
-source_same f g (Some sources.Mbru) m h = refl
 source_same f g (Some sources.Mbr1) m h = ap signed_byte (h 0 (omega arith))
 source_same f g (Some sources.Mbr1u) m h = h 0 (omega arith)
 source_same f g (Some sources.Mbr2) m h = ap₂ signed_pair (h 0 (omega arith)) (h 1 (omega arith))
 source_same f g (Some sources.Mbr2u) m h = ap₂ (λ (i : ℕ) (j : ℕ). 256 * i + j) (h 0 (omega arith)) (h 1 (omega arith))
+source_same f g _ m h = refl
 
 -- Guesses: the byte of a dispatch, taken when it issues, and the address that a branch goes to, taken when it computes.
 
 abbrev pub guessed : PlacedNext → List ℕ → ℕ
-guessed (Goto to) gs = 0
-guessed (Dispatch high) [] = 0
 guessed (Dispatch high) (g ∷ gs) = g
-guessed (Branch test low) gs = 0
+guessed _ gs = 0
 
 abbrev pub left_issued : PlacedNext → List ℕ → List ℕ
-left_issued (Goto to) gs = gs
-left_issued (Dispatch high) [] = []
 left_issued (Dispatch high) (g ∷ gs) = gs
-left_issued (Branch test low) gs = gs
+left_issued _ gs = gs
 
 abbrev pub turned_by : PlacedNext → List ℕ → ℕ → ℕ
-turned_by (Goto to) gs mpc = mpc
-turned_by (Dispatch high) gs mpc = mpc
-turned_by (Branch test low) [] mpc = mpc
 turned_by (Branch test low) (g ∷ gs) mpc = g
+turned_by _ gs mpc = mpc
 
 abbrev pub left_turned_by : PlacedNext → List ℕ → List ℕ
-left_turned_by (Goto to) gs = gs
-left_turned_by (Dispatch high) gs = gs
-left_turned_by (Branch test low) [] = []
 left_turned_by (Branch test low) (g ∷ gs) = gs
+left_turned_by _ gs = gs
 
 abbrev pub turned : Option Issued → List ℕ → ℕ → ℕ
 turned None gs mpc = mpc
@@ -120,8 +102,7 @@ issue_by origin s gs p =
 
 abbrev pub issue_of : List ℕ → Turn → Placed → List ℕ → Pipeline → Option Issued
 issue_of origin Issues s gs p = Some (issue_by origin s gs p)
-issue_of origin HeldUp s gs p = None
-issue_of origin (Lacks b) s gs p = None
+issue_of origin _ s gs p = None
 
 -- what is known of the queue after an edge
 abbrev pub queue_by : Turn → ℕ → Held → Held
@@ -144,18 +125,15 @@ settled_by c i p = retired c p.micro.word (record (registers_in p.micro) { pc = 
 -- a write does not reach below the stack
 abbrev pub IsAbove : Mem → ℕ → Type 0
 IsAbove Write at = 0x8000 ≤ at
-IsAbove Read at = Unit {0}
-IsAbove Idle at = Unit {0}
+IsAbove _ at = Unit {0}
 
 abbrev pub left_of : Turn → Placed → Option Issued → List ℕ → List ℕ
 left_of Issues s o gs = left_turned o (left_issued s.next gs)
-left_of HeldUp s o gs = left_turned o gs
-left_of (Lacks b) s o gs = left_turned o gs
+left_of _ s o gs = left_turned o gs
 
 abbrev pub stalls_by : Turn → ℕ → ℕ
 stalls_by Issues k = k
-stalls_by HeldUp k = k + 1
-stalls_by (Lacks b) k = k + 1
+stalls_by _ k = k + 1
 
 -- `origin` has the memory's words when the run began.
 module _ (origin : List ℕ) where
@@ -250,8 +228,7 @@ module _ (origin : List ℕ) where
 
     written-memory : (mem : Mem) (p : Ports) (w : World) → IsAbove mem p.mar → IsMemory origin w.words → IsMemory origin (written top mem p w).words
     written-memory Write p w above h = memory_set w.words p.mar p.mdr above h
-    written-memory Read p w above h = h
-    written-memory Idle p w above h = h
+    written-memory _ p w above h = h
 
     sampled-memory : (mem : Mem) (p : Ports) (w : World) → IsMemory origin w.words → IsMemory origin (sampled top mem p w).words
     sampled-memory Write p w h = h
@@ -284,9 +261,8 @@ module _ (origin : List ℕ) where
         byte_is : (n : PlacedNext) → demand (record s { next = n }) ≤ have →
             dispatched n (byte_at (unit_at origin t.state.micro.pc have) (operand_bytes s.part)) ≡ dispatched n
             (text_from origin t.state.micro.pc (operand_bytes s.part))
-        byte_is (Goto to) le = refl
         byte_is (Dispatch high) le = queue.front origin t.state.micro.pc have (operand_bytes s.part) (omega arith)
-        byte_is (Branch test low) le = refl
+        byte_is _ le = refl
 
     none_by : (s : Placed) (p : Pipeline) (have : ℕ) → waits s (standing origin p have) ≡ true → issued s (standing origin p have) ≡ None
     none_by s p have e = ap (λ (x : Bool). if x then None else Some (issued_by s (standing origin p have))) e
@@ -308,8 +284,7 @@ module _ (origin : List ℕ) where
     taken_there : (k : Turn) (s : Placed) (gs : List ℕ) (t : Short) (have : ℕ) → IsHeld t.queue t.state.micro.pc have → IsTurn k s gs t →
         bytes_leaving (issue_of origin k s gs t.state) ≤ have
     taken_there Issues s gs t have held c = queue.enough (demand s) t.queue t.state.micro.pc have c.1 held
-    taken_there HeldUp s gs t have held c = omega arith
-    taken_there (Lacks b) s gs t have held c = omega arith
+    taken_there _ s gs t have held c = omega arith
 
     -- The edge.
 
@@ -424,8 +399,7 @@ module _ (program : List ℕ) (has : Known program) (origin : List ℕ) (map : 0
 
   counted : (k : Turn) (s : Placed) (gs : List ℕ) (p : Pipeline) (n : ℕ) → n + number_of (driven_by (issue_of origin k s gs p)).stalled ≡ stalls_by k n
   counted Issues s gs p n = add-zero n
-  counted HeldUp s gs p n = refl
-  counted (Lacks b) s gs p n = refl
+  counted _ s gs p n = refl
 
   steps : (k : Turn) (gs : List ℕ) (t : Short) (have : ℕ) → IsMemory origin t.world.words → IsHeld t.queue t.state.micro.pc have →
       IsRight origin k (shipped t.state.micro.mpc) gs t →
