@@ -167,27 +167,17 @@ module _ (program : List ℕ) (has : Known program) (o : Origin) (v : VerifiedVi
   abbrev map : IsMapEnd (length o.words)
   map = law.map v o loads
 
-  -- a branch by a test of the top
-  branched : (s to : State) (q : Moment Pipeline) (i : Instr) (z : ℤ) (t : Bool) (rest : List ℕ) (code : ℕ) → Stands o s q.state q.world →
-      byte_in o.words s.at ≡ code → (code == 255) ≡ false → (code == 254) ≡ false → jump o.words s.at ≡ target s.at z →
-      moved s rest (way s.at z t) ≡ to → (t ≡ true → cost v.image mic3_timing i s ≡ 17) → (t ≡ false → cost v.image mic3_timing i s ≡ 11) →
-      (t ≡ true → ReachesBoundary program o 16 q (moved s rest (jump o.words s.at))) → (t ≡ false → ReachesBoundary program o 10 q (moved s rest (s.at + 3))) →
+  -- a branch by a test, with the cycles after the first where it is taken and where it is not
+  branched : (s to : State) (q : Moment Pipeline) (i : Instr) (z : ℤ) (t : Bool) (rest : List ℕ) (far near code : ℕ) → far < 1024 → near < 1024 →
+      Stands o s q.state q.world → byte_in o.words s.at ≡ code → (code == 255) ≡ false → (code == 254) ≡ false → jump o.words s.at ≡ target s.at z →
+      moved s rest (way s.at z t) ≡ to → (t ≡ true → cost v.image mic3_timing i s ≡ far + 1) → (t ≡ false → cost v.image mic3_timing i s ≡ near + 1) →
+      (t ≡ true → ReachesBoundary program o far q (moved s rest (jump o.words s.at))) →
+      (t ≡ false → ReachesBoundary program o near q (moved s rest (s.at + 3))) →
       Moves mic3_meaning program (Stands o) o.given q (cost v.image mic3_timing i s) to
-  branched s to q i z true rest code h is no_halt no_err e same jumps_in falls_in taken not =
-      moves program o v s to _ q i 16 code h is no_halt no_err (jumps_in refl) (omega arith) (ap (moved s rest) e ∙ same) (taken refl)
-  branched s to q i z false rest code h is no_halt no_err e same jumps_in falls_in taken not =
-      moves program o v s to _ q i 10 code h is no_halt no_err (falls_in refl) (omega arith) same (not refl)
-
-  -- IF_ICMPEQ takes six cycles more
-  compared : (s to : State) (q : Moment Pipeline) (i : Instr) (z : ℤ) (t : Bool) (rest : List ℕ) (code : ℕ) → Stands o s q.state q.world →
-      byte_in o.words s.at ≡ code → (code == 255) ≡ false → (code == 254) ≡ false → jump o.words s.at ≡ target s.at z →
-      moved s rest (way s.at z t) ≡ to → (t ≡ true → cost v.image mic3_timing i s ≡ 23) → (t ≡ false → cost v.image mic3_timing i s ≡ 17) →
-      (t ≡ true → ReachesBoundary program o 22 q (moved s rest (jump o.words s.at))) → (t ≡ false → ReachesBoundary program o 16 q (moved s rest (s.at + 3))) →
-      Moves mic3_meaning program (Stands o) o.given q (cost v.image mic3_timing i s) to
-  compared s to q i z true rest code h is no_halt no_err e same jumps_in falls_in taken not =
-      moves program o v s to _ q i 22 code h is no_halt no_err (jumps_in refl) (omega arith) (ap (moved s rest) e ∙ same) (taken refl)
-  compared s to q i z false rest code h is no_halt no_err e same jumps_in falls_in taken not =
-      moves program o v s to _ q i 16 code h is no_halt no_err (falls_in refl) (omega arith) same (not refl)
+  branched s to q i z true rest far near code less short h is no_halt no_err e same jumps_in falls_in taken not =
+      moves program o v s to _ q i far code h is no_halt no_err (jumps_in refl) less (ap (moved s rest) e ∙ same) (taken refl)
+  branched s to q i z false rest far near code less short h is no_halt no_err e same jumps_in falls_in taken not =
+      moves program o v s to _ q i near code h is no_halt no_err (falls_in refl) short same (not refl)
 
   goes : (s to : State) (q : Moment Pipeline) (i : Instr) → IsJump i → Fine v s → IsNext v o s i → Stands o s q.state q.world →
       Went v.image v.map.stack_end s to i →
@@ -199,14 +189,14 @@ module _ (program : List ℕ) (has : Known program) (o : Origin) (v : VerifiedVi
   goes s to q (Ifeq z) is fine n h went =
       let j : Lands o s z = law.lands v o s z loads n.reads.1 (n.finds.inside (target s.at z) (inr (z, refl, refl))) in
       let taken_is : tests (λ (y : ℕ). y == 0) s.running.operands ≡ (went.top == 0) = ap (tests (λ (y : ℕ). y == 0)) went.are in
-      branched s to q (Ifeq z) z (went.top == 0) went.rest 0x99 h n.reads.0 refl refl j.is went.leads
+      branched s to q (Ifeq z) z (went.top == 0) went.rest 16 10 0x99 (omega arith) (omega arith) h n.reads.0 refl refl j.is went.leads
       (λ t. ap (λ (b : Bool). if b then 17 else 11) (taken_is ∙ t)) (λ t. ap (λ (b : Bool). if b then 17 else 11) (taken_is ∙ t))
       (λ t. ifeq_taken program has o map law s q.state q.world q.stalls h (law.inside v o s _ loads n) went.top went.rest n.reads.0 went.are t j.inside)
       (λ t. ifeq_not program has o map law s q.state q.world q.stalls h (law.inside v o s _ loads n) went.top went.rest n.reads.0 went.are t)
   goes s to q (Iflt z) is fine n h went =
       let j : Lands o s z = law.lands v o s z loads n.reads.1 (n.finds.inside (target s.at z) (inr (z, refl, refl))) in
       let taken_is : tests is_negative s.running.operands ≡ is_negative went.top = ap (tests is_negative) went.are in
-      branched s to q (Iflt z) z (is_negative went.top) went.rest 0x9B h n.reads.0 refl refl j.is went.leads
+      branched s to q (Iflt z) z (is_negative went.top) went.rest 16 10 0x9B (omega arith) (omega arith) h n.reads.0 refl refl j.is went.leads
       (λ t. ap (λ (b : Bool). if b then 17 else 11) (taken_is ∙ t)) (λ t. ap (λ (b : Bool). if b then 17 else 11) (taken_is ∙ t))
       (λ t. iflt_taken program has o map law s q.state q.world q.stalls h (law.inside v o s _ loads n) went.top went.rest n.reads.0 went.are t j.inside)
       (λ t. iflt_not program has o map law s q.state q.world q.stalls h (law.inside v o s _ loads n) went.top went.rest n.reads.0 went.are t)
@@ -216,7 +206,7 @@ module _ (program : List ℕ) (has : Known program) (o : Origin) (v : VerifiedVi
       let words : All IsWord (went.top ∷ went.second ∷ went.rest) = subst (All IsWord) went.are (law.running v s fine).operands in
       let ly : IsWord went.top = All-get_or IsWord (went.top ∷ went.second ∷ went.rest) 0 went.top (omega arith) words in
       let lx : IsWord went.second = All-get_or IsWord (went.top ∷ went.second ∷ went.rest) 1 went.second (omega arith) words in
-      compared s to q (IfIcmpeq z) z (went.second == went.top) went.rest 0x9F h n.reads.0 refl refl j.is went.leads
+      branched s to q (IfIcmpeq z) z (went.second == went.top) went.rest 22 16 0x9F (omega arith) (omega arith) h n.reads.0 refl refl j.is went.leads
       (λ t. ap (λ (b : Bool). if b then 23 else 17) (taken_is ∙ t)) (λ t. ap (λ (b : Bool). if b then 23 else 17) (taken_is ∙ t))
       (λ t. icmpeq_taken program has o map law s q.state q.world q.stalls h
       (law.inside v o s _ loads n) went.top went.second went.rest n.reads.0 went.are ly lx t j.inside)
