@@ -11,7 +11,7 @@ use Rattle.ijvm_image.specs.declared.method.Method.{Method}
 use Rattle.ijvm_image.specs.Image.{ImageView, method_at}
 use Rattle.ijvm_meaning.specs.Frames.{Frame, State, frames_of, base}
 use Rattle.ijvm_meaning.specs.Step.{StepOutcome, Goes, Limits, Stuck, limited, moved, pushed_constant, loaded, is_own, with_local, stored, increased, popped, doubled, swapped, combined, way, branched, compared, returned, in_method, entered, called_at, taken, given_out, step}
-use Rattle.ijvm_simulation.specs.Outcomes.{Stores, push, Went, Overran, IsOutcome}
+use Rattle.ijvm_simulation.specs.Outcomes.{WithTop, WithLocal, Stores, Fits, Overflows, push, Went, Overran, IsOutcome}
 
 module _ (image : ImageView) (stack_end : ℕ) (s : State) where
   abbrev Says_of : Instr → StepOutcome → Type 0
@@ -32,19 +32,13 @@ module _ (image : ImageView) (stack_end : ℕ) (s : State) where
       room (LdcW k) s (push s v (s.at + 3)) (λ l. record { value = v; found = e; leads = record { fits = l; goes = refl } })
       (λ l. record { value = v; found = e; leads = record { over = l; leaves = refl } })
 
-  load : (k : ℕ) (found : Option (Option ℕ)) → slice_get s.running.locals k ≡ found → Says_of (Iload k) (loaded stack_end s found (s.at + 2))
-  load k None e = tt
-  load k (Some None) e = tt
-  load k (Some (Some v)) e =
-      room (Iload k) s (push s v (s.at + 2)) (λ l. record { value = v; set = e; leads = record { fits = l; goes = refl } })
-      (λ l. record { value = v; set = e; leads = record { over = l; leaves = refl } })
-
-  wide_load : (k : ℕ) (found : Option (Option ℕ)) → slice_get s.running.locals k ≡ found → Says_of (WideIload k) (loaded stack_end s found (s.at + 4))
-  wide_load k None e = tt
-  wide_load k (Some None) e = tt
-  wide_load k (Some (Some v)) e =
-      room (WideIload k) s (push s v (s.at + 4)) (λ l. record { value = v; set = e; leads = record { fits = l; goes = refl } })
-      (λ l. record { value = v; set = e; leads = record { over = l; leaves = refl } })
+  load : (i : Instr) (k at : ℕ) → ((to : State) → WithLocal s.running.locals k (λ v. Fits stack_end (push s v at) to) → Went image stack_end s to i) →
+      ((left : State) → WithLocal s.running.locals k (λ v. Overflows stack_end (push s v at) s left) → Overran image stack_end s left i) →
+      (found : Option (Option ℕ)) → slice_get s.running.locals k ≡ found → Says_of i (loaded stack_end s found at)
+  load i k at fits over (Some (Some v)) e =
+      room i s (push s v at) (λ l. fits (push s v at) (record { value = v; set = e; leads = record { fits = l; goes = refl } }))
+      (λ l. over s (record { value = v; set = e; leads = record { over = l; leaves = refl } }))
+  load i k at fits over _ e = tt
 
   -- a store, where the local may be stored to
   store : (i : Instr) (k v : ℕ) (rest : List ℕ) (at : ℕ) → (Stores s k v rest at (with_local s k v rest at) → Went image stack_end s (with_local s k v rest at) i) →
@@ -54,26 +48,20 @@ module _ (image : ImageView) (stack_end : ℕ) (s : State) where
       by_tests : (own inside : Bool) → is_own s.running.back k ≡ own → nat_lt k (length s.running.locals) ≡ inside →
           Says_of i (if own then (if inside then Goes (with_local s k v rest at) else Stuck) else Stuck)
       by_tests true true e f = leads (record { own = e; inside = grind (arith, nat_tests); goes = refl })
-      by_tests true false e f = tt
-      by_tests false inside e f = tt
+      by_tests _ _ e f = tt
 
-  increase : (k : ℕ) (n : ℤ) (found : Option (Option ℕ)) → slice_get s.running.locals k ≡ found → Says_of (Iinc k n) (increased s k n found (s.at + 3))
-  increase k n None e = tt
-  increase k n (Some None) e = tt
-  increase k n (Some (Some v)) e = record { value = v; set = e; leads = refl }
+  increase : (i : Instr) (k at : ℕ) (n : ℤ) →
+      ((to : State) → WithLocal s.running.locals k (λ v. with_local s k (plus v (word_of n)) s.running.operands at ≡ to) → Went image stack_end s to i) →
+      (found : Option (Option ℕ)) → slice_get s.running.locals k ≡ found → Says_of i (increased s k n found at)
+  increase i k at n leads (Some (Some v)) e =
+      leads (with_local s k (plus v (word_of n)) s.running.operands at) (record { value = v; set = e; leads = refl })
+  increase i k at n leads _ e = tt
 
-  wide_increase : (k : ℕ) (n : ℤ) (found : Option (Option ℕ)) → slice_get s.running.locals k ≡ found → Says_of (WideIinc k n) (increased s k n found (s.at + 6))
-  wide_increase k n None e = tt
-  wide_increase k n (Some None) e = tt
-  wide_increase k n (Some (Some v)) e = record { value = v; set = e; leads = refl }
-
-  store_top : (k : ℕ) (xs : List ℕ) → s.running.operands ≡ xs → Says_of (Istore k) (stored s k xs (s.at + 2))
-  store_top k [] e = tt
-  store_top k (v ∷ rest) e = store (Istore k) k v rest (s.at + 2) (λ h. record { top = v; rest = rest; are = e; leads = h })
-
-  wide_store_top : (k : ℕ) (xs : List ℕ) → s.running.operands ≡ xs → Says_of (WideIstore k) (stored s k xs (s.at + 4))
-  wide_store_top k [] e = tt
-  wide_store_top k (v ∷ rest) e = store (WideIstore k) k v rest (s.at + 4) (λ h. record { top = v; rest = rest; are = e; leads = h })
+  store_top : (i : Instr) (k at : ℕ) → ((to : State) → WithTop s.running.operands (λ v rest. Stores s k v rest at to) → Went image stack_end s to i) →
+      (xs : List ℕ) → s.running.operands ≡ xs → Says_of i (stored s k xs at)
+  store_top i k at leads [] e = tt
+  store_top i k at leads (v ∷ rest) e =
+      store i k v rest at (λ h. leads (with_local s k v rest at) (record { top = v; rest = rest; are = e; leads = h }))
 
   pop : (xs : List ℕ) → s.running.operands ≡ xs → Says_of Pop (popped s xs)
   pop [] e = tt
@@ -86,16 +74,14 @@ module _ (image : ImageView) (stack_end : ℕ) (s : State) where
       (λ l. record { top = y; rest = rest; are = e; leads = record { over = l; leaves = refl } })
 
   swap : (xs : List ℕ) → s.running.operands ≡ xs → Says_of Swap (swapped s xs)
-  swap [] e = tt
-  swap (y ∷ []) e = tt
   swap (y ∷ x ∷ rest) e = record { top = y; second = x; rest = rest; are = e; leads = refl }
+  swap _ e = tt
 
   -- two operands become one
   combine : (i : Instr) (f : ℕ → ℕ → ℕ) → ((y x : ℕ) (rest : List ℕ) → s.running.operands ≡ y ∷ x ∷ rest → Went image stack_end s (moved s (f x y ∷ rest) (s.at + 1)) i) →
       (xs : List ℕ) → s.running.operands ≡ xs → Says_of i (combined f s xs)
-  combine i f leads [] e = tt
-  combine i f leads (y ∷ []) e = tt
   combine i f leads (y ∷ x ∷ rest) e = leads y x rest e
+  combine i f leads _ e = tt
 
   branch : (i : Instr) (test : ℕ → Bool) (o : ℤ) → ((y : ℕ) (rest : List ℕ) → s.running.operands ≡ y ∷ rest → Went image stack_end s (moved s rest (way s.at o (test y))) i) →
       (xs : List ℕ) → s.running.operands ≡ xs → Says_of i (branched test s o xs)
@@ -103,16 +89,13 @@ module _ (image : ImageView) (stack_end : ℕ) (s : State) where
   branch i test o leads (y ∷ rest) e = leads y rest e
 
   compare : (o : ℤ) (xs : List ℕ) → s.running.operands ≡ xs → Says_of (IfIcmpeq o) (compared s o xs)
-  compare o [] e = tt
-  compare o (y ∷ []) e = tt
   compare o (y ∷ x ∷ rest) e = record { top = y; second = x; rest = rest; are = e; leads = refl }
+  compare o _ e = tt
 
   return : (back : Option ℕ) (above : List Frame) (xs : List ℕ) → s.running.back ≡ back → s.callers ≡ above → s.running.operands ≡ xs → Says_of Ireturn (returned s back above xs)
-  return None above xs b a e = tt
-  return (Some back) [] xs b a e = tt
-  return (Some back) (f ∷ fs) [] b a e = tt
   return (Some back) (f ∷ fs) (y ∷ rest) b a e =
       record { back = back; caller = f; above = fs; back_is = b; callers_are = a; with_top = record { top = y; rest = rest; are = e; leads = refl } }
+  return _ _ _ b a e = tt
 
   enter : (k : ℕ) (m : Method) (found : method_at image.text (slice_get image.pool k) ≡ Some m) (params : ℕ) → m.params ≡ params → Says_of (Invokevirtual k) (entered stack_end s m params)
   enter k m found zero e = tt
@@ -137,24 +120,24 @@ module _ (image : ImageView) (stack_end : ℕ) (s : State) where
   pub says : (i : Instr) → IsOutcome image stack_end s i (step image stack_end i s)
   says (Bipush b) = room (Bipush b) s (push s (word_of b) (s.at + 2)) (λ l. record { fits = l; goes = refl }) (λ l. record { over = l; leaves = refl })
   says (LdcW k) = constant k (slice_get image.pool k) refl
-  says (Iload k) = load k (slice_get s.running.locals k) refl
-  says (Istore k) = store_top k s.running.operands refl
+  says (Iload k) = load (Iload k) k (s.at + 2) (λ to h. h) (λ left h. h) (slice_get s.running.locals k) refl
+  says (Istore k) = store_top (Istore k) k (s.at + 2) (λ to h. h) s.running.operands refl
   says Pop = pop s.running.operands refl
   says Dup = double s.running.operands refl
   says Swap = swap s.running.operands refl
   says Iadd = combine Iadd plus (λ y x rest e. record { top = y; second = x; rest = rest; are = e; leads = refl }) s.running.operands refl
   says Isub = combine Isub minus (λ y x rest e. record { top = y; second = x; rest = rest; are = e; leads = refl }) s.running.operands refl
   says Iand = combine Iand bit_and (λ y x rest e. record { top = y; second = x; rest = rest; are = e; leads = refl }) s.running.operands refl
-  says (Iinc k b) = increase k b (slice_get s.running.locals k) refl
+  says (Iinc k b) = increase (Iinc k b) k (s.at + 3) b (λ to h. h) (slice_get s.running.locals k) refl
   says (Ifeq o) = branch (Ifeq o) (λ y. y == 0) o (λ y rest e. record { top = y; rest = rest; are = e; leads = refl }) s.running.operands refl
   says (Iflt o) = branch (Iflt o) is_negative o (λ y rest e. record { top = y; rest = rest; are = e; leads = refl }) s.running.operands refl
   says (IfIcmpeq o) = compare o s.running.operands refl
   says Ireturn = return s.running.back s.callers s.running.operands refl refl refl
   says Ior = combine Ior bit_or (λ y x rest e. record { top = y; second = x; rest = rest; are = e; leads = refl }) s.running.operands refl
   says (Invokevirtual k) = call k (method_at image.text (slice_get image.pool k)) refl
-  says (WideIload k) = wide_load k (slice_get s.running.locals k) refl
-  says (WideIstore k) = wide_store_top k s.running.operands refl
-  says (WideIinc k n) = wide_increase k n (slice_get s.running.locals k) refl
+  says (WideIload k) = load (WideIload k) k (s.at + 4) (λ to h. h) (λ left h. h) (slice_get s.running.locals k) refl
+  says (WideIstore k) = store_top (WideIstore k) k (s.at + 4) (λ to h. h) s.running.operands refl
+  says (WideIinc k n) = increase (WideIinc k n) k (s.at + 6) n (λ to h. h) (slice_get s.running.locals k) refl
   says In = room In (taken s) (push (taken s) (next_byte s.untaken) (s.at + 1)) (λ l. record { fits = l; goes = refl }) (λ l. record { over = l; leaves = refl })
   says Out = give s.running.operands refl
   says _ = refl
