@@ -34,7 +34,11 @@ fn keep_buses(tally: &mut Tally, drive: Drive, computed: Computed)
 fn ticked(stalled: bool) -> Tick
     ensures { result ≡ (if stalled then Tick.Stalled else Tick.Clocked) }
 {
-    if stalled { Tick::Stalled } else { Tick::Clocked }
+    if stalled {
+        Tick::Stalled
+    } else {
+        Tick::Clocked
+    }
 }
 
 /// One turn without the test of the bound: an end that comes before a cycle, or a cycle.
