@@ -1,5 +1,6 @@
 -- The places of a datapath: the nine registers by the places of their bits in the field C, after them the fetched bytes, and one that holds 0.
-use Rattle.std.specs.Prelude.{ℕ, List, slice_index}
+use Rattle.std.specs.Prelude.{ℕ, if◌then◌else◌, List, slice_index}
+use Rattle.micro_word.specs.Lines.{names}
 use Rattle.mic_datapath.specs.Registers.{NineRegisters}
 
 abbrev pub registers_at : List ℕ → NineRegisters
@@ -15,3 +16,7 @@ registers_at places =
       opc = slice_index places 7;
       h = slice_index places 8;
     }
+
+-- what is at a place after a value was loaded into the places that a field C names
+abbrev pub place_loaded : ℕ → ℕ → List ℕ → ℕ → ℕ
+place_loaded c value places k = if names c k then value else slice_index places k

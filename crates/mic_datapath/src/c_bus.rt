@@ -1,8 +1,8 @@
 //! The clock edge of the registers: the C bus goes to those that a word names, and then a word that was read arrives in MDR.
 
-ghost use Rattle.std.specs.Prelude.{◌≡◌, ◌≢◌, ◌<◌, ◌≤◌, ℕ, if◌then◌else◌, slice_index};
-ghost use Rattle.micro_word.specs.Lines.{AreSlots, names};
-ghost use Rattle.mic_datapath.specs.Places.{registers_at};
+ghost use Rattle.std.specs.Prelude.{◌≡◌, ◌≢◌, ◌<◌, ◌≤◌, ℕ, slice_index};
+ghost use Rattle.micro_word.specs.Lines.{AreSlots};
+ghost use Rattle.mic_datapath.specs.Places.{place_loaded, registers_at};
 ghost use Rattle.mic_datapath.specs.Registers.{arrived, loaded};
 
 use micro_word::{Lines, is_named};
@@ -15,7 +15,7 @@ const MDR: usize = 1;
 /// What becomes of one register, before a word arrives.
 pub fn port(c: u16, place: u8, value: u32, places: &Places) -> u32
     requires { place < 16 }
-    ensures { result ≡ (if names c place then value else slice_index places.now place) }
+    ensures { result ≡ place_loaded c value places.now place }
 {
     if is_named(c, place) {
         value
@@ -26,7 +26,7 @@ pub fn port(c: u16, place: u8, value: u32, places: &Places) -> u32
 
 /// Loads the named registers from a place on.
 fn load_further(c: u16, from: u8, value: u32, places: &mut Places)
-    ensures loaded { (k : ℕ) → from ≤ k → k < 9 → slice_index places.new k ≡ (if names c k then value else slice_index places.old k) }
+    ensures loaded { (k : ℕ) → from ≤ k → k < 9 → slice_index places.new k ≡ place_loaded c value places.old k }
     ensures before { (k : ℕ) → k < from → slice_index places.new k ≡ slice_index places.old k }
     ensures others { (k : ℕ) → 9 ≤ k → slice_index places.new k ≡ slice_index places.old k }
 {
@@ -40,7 +40,7 @@ fn load_further(c: u16, from: u8, value: u32, places: &mut Places)
 /// Puts a value into the slots of a word's lines.
 fn load(c: u16, lines: &Lines, value: u32, places: &mut Places)
     requires { AreSlots c lines.now.first lines.now.second lines.now.further }
-    ensures loaded { (k : ℕ) → k < 9 → slice_index places.new k ≡ (if names c k then value else slice_index places.old k) }
+    ensures loaded { (k : ℕ) → k < 9 → slice_index places.new k ≡ place_loaded c value places.old k }
     ensures others { (k : ℕ) → 9 ≤ k → k < 15 → slice_index places.new k ≡ slice_index places.old k }
 {
     places[lines.first as usize] = value;
