@@ -1,5 +1,5 @@
 -- What is asked of the bus for a statement, with its accesses, is its microstep or its refusal.
-use Rattle.std.proofs.Common.{◌≡◌, ℕ, ◌%◌, ◌≤◌, ◌==◌, ◌&&◌, Bool, true, false, if◌then◌else◌, IsTrue, List, [], ◌∷◌, ◌++◌, drop, Option, Some, None, Result, Ok, Err, length, inl, inr, refl, sym, ap, subst, ◌∙◌, arith}
+use Rattle.std.proofs.Common.{◌≡◌, ℕ, ◌%◌, ◌≤◌, ◌==◌, ◌&&◌, Bool, true, false, if◌then◌else◌, IsTrue, List, Option, Some, None, Result, Ok, Err, length, inl, inr, refl, sym, ap, subst, ◌∙◌, arith}
 use Rattle.std.specs.Prelude.{⊤, IfErr, IsErrAnd, OnErr, OnOk}
 use Rattle.console_port.specs.World.{World, Refusal, StackLimit, OutOfMap, fault_of, console_at}
 use Rattle.console_port.specs.Bus.{ChangesOnly, IsLed, Shows, Stands, refused_by}
@@ -17,7 +17,7 @@ use Rattle.micro_word.specs.declared.statement.Mem.TheVariants as mems
 use Rattle.micro_word.specs.declared.statement.Placed.{Placed}
 use Rattle.mic_clock.specs.Edge.{IsEdge, LetsBytesWait}
 use Rattle.mic_clock.specs.Meaning.{Outcome, Done, refusal_in, untaken_by, given_by, ReadsConsole, WritesConsole, UsesConsole}
-use Rattle.mic_datapath.specs.Access.{HasAccessed, IsTransfer, is_read, is_access, LetsBytesWait as LetsWait}
+use Rattle.mic_datapath.specs.Access.{AtConsole, HasAccessed, IsTransfer, is_read, is_access, LetsBytesWait as LetsWait}
 use Rattle.mic_datapath.specs.Memory.{first_refusal, memory_refusal, word_under_way, written, sampled, outcome}
 use Rattle.mic_datapath.specs.Next.{next_address}
 use Rattle.mic_datapath.specs.Registers.{loaded, ports_given}
@@ -243,11 +243,6 @@ samples_clear s m p h n n' size clear =
 both : (a b : Bool) → (a && b) ≡ true → a ≡ true
 both true b h = refl
 both false b h = absurd (cc)
-
--- what an access past the memory's words does at the console
-pub record AtConsole : Type 0 where
-  pub takes : (n : ℕ) (p : Ports) (mem : Mem) (w : World) → n ≤ p.mar → is_read mem ≡ true → (sampled n mem p (written n mem p w)).untaken ≡ drop 1 w.untaken
-  pub gives : (n : ℕ) (p : Ports) (w : World) → n ≤ p.mar → (written n mems.Write p w).given ≡ w.given ++ (p.mdr % 256) ∷ []
 
 module _ (law : AtConsole) (word : ℕ) (m : Micro) (p : Asked) (h : IsAsked (statement_of machines.Mic2 word) m p) (n : ℕ) (w : World) (size : length w.words ≡ n)
     (clear : refusal_on n p ≡ None) (behind : n ≤ p.ports.mar) where

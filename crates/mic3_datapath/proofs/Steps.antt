@@ -1,5 +1,5 @@
 -- What is asked of the bus for the statement that retires, with its access, is the cycle or its refusal.
-use Rattle.std.proofs.Common.{arith, ◌≡◌, ℕ, ◌%◌, ◌≤◌, ◌==◌, ◌&&◌, Bool, true, false, if◌then◌else◌, IsTrue, List, [], ◌∷◌, ◌++◌, drop, Option, Some, None, Result, Ok, Err, length, inl, inr, refl, sym, ap, ap₂, subst, ◌∙◌}
+use Rattle.std.proofs.Common.{arith, ◌≡◌, ℕ, ◌%◌, ◌≤◌, ◌==◌, ◌&&◌, Bool, true, false, if◌then◌else◌, IsTrue, List, Option, Some, None, Result, Ok, Err, length, inl, inr, refl, sym, ap, ap₂, subst, ◌∙◌}
 use Rattle.std.specs.Prelude.{⊤, IfErr, IsErrAnd, OnOk, nat_lt, ◌||◌}
 use Rattle.std.proofs.lemmas.Bool.Decides.{nat_tests}
 use Rattle.console_port.specs.World.{World, Refusal, StackLimit, OutOfMap, fault_of, console_at}
@@ -14,7 +14,7 @@ use Rattle.micro_word.specs.declared.statement.Mem.TheVariants as mems
 use Rattle.micro_word.specs.declared.statement.Placed.{Placed}
 use Rattle.mic_clock.specs.Edge.{IsEdge, LetsBytesWait}
 use Rattle.mic_clock.specs.Meaning.{Done, refusal_in, untaken_by, given_by, ReadsConsole, WritesConsole, UsesConsole}
-use Rattle.mic_datapath.specs.Access.{HasAccessed, IsTransfer, is_read, is_access, LetsBytesWait as LetsWait}
+use Rattle.mic_datapath.specs.Access.{AtConsole, HasAccessed, IsTransfer, is_read, is_access, LetsBytesWait as LetsWait}
 use Rattle.mic_datapath.specs.Memory.{first_refusal, memory_refusal, word_under_way, written, sampled, outcome}
 use Rattle.mic_datapath.specs.Places.{registers_at}
 use Rattle.mic_datapath.specs.Registers.{NineRegisters, ports_given}
@@ -147,11 +147,6 @@ samples_clear i p q h n n' size clear = (λ j. sample_refusal (size j) (sym h.it
 both : (a b : Bool) → (a && b) ≡ true → a ≡ true
 both true b h = refl
 both false b h = absurd (cc)
-
--- what an access past the memory's words does at the console
-pub record AtConsole : Type 0 where
-  pub takes : (n : ℕ) (p : Ports) (mem : Mem) (w : World) → n ≤ p.mar → is_read mem ≡ true → (sampled n mem p (written n mem p w)).untaken ≡ drop 1 w.untaken
-  pub gives : (n : ℕ) (p : Ports) (w : World) → n ≤ p.mar → (written n mems.Write p w).given ≡ w.given ++ (p.mdr % 256) ∷ []
 
 module _ (law : AtConsole) (word : ℕ) (i : Option Issued) (p : Pipeline) (q : Asked) (is : issued (statement_of machines.Mic2 word) p ≡ i) (h : IsAsked i p q) (n : ℕ) (w : World) (size : length w.words ≡ n)
     (clear : refusal_on n q ≡ None) (behind : n ≤ q.ports.mar) where

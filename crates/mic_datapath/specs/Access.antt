@@ -1,5 +1,5 @@
 -- What the accesses of a cycle come to, by what the ports are given.
-use Rattle.std.specs.Prelude.{◌≡◌, ◌≢◌, ◌⊎◌, ◌<◌, ◌≤◌, ◌/◌, ◌==◌, ◌&&◌, ℕ, Bool, true, false, List, [], length, Option, Some, None, Result, Err, OnOk, IfOk, IfErr, IsErrOf, IsTrue}
+use Rattle.std.specs.Prelude.{◌≡◌, ◌≢◌, ◌⊎◌, ◌<◌, ◌≤◌, ◌/◌, ◌%◌, ◌==◌, ◌&&◌, ℕ, Bool, true, false, List, [], ◌∷◌, ◌++◌, length, drop, Option, Some, None, Result, Err, OnOk, IfOk, IfErr, IsErrOf, IsTrue}
 use Rattle.console_port.specs.Bus.{ChangesOnly, IsLed, Stands, refused_by}
 use Rattle.console_port.specs.Console.{IsFault, most_kept}
 use Rattle.console_port.specs.View.{BusView}
@@ -33,6 +33,13 @@ abbrev pub is_access : Mem → Bool
 is_access mems.Read = true
 is_access mems.Write = true
 is_access mems.None = false
+
+-- Past the memory's words, a read takes the first untaken byte, and a write gives one byte more.
+pub record AtConsole : Type 0 where
+  pub takes : (stack_end : ℕ) (p : Ports) (mem : Mem) (w : World) → stack_end ≤ p.mar → is_read mem ≡ true →
+      (sampled stack_end mem p (written stack_end mem p w)).untaken ≡ drop 1 w.untaken
+  pub gives : (stack_end : ℕ) (p : Ports) (w : World) → stack_end ≤ p.mar →
+      (written stack_end mems.Write p w).given ≡ w.given ++ (p.mdr % 256) ∷ []
 
 -- What accesses come to between a source and a sink, where `Does x w v` says that they lead the world w to v with x sampled.
 -- A refusal is the result. A fault comes only past the memory's words, where the console is accessed.

@@ -5,3 +5,4 @@ pub mod Access
 pub mod Next
 pub mod Jam
 pub mod Stage
+pub mod Sides

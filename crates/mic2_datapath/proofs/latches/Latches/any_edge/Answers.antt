@@ -7,7 +7,7 @@ use Rattle.mic2_datapath.proofs.Demands.{are_there}
 use Rattle.micro_word.specs.Coding.{statement_of}
 use Rattle.mic_words.specs.declared.machine.Machine.TheVariants as machines
 use Rattle.mic2_datapath.specs.Latches.{micro_in}
-use Rattle.mic2_datapath.proofs.Steps.{Asked, AtConsole, IsAsked, edge_done, edge_fails, edge_waits, handed_on, is_asked, moved_on, no_cause, samples_clear, stall_edge, unrefused}
+use Rattle.mic2_datapath.proofs.Steps.{Asked, IsAsked, edge_done, edge_fails, edge_waits, handed_on, is_asked, moved_on, no_cause, samples_clear, stall_edge, unrefused}
 use Rattle.mic2_datapath.proofs.latches.Latches.any_edge.Goals as goal
 
 -- a cycle that stalls
@@ -52,8 +52,7 @@ returns-clause-waits g c =
     is_asked control.word m c.args.stalled c.args.value c.args.c c.destinations-destinations.result control.lines.takes c.is_named.result c.ports-ports.result c.mem.result
     c.will_fetch-at.result c.requires.computed c.if-stalled.false c.destinations-destinations.ensures.value control.demands c.is_named.ensures c.ports-ports.ensures
     c.mem.ensures c.will_fetch-at.ensures.refusal c.will_fetch-at.ensures.value in
-    let law : AtConsole = record { takes = c.console_law.ensures.takes; gives = c.console_law.ensures.gives } in
-    edge_waits control.word m _ _ c.args.bus.now asked is law _ _ c.in_ok-sampled.ensures.waits
+    edge_waits control.word m _ _ c.args.bus.now asked is c.console_law.ensures _ _ c.in_ok-sampled.ensures.waits
 
 pub returns-in_err-sampled-clause-edge : goal.returns-in_err-sampled-clause-edge
 unfolding statement_of
@@ -66,8 +65,7 @@ returns-in_err-sampled-clause-edge g c =
     is_asked control.word m c.args.stalled c.args.value c.args.c c.destinations-destinations.result control.lines.takes c.is_named.result c.ports-ports.result c.mem.result
     c.will_fetch-at.result c.requires.computed c.if-stalled.false c.destinations-destinations.ensures.value control.demands c.is_named.ensures c.ports-ports.ensures
     c.mem.ensures c.will_fetch-at.ensures.refusal c.will_fetch-at.ensures.value in
-    let law : AtConsole = record { takes = c.console_law.ensures.takes; gives = c.console_law.ensures.gives } in
-    let edge = edge_fails control.word m _ _ c.args.bus.now asked is law _ _ _ c.access.new.bus c.in_err-sampled.field-0.0 c.in_err-sampled.ensures.access in
+    let edge = edge_fails control.word m _ _ c.args.bus.now asked is c.console_law.ensures _ _ _ c.access.new.bus c.in_err-sampled.field-0.0 c.in_err-sampled.ensures.access in
     subst (λ (r : Result ⊤ BusFault). IsEdge mic2_meaning control.word m (g.S.Source.left c.args.source.now) (g.K.Sink.held c.args.sink.now) c.args.bus.now {T = ⊤} m
     (g.S.Source.left c.access.new.source) (g.K.Sink.held c.access.new.sink) c.access.new.bus r) (handed_on _ _ c.from_residual.ensures.1) edge
 
@@ -82,5 +80,4 @@ returns-in_err-sampled-clause-waits g c =
     is_asked control.word m c.args.stalled c.args.value c.args.c c.destinations-destinations.result control.lines.takes c.is_named.result c.ports-ports.result c.mem.result
     c.will_fetch-at.result c.requires.computed c.if-stalled.false c.destinations-destinations.ensures.value control.demands c.is_named.ensures c.ports-ports.ensures
     c.mem.ensures c.will_fetch-at.ensures.refusal c.will_fetch-at.ensures.value in
-    let law : AtConsole = record { takes = c.console_law.ensures.takes; gives = c.console_law.ensures.gives } in
-    edge_waits control.word m _ _ c.args.bus.now asked is law _ _ c.in_err-sampled.ensures.waits
+    edge_waits control.word m _ _ c.args.bus.now asked is c.console_law.ensures _ _ c.in_err-sampled.ensures.waits

@@ -10,7 +10,7 @@ use Rattle.mic3_datapath.specs.Pipeline.{Pipeline, Issued}
 use Rattle.mic3_datapath.specs.Mic3.{mic3_meaning}
 use Rattle.mic3_datapath.specs.Cycle.{issued, bytes_leaving}
 use Rattle.mic3_datapath.specs.Slots.{in_operand, pipeline_in}
-use Rattle.mic3_datapath.proofs.Steps.{Asked, AtConsole, IsAsked, edge_done, edge_fails, edge_waits, handed_on, is_asked, issued_there, samples_clear, unrefused}
+use Rattle.mic3_datapath.proofs.Steps.{Asked, IsAsked, edge_done, edge_fails, edge_waits, handed_on, is_asked, issued_there, samples_clear, unrefused}
 use Rattle.mic3_datapath.proofs.mic3.Mic3Clocked.edge.Goals as goal
 
 pub will_fetch-at-requires : goal.will_fetch-at-requires
@@ -68,8 +68,7 @@ returns-clause-waits g c =
     let h : IsAsked i p asked =
     is_asked old.pipeline i c.bytes_leaving-taken.result c.ports-ports.result c.mem_in-mem.result c.jumps_now-jumps.result c.will_fetch-at.result
     c.bytes_leaving-taken.ensures c.ports-ports.ensures c.mem_in-mem.ensures c.jumps_now-jumps.ensures c.will_fetch-at.ensures.refusal c.will_fetch-at.ensures.value in
-    let law : AtConsole = record { takes = c.console_law.ensures.takes; gives = c.console_law.ensures.gives } in
-    edge_waits old.control.word i p asked is h _ _ c.args.bus.now law _ _ c.in_ok-sampled.ensures.waits
+    edge_waits old.control.word i p asked is h _ _ c.args.bus.now c.console_law.ensures _ _ c.in_ok-sampled.ensures.waits
 
 pub returns-in_err-sampled-clause-edge : goal.returns-in_err-sampled-clause-edge
 returns-in_err-sampled-clause-edge g c =
@@ -82,8 +81,7 @@ returns-in_err-sampled-clause-edge g c =
     let h : IsAsked i p asked =
     is_asked old.pipeline i c.bytes_leaving-taken.result c.ports-ports.result c.mem_in-mem.result c.jumps_now-jumps.result c.will_fetch-at.result
     c.bytes_leaving-taken.ensures c.ports-ports.ensures c.mem_in-mem.ensures c.jumps_now-jumps.ensures c.will_fetch-at.ensures.refusal c.will_fetch-at.ensures.value in
-    let law : AtConsole = record { takes = c.console_law.ensures.takes; gives = c.console_law.ensures.gives } in
-    let edge = edge_fails old.control.word i p asked is h _ _ c.args.bus.now law _ _ _ c.access.new.bus c.in_err-sampled.field-0.0 c.in_err-sampled.ensures.access in
+    let edge = edge_fails old.control.word i p asked is h _ _ c.args.bus.now c.console_law.ensures _ _ _ c.access.new.bus c.in_err-sampled.field-0.0 c.in_err-sampled.ensures.access in
     subst (λ (r : Result ⊤ BusFault). IsEdge mic3_meaning old.control.word p (g.S.Source.left c.args.source.now) (g.K.Sink.held c.args.sink.now) c.args.bus.now {T = ⊤} p
     (g.S.Source.left c.access.new.source) (g.K.Sink.held c.access.new.sink) c.access.new.bus r) (handed_on _ _ c.from_residual.ensures.1) edge
 
@@ -98,5 +96,4 @@ returns-in_err-sampled-clause-waits g c =
     let h : IsAsked i p asked =
     is_asked old.pipeline i c.bytes_leaving-taken.result c.ports-ports.result c.mem_in-mem.result c.jumps_now-jumps.result c.will_fetch-at.result
     c.bytes_leaving-taken.ensures c.ports-ports.ensures c.mem_in-mem.ensures c.jumps_now-jumps.ensures c.will_fetch-at.ensures.refusal c.will_fetch-at.ensures.value in
-    let law : AtConsole = record { takes = c.console_law.ensures.takes; gives = c.console_law.ensures.gives } in
-    edge_waits old.control.word i p asked is h _ _ c.args.bus.now law _ _ c.in_err-sampled.ensures.waits
+    edge_waits old.control.word i p asked is h _ _ c.args.bus.now c.console_law.ensures _ _ c.in_err-sampled.ensures.waits
