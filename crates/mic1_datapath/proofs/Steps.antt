@@ -1,8 +1,7 @@
 -- What is asked of the bus for a statement, with its accesses, is its microstep or its refusal.
-use Rattle.std.proofs.Common.{◌≡◌, ℕ, ◌%◌, ◌≤◌, ◌==◌, ◌&&◌, Bool, true, false, IsTrue, List, [], ◌∷◌, ◌++◌, drop, Option, Some, None, Result, Ok, Err, length, inl, inr, refl, sym, ap, subst, ◌∙◌, arith}
-use Rattle.std.specs.Prelude.{⊤, nat_lt}
-use Rattle.std.proofs.lemmas.Bool.Decides.{nat_tests}
-use Rattle.console_port.specs.World.{World, Refusal, StackLimit, OutOfMap, fault_of, console_at, untaken_after, given_after}
+use Rattle.std.proofs.Common.{◌≡◌, ℕ, ◌%◌, ◌≤◌, ◌==◌, ◌&&◌, Bool, true, false, IsTrue, List, Option, Some, None, Result, Ok, Err, length, inl, inr, refl, sym, ap, subst, ◌∙◌}
+use Rattle.std.specs.Prelude.{⊤}
+use Rattle.console_port.specs.World.{World, Refusal, StackLimit, OutOfMap, fault_of, console_at}
 use Rattle.console_port.specs.Bus.{ChangesOnly, IsLed, Shows, refused_by}
 use Rattle.console_port.specs.Console.{IsFault}
 use Rattle.console_port.specs.View.{BusView}
@@ -18,7 +17,7 @@ use Rattle.mic_clock.specs.Edge.{IsEdge, LetsBytesWait}
 use Rattle.mic_clock.specs.Meaning.{Outcome, Done, refusal_in, untaken_by, given_by, ReadsConsole, WritesConsole, UsesConsole}
 use Rattle.mic_datapath.specs.Memory.{access_refusal, word_under_way, byte_under_way, written, sampled, outcome}
 use Rattle.mic1_datapath.specs.Microstep.{assigned, ports_of, result_of, settled, next_micro, refusal, clock, world_after}
-use Rattle.mic_datapath.specs.Access.{HasAccessed, IsAccess, is_read, is_access, LetsBytesWait as LetsWait}
+use Rattle.mic_datapath.specs.Access.{AtConsole, HasAccessed, IsAccess, is_read, is_access, LetsBytesWait as LetsWait}
 use Rattle.mic1_datapath.specs.Mic1.{microstep, step_of_word, mic1_meaning}
 use Rattle.mic1_datapath.specs.Micro.{Micro}
 use Rattle.mic_datapath.specs.declared.ports.Ports.{Ports}
@@ -108,21 +107,7 @@ both : (a b : Bool) → (a && b) ≡ true → a ≡ true
 both true b h = refl
 both false b h = absurd (cc)
 
-module _ (n : ℕ) (q : Ports) (behind : n ≤ q.mar) where
-  off : nat_lt q.mar n ≡ false
-  off = grind (arith, nat_tests)
-
-  takes : (mem : Mem) (w : World) → is_read mem ≡ true → (sampled n mem q (written n mem q w)).untaken ≡ drop 1 w.untaken
-  unfolding untaken_after
-  takes mems.Read w is = rw off
-  takes mems.Write w is = absurd (cc)
-  takes mems.None w is = absurd (cc)
-
-  gives : (w : World) → (written n mems.Write q w).given ≡ w.given ++ (q.mdr % 256) ∷ []
-  unfolding given_after
-  gives w = rw off
-
-module _ (word : ℕ) (m : Micro) (p : Asked) (h : IsAsked (statement_of machines.Mic1 word) m p) (n : ℕ) (w : World) (size : length w.words ≡ n)
+module _ (law : AtConsole) (word : ℕ) (m : Micro) (p : Asked) (h : IsAsked (statement_of machines.Mic1 word) m p) (n : ℕ) (w : World) (size : length w.words ≡ n)
     (clear : access_refusal n p.mem p.fetch p.ports ≡ None) (behind : n ≤ p.ports.mar) where
   reads_by : is_read p.mem ≡ true → ReadsConsole mic1_meaning word m w
   unfolding step_of_word
@@ -130,7 +115,7 @@ module _ (word : ℕ) (m : Micro) (p : Asked) (h : IsAsked (statement_of machine
       record {
         takes = λ input.
             ap untaken_by (done_with (statement_of machines.Mic1 word) m p h n (record w { untaken = input }) size clear)
-            ∙ ap Some (takes n p.ports behind p.mem (record w { untaken = input }) is);
+            ∙ ap Some (law.takes n p.ports p.mem (record w { untaken = input }) behind is);
       }
 
   writes_by : p.mem ≡ mems.Write → WritesConsole mic1_meaning word m w
@@ -140,7 +125,7 @@ module _ (word : ℕ) (m : Micro) (p : Asked) (h : IsAsked (statement_of machine
         byte = p.ports.mdr % 256;
         gives =
             ap given_by (done_with (statement_of machines.Mic1 word) m p h n w size clear)
-            ∙ (ap (λ (mem : Mem). Some (sampled n mem p.ports (written n mem p.ports w)).given) is ∙ ap Some (gives n p.ports behind w));
+            ∙ (ap (λ (mem : Mem). Some (sampled n mem p.ports (written n mem p.ports w)).given) is ∙ ap Some (law.gives n p.ports w behind));
       }
 
   -- a failed read of the console is of a step that reads it
@@ -188,11 +173,11 @@ module _ (word : ℕ) (m : Micro) (p : Asked) (h : IsAsked (statement_of machine
           stands = tt;
         }
 
-    pub edge_fails : {T : Type 0} (Does : T → World → World → Type 0) (e : BusFault) →
+    pub edge_fails : {T : Type 0} (law : AtConsole) (Does : T → World → World → Type 0) (e : BusFault) →
         HasAccessed why p.mem p.ports.mar Does left held bus left' held' bus' (Err e) →
         IsEdge mic1_meaning word m left held bus {T = ⊤} m left' held' bus' (Err e)
     unfolding step_of_word
-    edge_fails Does e a =
+    edge_fails law Does e a =
         let s = statement_of machines.Mic1 word in
         let clear = λ (fault : IsFault e). not_refused why (Err e) e refl fault a.refusal in
         record {
@@ -204,19 +189,19 @@ module _ (word : ℕ) (m : Micro) (p : Asked) (h : IsAsked (statement_of machine
             refused = λ no_fault w shows. step_refusal s m p h _ w (size_of w shows) ∙ a.refused no_fault;
             reads = λ is w shows.
                 let fault : IsFault e = subst IsFault (sym is) tt in
-                reads_console word m p h _ w (size_of w shows) (clear fault) (a.behind fault) (a.reads (cc));
+                reads_console law word m p h _ w (size_of w shows) (clear fault) (a.behind fault) (a.reads (cc));
             uses = λ is w shows.
                 let fault : IsFault e = subst IsFault (sym is) tt in
-                uses_console word m p h _ w (size_of w shows) (clear fault) (a.behind fault) (a.uses (cc));
+                uses_console law word m p h _ w (size_of w shows) (clear fault) (a.behind fault) (a.uses (cc));
           };
           state = refl;
           stands = a.stands;
         }
 
-  pub edge_waits : {K : Type 0} (sink sink' : K) → LetsWait (length bus.words) p.mem p.ports.mar why bus.console.kept sink sink' →
+  pub edge_waits : {K : Type 0} (law : AtConsole) (sink sink' : K) → LetsWait (length bus.words) p.mem p.ports.mar why bus.console.kept sink sink' →
       LetsBytesWait mic1_meaning word m left held bus sink sink'
-  edge_waits sink sink' lets room =
+  edge_waits law sink sink' lets room =
       elim (lets room) [
         | inl same ↦ inl same
-        | inr asks ↦ inr (asks.some, λ w shows. reads_console word m p h _ w (size_of w shows) asks.clear asks.behind asks.reads)
+        | inr asks ↦ inr (asks.some, λ w shows. reads_console law word m p h _ w (size_of w shows) asks.clear asks.behind asks.reads)
       ]

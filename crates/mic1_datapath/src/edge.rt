@@ -15,7 +15,8 @@ use crate::latches::Latches;
 use console_port::{Bus, BusFault};
 use mic_base::{Sink, Source};
 use mic_datapath::{
-    Sampled, access, access_memory, fetch_alone, is_in_memory, read_alone, write_alone,
+    Sampled, access, access_memory, console_law, fetch_alone, is_in_memory, read_alone,
+    write_alone,
 };
 use micro_word::{Lines, Machine, Mem, bits};
 
@@ -164,6 +165,7 @@ fn any_edge<S: Source, K: Sink>(
     ensures sink { SinkGoesOn K.held K.passed (result ≡ Err BusFault.WriteFault) sink.old sink.new }
     ensures cause { HasFaultCause (S.faults source.old) (S.faults source.new) (K.faults sink.old) (K.faults sink.new) result }
 {
+    console_law();
     let mem = Mem::of_bits(bits::mem(Machine::Mic1, word));
     let fetch = bits::fetch(Machine::Mic1, word);
     let ports = latches.ports(bits::destinations(Machine::Mic1, word), c);

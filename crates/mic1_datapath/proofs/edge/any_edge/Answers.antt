@@ -29,7 +29,7 @@ returns-clause-waits g c =
     let is : IsAsked s m asked =
     is_asked c.args.word m c.args.value c.args.c c.destinations.result c.ports-ports.result c.of_bits-mem.result c.fetch-fetch.result
     its.value_is its.c_is c.destinations.ensures.value c.ports-ports.ensures (c.of_bits-mem.ensures ∙ ap mem_of c.mem.ensures) c.fetch-fetch.ensures in
-    edge_waits c.args.word m asked is _ _ c.args.bus.now _ _ c.in_ok-sampled.ensures.waits
+    edge_waits c.args.word m asked is _ _ c.args.bus.now c.console_law.ensures _ _ c.in_ok-sampled.ensures.waits
 
 pub returns-in_err-sampled-clause-edge : goal.returns-in_err-sampled-clause-edge
 returns-in_err-sampled-clause-edge g c =
@@ -45,7 +45,7 @@ returns-in_err-sampled-clause-edge g c =
     let left' = g.S.Source.left c.access.new.source in
     let held' = g.K.Sink.held c.access.new.sink in
     edge_passed c.args.word m left held c.args.bus.now left' held' c.access.new.bus m _ c.from_residual.result c.from_residual.ensures.1
-    (edge_fails c.args.word m asked is left held c.args.bus.now left' held' c.access.new.bus _ _ c.in_err-sampled.ensures.access)
+    (edge_fails c.args.word m asked is left held c.args.bus.now left' held' c.access.new.bus c.console_law.ensures _ _ c.in_err-sampled.ensures.access)
 
 pub returns-in_err-sampled-clause-waits : goal.returns-in_err-sampled-clause-waits
 returns-in_err-sampled-clause-waits g c =
@@ -56,4 +56,4 @@ returns-in_err-sampled-clause-waits g c =
     let is : IsAsked s m asked =
     is_asked c.args.word m c.args.value c.args.c c.destinations.result c.ports-ports.result c.of_bits-mem.result c.fetch-fetch.result
     its.value_is its.c_is c.destinations.ensures.value c.ports-ports.ensures (c.of_bits-mem.ensures ∙ ap mem_of c.mem.ensures) c.fetch-fetch.ensures in
-    edge_waits c.args.word m asked is _ _ c.args.bus.now _ _ c.in_err-sampled.ensures.waits
+    edge_waits c.args.word m asked is _ _ c.args.bus.now c.console_law.ensures _ _ c.in_err-sampled.ensures.waits
