@@ -1,9 +1,10 @@
 -- What Mic-1 means as a clocked machine: the microstep of the statement that a word spells.
-use Rattle.std.specs.Prelude.{◌≡◌, ℕ, true, false, ◌&&◌, ◌==◌, List, None, length}
+use Rattle.std.specs.Prelude.{◌≡◌, ℕ, true, false, ◌&&◌, ◌==◌, List, None, length, IsTrue}
 use Rattle.console_port.specs.World.{World, byte_in}
 use Rattle.micro_word.specs.declared.statement.Placed.{Placed}
 use Rattle.mic_words.specs.declared.machine.Machine.TheVariants as machines
-use Rattle.micro_word.specs.Coding.{statement_of}
+use Rattle.micro_word.specs.Coding.{microword_of, statement_of}
+use Rattle.micro_word.specs.Words.{is_valid}
 use Rattle.mic_words.specs.Arithmetic.{is_negative}
 use Rattle.micro_word.specs.Operation.{shifted}
 use Rattle.mic_clock.specs.declared.buses.Drive.{Drive}
@@ -21,6 +22,11 @@ microstep s m w = outcome (refusal (length w.words) s m) (clock (length w.words)
 
 unfoldable pub step_of_word : ℕ → Micro → World → Outcome Micro
 step_of_word word m w = microstep (statement_of machines.Mic1 word) m w
+
+-- the step of a valid statement's word is the microstep of the statement
+abbrev pub StepsAsSpelled : Type 0
+StepsAsSpelled =
+    (s : Placed) → IsTrue (is_valid machines.Mic1 s) → (m : Micro) (w : World) → step_of_word (microword_of machines.Mic1 s) m w ≡ microstep s m w
 
 abbrev pub initial : Start → Micro
 initial start =

@@ -1,21 +1,13 @@
 //! What the meaning of Mic-2 promises of statements.
 
-ghost use Rattle.std.specs.Prelude.{◌≡◌, IsTrue};
-ghost use Rattle.console_port.specs.World.{World};
-ghost use Rattle.mic_words.specs.declared.machine.Machine.TheVariants.{Mic2};
-ghost use Rattle.micro_word.specs.declared.statement.Placed.{Placed};
-ghost use Rattle.micro_word.specs.Coding.{microword_of};
-ghost use Rattle.micro_word.specs.Words.{is_valid};
-ghost use Rattle.mic2_datapath.specs.Microstep.{microstep};
-ghost use Rattle.mic2_datapath.specs.Mic2.{step_of_word};
-ghost use Rattle.mic2_datapath.specs.Micro.{Micro};
+ghost use Rattle.mic2_datapath.specs.Mic2.{StepsAsSpelled};
 
 use mic_words::Machine;
 use micro_word::statement_law;
 
 /// The step of a valid statement's word is the microstep of the statement.
 pub fn step_law()
-    ensures { (s : Placed) → IsTrue (is_valid Mic2 s) → (m : Micro) (w : World) → step_of_word (microword_of Mic2 s) m w ≡ microstep s m w }
+    ensures { StepsAsSpelled }
 {
     statement_law(Machine::Mic2);
 }
