@@ -19,13 +19,12 @@ use Rattle.mic_clock.specs.Edge.{IsEdge, LetsBytesWait}
 use Rattle.mic_clock.specs.Meaning.{Outcome, Done, refusal_in, untaken_by, given_by, ReadsConsole, WritesConsole, UsesConsole}
 use Rattle.mic_datapath.specs.Access.{AtConsole, HasAccessed, IsTransfer, is_read, is_access, LetsBytesWait as LetsWait}
 use Rattle.mic_datapath.specs.Memory.{first_refusal, memory_refusal, word_under_way, written, sampled, outcome}
-use Rattle.mic_datapath.specs.Next.{next_address}
 use Rattle.mic_datapath.specs.Registers.{loaded, ports_given}
 use Rattle.mic_datapath.specs.declared.ports.Ports.{Ports}
 use Rattle.mic2_fetch_unit.specs.FetchUnit.{Prefetch, edge_refusal, sample_refusal}
 use Rattle.mic2_datapath.proofs.Demands.{same_sample, same_unit}
 use Rattle.mic2_datapath.proofs.Inside.{led_same}
-use Rattle.mic2_datapath.specs.Microstep.{access_refusal, advanced, byte_at, clock, demand, is_stalled, is_to_instruction, jumps, microstep, next_micro, operand_bytes, refusal, registers_in, result_of, settled, stalled, step_if, unit_after, unit_refusal, unit_samples, world_after}
+use Rattle.mic2_datapath.specs.Microstep.{access_refusal, advanced, clock, demand, is_stalled, jumps, microstep, moved_on, refusal, registers_in, result_of, settled, stalled, step_if, unit_after, unit_refusal, unit_samples, world_after}
 use Rattle.mic2_datapath.specs.Latches.{HasComputed}
 use Rattle.mic2_datapath.specs.Mic2.{mic2_meaning, step_of_word}
 use Rattle.mic2_datapath.specs.Micro.{Micro}
@@ -135,13 +134,6 @@ step_on n s m w = outcome (refusal n s m) (clock n s m w) (world_after n s m w)
 
 goes_on : (s : Placed) (m : Micro) (p : Asked) → IsAsked s m p → (n : ℕ) (w : World) → length w.words ≡ n → microstep s m w ≡ step_on n s m w
 goes_on s m p h n w size = (λ i. step_if (h.goes i) (size i) s m w)
-
--- after the edge, with the result x, with this word under way and the unit over these words
-abbrev pub moved_on : Placed → Micro → ℕ → List ℕ → Option ℕ → Micro
-moved_on s m x words word =
-    let r = settled s m in
-    next_micro r (next_address s.next x (byte_at m.unit (operand_bytes s.part))) word (unit_after (jumps s.part) words r.pc (demand s) m.unit)
-    (is_to_instruction s.next)
 
 is_done : (s : Placed) (m : Micro) (p : Asked) → IsAsked s m p → (w v : World) (n : ℕ) → length w.words ≡ n → (word : Option ℕ) (words : List ℕ) →
     refusal_on n p ≡ None → IsTransfer n p.mem p.ports w word v → v.words ≡ words →

@@ -74,6 +74,10 @@ abbrev pub advanced : ℕ → ℕ → ℕ
 advanced zero pc = pc
 advanced (suc taken) pc = plus pc (suc taken)
 
+-- these registers, with PC past the bytes that are taken
+abbrev pub past : ℕ → NineRegisters → NineRegisters
+past taken r = record r { pc = advanced taken r.pc }
+
 abbrev pub settled : Placed → Micro → NineRegisters
 settled s m =
     loaded s.part.dests (shifted s.part.shift (result_of s.part m)) m.word (record (registers_in m) { pc = advanced (demand s) m.pc })
@@ -115,6 +119,13 @@ next_micro r mpc word unit begins =
       begins = begins;
     }
 
+-- after the edge, with the result x, with this word under way and the unit over these words
+abbrev pub moved_on : Placed → Micro → ℕ → List ℕ → Option ℕ → Micro
+moved_on s m x words word =
+    let r = settled s m in
+    next_micro r (next_address s.next x (byte_at m.unit (operand_bytes s.part))) word (unit_after (jumps s.part) words r.pc (demand s) m.unit)
+    (is_to_instruction s.next)
+
 abbrev pub clock : ℕ → Placed → Micro → World → Micro
 clock stack_end s m w =
     let r = settled s m in
@@ -143,6 +154,10 @@ abbrev pub refusal : ℕ → Placed → Micro → Option Refusal
 refusal stack_end s m =
     let r = settled s m in
     first_refusal (memory_refusal stack_end s.part.mem r.mar) (unit_refusal (jumps s.part) stack_end r.pc (demand s) m.unit)
+
+-- why the word that the unit samples at the edge is refused, if it is
+abbrev pub unit_refused : ℕ → Placed → Micro → Option Refusal
+unit_refused stack_end s m = sample_refusal stack_end (unit_samples (jumps s.part) (settled s m).pc (demand s) m.unit)
 
 -- why a step is refused, by the word address that the unit samples, if it samples one
 abbrev pub access_refusal : ℕ → Mem → ℕ → Option ℕ → Option Refusal

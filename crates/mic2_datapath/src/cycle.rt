@@ -1,13 +1,12 @@
 //! A cycle over the latches and what is on the buses.
 
 ghost use Rattle.std.specs.Prelude.{◌≡◌, Err};
-ghost use Rattle.mic_words.specs.declared.machine.Machine.TheVariants.{Mic2};
-ghost use Rattle.micro_word.specs.Coding.{statement_of};
 ghost use Rattle.console_port.specs.Console.{HasFaultCause};
 ghost use Rattle.console_port.specs.Streams.{SinkGoesOn, SourceGoesOn};
 ghost use Rattle.mic_clock.specs.Edge.{IsEdge, LetsBytesWait};
 ghost use Rattle.mic2_datapath.specs.Latches.{AreLatches, HasComputed, micro_in};
 ghost use Rattle.mic2_datapath.specs.Mic2.{driven, mic2_meaning};
+ghost use Rattle.mic2_datapath.specs.Spelled.{spelled};
 
 use crate::accesses::access;
 use crate::control::{Control, is_quiet};
@@ -56,7 +55,7 @@ impl Latches {
         sink: &mut K,
     ) -> Result<(), BusFault>
         requires latches { AreLatches self.old }
-        requires computed { HasComputed (statement_of Mic2 control.now.word) (micro_in self.old) stalled value c }
+        requires computed { HasComputed (spelled control.now) (micro_in self.old) stalled value c }
         ensures latches { AreLatches self.new }
         ensures edge { IsEdge mic2_meaning control.now.word (micro_in self.old) (S.left source.old) (K.held sink.old) bus.old
             (micro_in self.new) (S.left source.new) (K.held sink.new) bus.new result }
@@ -92,7 +91,7 @@ impl Latches {
         sink: &mut K,
     ) -> Result<(), BusFault>
         requires latches { AreLatches self.old }
-        requires computed { HasComputed (statement_of Mic2 control.now.word) (micro_in self.old) stalled value c }
+        requires computed { HasComputed (spelled control.now) (micro_in self.old) stalled value c }
         ensures latches { AreLatches self.new }
         ensures edge { IsEdge mic2_meaning control.now.word (micro_in self.old) (S.left source.old) (K.held sink.old) bus.old
             (micro_in self.new) (S.left source.new) (K.held sink.new) bus.new result }
@@ -118,7 +117,7 @@ impl Latches {
         sink: &mut K,
     ) -> Result<(), BusFault>
         requires latches { AreLatches self.old }
-        requires computed { HasComputed (statement_of Mic2 control.now.word) (micro_in self.old) stalled value c }
+        requires computed { HasComputed (spelled control.now) (micro_in self.old) stalled value c }
         ensures latches { AreLatches self.new }
         ensures edge { IsEdge mic2_meaning control.now.word (micro_in self.old) (S.left source.old) (K.held sink.old) bus.old
             (micro_in self.new) (S.left source.new) (K.held sink.new) bus.new result }

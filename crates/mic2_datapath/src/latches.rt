@@ -3,7 +3,7 @@
 ghost use Rattle.std.specs.Prelude.{◌≡◌, ◌≢◌, ◌≤◌, ◌<◌, ◌*◌, ◌+◌, ℕ, None, OnOk, OnErr, IfErr, IfNone, IfSome, IsTrue, false, is_some, length, slice_index, true};
 ghost use Rattle.mic_words.specs.Arithmetic.{signed_byte, signed_pair};
 ghost use Rattle.micro_word.specs.declared.statement.PlacedNext.{PlacedNext};
-ghost use Rattle.micro_word.specs.Coding.{addr_bits, jam_bits, mem_of, statement_of};
+ghost use Rattle.micro_word.specs.Coding.{addr_bits, jam_bits, mem_of};
 ghost use Rattle.micro_word.specs.Words.{is_next};
 ghost use Rattle.micro_word.specs.Layout.{fields_of};
 ghost use Rattle.micro_word.specs.Lines.{AreSlots, names};
@@ -13,13 +13,14 @@ ghost use Rattle.console_port.specs.Bus.{ChangesOnly, refused_by};
 ghost use Rattle.console_port.specs.World.{World};
 ghost use Rattle.mic_datapath.specs.Access.{IsTransfer};
 ghost use Rattle.mic_datapath.specs.Memory.{memory_refusal};
-ghost use Rattle.mic_datapath.specs.Next.{next_address};
+ghost use Rattle.mic_datapath.specs.Next.{GoesTo, next_address};
 ghost use Rattle.mic_datapath.specs.Places.{registers_at};
 ghost use Rattle.mic_datapath.specs.Registers.{loaded, ports_given};
 ghost use Rattle.mic2_fetch_unit.specs.FetchUnit.{edge_refusal, sample_refusal};
 ghost use Rattle.mic2_datapath.specs.Mic2.{initial as initial_of};
-ghost use Rattle.mic2_datapath.specs.Microstep.{advanced, byte_at, demand, dispatch_bytes, is_to_instruction, jumps, next_micro, operand_bytes, result_of, settled, source, stalled, unit_after, unit_refusal, unit_samples};
+ghost use Rattle.mic2_datapath.specs.Microstep.{advanced, byte_at, dispatch_bytes, is_to_instruction, moved_on, past, result_of, source, stalled, unit_after, unit_refusal, unit_refused, unit_samples};
 ghost use Rattle.mic2_datapath.specs.Latches.{AreLatches, HasFront, access_by, loaded_in, micro_in};
+ghost use Rattle.mic2_datapath.specs.Spelled.{spelled};
 
 use crate::accesses::is_there;
 use crate::control::{Control, JMPC, is_read, is_write};
@@ -102,7 +103,7 @@ pub fn pc_after(pc: u32, taken: u8) -> u32
 
 /// PC goes on past the bytes that are taken.
 pub fn go_past(taken: u8, places: &mut Places)
-    ensures registers { registers_at places.new ≡ record (registers_at places.old) { pc = advanced taken (registers_at places.old).pc } }
+    ensures registers { registers_at places.new ≡ past taken (registers_at places.old) }
     ensures others { (k : ℕ) → 9 ≤ k → slice_index places.new k ≡ slice_index places.old k }
 {
     places[PC as usize] = pc_after(places[PC as usize], taken);
@@ -118,8 +119,7 @@ pub fn load(
     places: &mut Places,
 )
     requires { AreSlots destinations lines.now.first lines.now.second lines.now.further }
-    ensures registers { registers_at places.new ≡
-        loaded destinations c arriving (record (registers_at places.old) { pc = advanced taken (registers_at places.old).pc }) }
+    ensures registers { registers_at places.new ≡ loaded destinations c arriving (past taken (registers_at places.old)) }
     ensures others { (k : ℕ) → 9 ≤ k → k < 15 → slice_index places.new k ≡ slice_index places.old k }
 {
     go_past(taken, places);
@@ -161,7 +161,7 @@ struct Onward {
 fn straight_on(jam: u8, addr: u16, value: u32) -> Onward
     requires addr { addr < 512 }
     requires jam { jam ≢ JMPC }
-    ensures mpc { (n : PlacedNext) (byte : ℕ) → IsTrue (is_next n) → addr ≡ addr_bits n → jam ≡ jam_bits n → result.mpc ≡ next_address n value byte }
+    ensures mpc { (byte : ℕ) → GoesTo addr jam value byte result.mpc }
     ensures small { result.mpc < 512 }
     ensures begins { (n : PlacedNext) → jam ≡ jam_bits n → addr ≡ addr_bits n → result.begins ≡ is_to_instruction n }
 {
@@ -214,8 +214,8 @@ impl Latches {
         requires there { control.now.lines.takes ≤ length self.old.unit.bytes }
         ensures latches { AreLatches self.new }
         ensures micro { micro_in self.new ≡ micro_in self.old }
-        ensures a { result.a ≡ source (statement_of Mic2 control.now.word).part.a (micro_in self.old) }
-        ensures b { result.b ≡ source (statement_of Mic2 control.now.word).part.b (micro_in self.old) }
+        ensures a { result.a ≡ source (spelled control.now).part.a (micro_in self.old) }
+        ensures b { result.b ≡ source (spelled control.now).part.b (micro_in self.old) }
     {
         word_law(Machine::Mic2);
         statement_law(Machine::Mic2);
@@ -228,8 +228,7 @@ impl Latches {
 
     /// What the memory's ports are given: their registers as they become.
     pub fn ports(&self, c: u16, value: u32, taken: u8) -> Ports
-        ensures { result ≡ ports_given (loaded c value self.now.word
-            (record (registers_at self.now.places) { pc = advanced taken (registers_at self.now.places).pc })) }
+        ensures { result ≡ ports_given (loaded c value self.now.word (past taken (registers_at self.now.places))) }
     {
         let mar = self.mar_port(c, value);
         let mdr = self.mdr_port(c, value);
@@ -261,7 +260,7 @@ impl Latches {
     pub fn will_fetch(&self, jumps: bool, pc: u32, taken: u8) -> Option<u32>
         requires { taken ≤ length self.now.unit.bytes }
         ensures value { result ≡ unit_samples jumps pc taken self.now.unit }
-        ensures refusal { (stack_end : ℕ) → sample_refusal stack_end result ≡ unit_refusal jumps stack_end pc taken self.now.unit }
+        ensures refusal { (n : ℕ) → sample_refusal n result ≡ unit_refusal jumps n pc taken self.now.unit }
     {
         if jumps {
             Some(pc / 4)
@@ -370,16 +369,13 @@ impl Latches {
     ) -> Result<(), BusFault>
         requires latches { AreLatches self.old }
         requires there { control.now.lines.takes ≤ length self.old.unit.bytes }
-        requires value { value ≡ result_of (statement_of Mic2 control.now.word).part (micro_in self.old) }
-        requires c { c ≡ shifted (statement_of Mic2 control.now.word).part.shift value }
+        requires value { value ≡ result_of (spelled control.now).part (micro_in self.old) }
+        requires c { c ≡ shifted (spelled control.now).part.shift value }
         ensures latches { AreLatches self.new }
-        ensures ok { OnOk result (let s = statement_of Mic2 control.now.word in let m = micro_in self.old in
-            micro_in self.new ≡ next_micro (settled s m) (next_address s.next value (byte_at m.unit (operand_bytes s.part))) word
-            (unit_after (jumps s.part) bus.now.words (settled s m).pc (demand s) m.unit) (is_to_instruction s.next)) }
-        ensures allowed { OnOk result (let s = statement_of Mic2 control.now.word in let m = micro_in self.old in
-            sample_refusal (length bus.now.words) (unit_samples (jumps s.part) (settled s m).pc (demand s) m.unit) ≡ None) }
-        ensures err { IfErr result (λ e. let s = statement_of Mic2 control.now.word in let m = micro_in self.old in
-            refused_by (sample_refusal (length bus.now.words) (unit_samples (jumps s.part) (settled s m).pc (demand s) m.unit)) ≡ Some e) }
+        ensures ok { OnOk result (micro_in self.new ≡ moved_on (spelled control.now) (micro_in self.old) value bus.now.words word) }
+        ensures allowed { OnOk result (unit_refused (length bus.now.words) (spelled control.now) (micro_in self.old) ≡ None) }
+        ensures err { IfErr result (λ e.
+            refused_by (unit_refused (length bus.now.words) (spelled control.now) (micro_in self.old)) ≡ Some e) }
         ensures state { OnErr result (micro_in self.new ≡ micro_in self.old) }
     {
         word_law(Machine::Mic2);

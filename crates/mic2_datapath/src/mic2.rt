@@ -1,12 +1,11 @@
 //! The machine: its four calls, which are the book's subcycles.
 
 ghost use Rattle.std.specs.Prelude.{◌≡◌, refl};
-ghost use Rattle.mic_words.specs.declared.machine.Machine.TheVariants.{Mic2 as Mic2Machine};
-ghost use Rattle.micro_word.specs.Coding.{statement_of};
 ghost use Rattle.mic_clock.specs.Meaning.{Driven, AtEdge};
 ghost use Rattle.mic_datapath.specs.Stage.{phase_of};
 ghost use Rattle.mic2_datapath.specs.Latches.{AreLatches, HasComputed, micro_in};
 ghost use Rattle.mic2_datapath.specs.Mic2.{driven};
+ghost use Rattle.mic2_datapath.specs.Spelled.{spelled};
 
 use crate::control::{Control, values_of};
 use crate::latches::Latches;
@@ -30,7 +29,7 @@ pub struct Mic2 {
     ghost kept: { AreLatches latches },
     ghost drove: { phase_of stage ≡ Driven → buses ≡ driven control.word (micro_in latches) },
     ghost computed: { phase_of stage ≡ AtEdge →
-        HasComputed (statement_of Mic2Machine control.word) (micro_in latches) buses.stalled values.alu.value values.c },
+        HasComputed (spelled control) (micro_in latches) buses.stalled values.alu.value values.c },
 }
 
 impl Mic2 {

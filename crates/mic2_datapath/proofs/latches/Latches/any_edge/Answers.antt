@@ -7,7 +7,8 @@ use Rattle.mic2_datapath.proofs.Demands.{are_there}
 use Rattle.micro_word.specs.Coding.{statement_of}
 use Rattle.mic_words.specs.declared.machine.Machine.TheVariants as machines
 use Rattle.mic2_datapath.specs.Latches.{micro_in}
-use Rattle.mic2_datapath.proofs.Steps.{Asked, IsAsked, edge_done, edge_fails, edge_waits, handed_on, is_asked, moved_on, no_cause, samples_clear, stall_edge, unrefused}
+use Rattle.mic2_datapath.specs.Microstep.{moved_on}
+use Rattle.mic2_datapath.proofs.Steps.{Asked, IsAsked, edge_done, edge_fails, edge_waits, handed_on, is_asked, no_cause, samples_clear, stall_edge, unrefused}
 use Rattle.mic2_datapath.proofs.latches.Latches.any_edge.Goals as goal
 
 -- a cycle that stalls

@@ -11,11 +11,11 @@ use Rattle.mic_clock.specs.Edge.{LetsBytesWait}
 use Rattle.mic_words.specs.declared.machine.Machine.TheVariants as machines
 use Rattle.mic_datapath.specs.Memory.{memory_refusal}
 use Rattle.mic2_fetch_unit.specs.FetchUnit.{sample_refusal}
-use Rattle.mic2_datapath.specs.Microstep.{jumps}
+use Rattle.mic2_datapath.specs.Microstep.{jumps, moved_on}
 use Rattle.mic2_datapath.specs.Mic2.{mic2_meaning}
 use Rattle.mic2_datapath.specs.Latches.{access_by, micro_in}
 use Rattle.mic2_datapath.proofs.Inside.{led_inside, led_same}
-use Rattle.mic2_datapath.proofs.Steps.{IsAsked, asked_for, edge_either, is_for, it_reads, mar_there, mdr_there, moved_on, no_cause, on_each_err, refusal_left, sampled_there}
+use Rattle.mic2_datapath.proofs.Steps.{IsAsked, asked_for, edge_either, is_for, it_reads, mar_there, mdr_there, no_cause, on_each_err, refusal_left, sampled_there}
 use Rattle.mic2_datapath.proofs.latches.Latches.edge.Goals as goal
 use Rattle.mic2_datapath.proofs.latches.Latches.edge.Goals.{then-not-stalled+else-is_quiet+in_default, else-not-stalled}
 
