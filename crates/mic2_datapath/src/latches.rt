@@ -1,25 +1,20 @@
 //! What Mic-2 keeps between cycles.
 
-ghost use Rattle.std.specs.Prelude.{◌≡◌, ◌≢◌, ◌≤◌, ◌<◌, ◌*◌, ◌+◌, ℕ, None, OnOk, OnErr, IfErr, IfNone, IfSome, IsTrue, false, is_some, length, slice_index, true};
+ghost use Rattle.std.specs.Prelude.{◌≡◌, ◌≢◌, ◌≤◌, ◌<◌, ◌*◌, ◌+◌, ℕ, None, OnOk, OnErr, IfErr, IfNone, IfSome, IsTrue, length, slice_index, true};
 ghost use Rattle.mic_words.specs.Arithmetic.{signed_byte, signed_pair};
 ghost use Rattle.micro_word.specs.declared.statement.PlacedNext.{PlacedNext};
-ghost use Rattle.micro_word.specs.Coding.{addr_bits, jam_bits, mem_of};
+ghost use Rattle.micro_word.specs.Coding.{addr_bits, jam_bits};
 ghost use Rattle.micro_word.specs.Words.{is_next};
-ghost use Rattle.micro_word.specs.Layout.{fields_of};
-ghost use Rattle.micro_word.specs.Lines.{AreSlots, names};
+ghost use Rattle.micro_word.specs.Lines.{AreSlots};
 ghost use Rattle.micro_word.specs.Operation.{shifted};
-ghost use Rattle.mic_words.specs.declared.machine.Machine.TheVariants.{Mic2};
 ghost use Rattle.console_port.specs.Bus.{ChangesOnly, refused_by};
-ghost use Rattle.console_port.specs.World.{World};
-ghost use Rattle.mic_datapath.specs.Access.{IsTransfer};
-ghost use Rattle.mic_datapath.specs.Memory.{memory_refusal};
 ghost use Rattle.mic_datapath.specs.Next.{GoesTo, next_address};
 ghost use Rattle.mic_datapath.specs.Places.{registers_at};
 ghost use Rattle.mic_datapath.specs.Registers.{loaded, ports_given};
 ghost use Rattle.mic2_fetch_unit.specs.FetchUnit.{edge_refusal, sample_refusal};
 ghost use Rattle.mic2_datapath.specs.Mic2.{initial as initial_of};
 ghost use Rattle.mic2_datapath.specs.Microstep.{advanced, byte_at, dispatch_bytes, is_to_instruction, moved_on, past, result_of, source, stalled, unit_after, unit_refusal, unit_refused, unit_samples};
-ghost use Rattle.mic2_datapath.specs.Latches.{AreLatches, HasFront, access_by, loaded_in, micro_in};
+ghost use Rattle.mic2_datapath.specs.Latches.{AreLatches, HasFront, IsInside, loaded_in, micro_in};
 ghost use Rattle.mic2_datapath.specs.Spelled.{spelled};
 
 use crate::accesses::is_there;
@@ -286,14 +281,7 @@ impl Latches {
     #[inline(always)]
     pub fn access_inside(&self, word: u64, c: u32, taken: u8, bus: &mut Bus) -> Option<Option<u32>>
         requires { taken ≤ length self.now.unit.bytes }
-        ensures accesses { IfSome result (λ read. mem_of (fields_of Mic2 word).mem ≡ access_by (is_some read)) }
-        ensures clear { IfSome result (λ read. memory_refusal (length bus.old.words) (access_by (is_some read)) (loaded_in word c self.now).mar ≡ None) }
-        ensures transfer { IfSome result (λ read. (p : Ports) (w : World) →
-            p.mar ≡ (loaded_in word c self.now).mar → p.mdr ≡ (loaded_in word c self.now).mdr → w.words ≡ bus.old.words →
-            IsTransfer (length bus.old.words) (access_by (is_some read)) p w read (record w { words = bus.new.words })) }
-        ensures samples { IfSome result (λ read. is_some read ≡ false →
-            sample_refusal (length bus.old.words) (unit_samples (names (fields_of Mic2 word).c 2) c taken self.now.unit) ≡ None) }
-        ensures read { IfSome result (λ read. is_some read ≡ true → bus.new ≡ bus.old) }
+        ensures inside { IfSome result (IsInside word c taken self.now bus.old bus.new) }
         ensures none { IfNone result (bus.new ≡ bus.old) }
         ensures others { ChangesOnly (loaded_in word c self.now).mar bus.old.words bus.new.words }
         ensures console { bus.new.console ≡ bus.old.console }

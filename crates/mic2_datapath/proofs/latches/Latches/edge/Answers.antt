@@ -53,23 +53,23 @@ returns-in-Some-clause-edge g c =
     let computed = c.requires.computed in
     let sampled = c.in-Some.sampled in
     let asked = asked_for s m (access_by (is_some sampled)) in
-    let is : IsAsked s m asked = is_for s m asked.mem (sym computed.waits ∙ goes) (sym c.in-Some.ensures.accesses) in
+    let is : IsAsked s m asked = is_for s m asked.mem (sym computed.waits ∙ goes) (sym c.in-Some.ensures.inside.accesses) in
     let mar = mar_there control.word m c.args.stalled c.args.value c.args.c _ computed goes refl in
     let mdr = sym (mdr_there control.word m c.args.stalled c.args.value c.args.c _ computed goes refl) in
-    let clear = subst (λ (at : ℕ). memory_refusal n asked.mem at ≡ None) mar c.in-Some.ensures.clear in
+    let clear = subst (λ (at : ℕ). memory_refusal n asked.mem at ≡ None) mar c.in-Some.ensures.inside.clear in
     let left = ap (λ (k : ℕ). sample_refusal k asked.at) c.access_inside.ensures.others.0 ∙ sym (refusal_left n asked clear) in
     let there = sampled_there s m c.args.c control.lines.takes (jumps s.part) refl control.demands
     (computed.shifter goes ∙ ap (λ (x : ℕ). shifted s.part.shift x) (computed.alu goes)) in
     let r = c.advance-in-Some.result in
     let fails = subst (λ (why : Option Refusal). IfErr r (λ e. refused_by why ≡ Some e)) left c.advance-in-Some.ensures.err in
     let reads = λ (e : BusFault) (fail : refused_by (sample_refusal n asked.at) ≡ Some e). it_reads (is_some sampled) (sample_refusal n asked.at) e
-    (λ no. ap (λ (at : Option ℕ). sample_refusal n at) (sym there) ∙ c.in-Some.ensures.samples no) fail in
+    (λ no. ap (λ (at : Option ℕ). sample_refusal n at) (sym there) ∙ c.in-Some.ensures.inside.samples no) fail in
     edge_either control.word m _ _ bus asked is bus' sampled _ r
-    (led_inside _ _ bus bus' c.access_inside.ensures.console _ (λ w shows. c.in-Some.ensures.transfer asked.ports w (sym mar) mdr shows.words))
+    (led_inside _ _ bus bus' c.access_inside.ensures.console _ (λ w shows. c.in-Some.ensures.inside.transfer asked.ports w (sym mar) mdr shows.words))
     (subst (λ (at : ℕ). ChangesOnly at bus.words bus'.words) mar c.access_inside.ensures.others)
     (subst (λ (why : Option Refusal). OnOk r (why ≡ None)) left c.advance-in-Some.ensures.allowed)
     (subst (λ (x : ℕ). OnOk r (micro_in c.advance-in-Some.new.self ≡ moved_on s m x bus'.words sampled)) (computed.alu goes) c.advance-in-Some.ensures.ok)
-    (on_each_err r _ fails (λ e fail. c.in-Some.ensures.read (reads e (ap refused_by (sym (refusal_left n asked clear)) ∙ fail)))) c.advance-in-Some.ensures.state fails
+    (on_each_err r _ fails (λ e fail. c.in-Some.ensures.inside.same (reads e (ap refused_by (sym (refusal_left n asked clear)) ∙ fail)))) c.advance-in-Some.ensures.state fails
 
 pub returns-in-Some-clause-cause : goal.returns-in-Some-clause-cause
 returns-in-Some-clause-cause g c = no_cause _ _ _ _ c.advance-in-Some.ensures.err
