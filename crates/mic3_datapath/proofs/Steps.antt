@@ -16,16 +16,15 @@ use Rattle.mic_clock.specs.Edge.{IsEdge, LetsBytesWait}
 use Rattle.mic_clock.specs.Meaning.{Done, refusal_in, untaken_by, given_by, ReadsConsole, WritesConsole, UsesConsole}
 use Rattle.mic_datapath.specs.Access.{AtConsole, HasAccessed, IsTransfer, is_read, is_access, LetsBytesWait as LetsWait}
 use Rattle.mic_datapath.specs.Memory.{first_refusal, memory_refusal, word_under_way, written, sampled, outcome}
-use Rattle.mic_datapath.specs.Places.{registers_at}
 use Rattle.mic_datapath.specs.Registers.{NineRegisters, ports_given}
 use Rattle.mic_datapath.specs.declared.ports.Ports.{Ports}
 use Rattle.mic2_fetch_unit.specs.FetchUnit.{sample_refusal}
-use Rattle.mic2_datapath.specs.Microstep.{access_refusal, advanced, demand, next_micro, unit_after, unit_refusal, unit_samples}
+use Rattle.mic2_datapath.specs.Microstep.{access_refusal, demand, next_micro, unit_after, unit_refusal, unit_samples}
 use Rattle.mic3_datapath.specs.declared.pipeline.Pipeline.{Pipeline as Latched}
 use Rattle.mic3_datapath.specs.Pipeline.{Pipeline, Issued, Computed}
-use Rattle.mic3_datapath.specs.Cycle.{begins, clock, computed, computed_in, cycle, cycle_with, is_held_up, is_jump_coming, issued, issued_by, issued_in, mem_in, mpc_after, refusal, retired, settled, bytes_leaving, waits, word_after, world_after}
+use Rattle.mic3_datapath.specs.Cycle.{begins, clock, computed, computed_in, cycle, cycle_with, is_held_up, is_jump_coming, issued, issued_by, issued_in, mem_in, mpc_after, refusal, settled, bytes_leaving, waits, word_after, world_after}
 use Rattle.mic3_datapath.specs.Mic3.{mic3_meaning, step_of_word}
-use Rattle.mic3_datapath.specs.Slots.{edged, in_result, pipeline_in, word_held}
+use Rattle.mic3_datapath.specs.Slots.{edged, in_result, pipeline_in, retired_in, word_held}
 
 -- what a cycle asks of the bus: an access, and the word that the fetch unit samples
 pub record Asked : Type 0 where
@@ -42,15 +41,13 @@ pub record IsAsked (i : Option Issued) (p : Pipeline) (q : Asked) : Type 0 where
 
 -- what is asked of the bus is asked for the word in the result slot
 pub is_asked : (l : Latched) (i : Option Issued) (t : ℕ) (ports : Ports) (mem : Mem) (jump : Bool) (at : Option ℕ) → t ≡ bytes_leaving i →
-    ports ≡ ports_given (retired (in_result l.result) l.latches.word (record (registers_at l.latches.places) { pc = advanced t (registers_at l.latches.places).pc })) →
+    ports ≡ ports_given (retired_in l t) →
     mem ≡ mem_in (in_result l.result) → jump ≡ is_jump_coming (computed_in (in_result l.result)) →
     ((n : ℕ) → sample_refusal n at ≡ unit_refusal jump n ports.pc t l.latches.unit) → at ≡ unit_samples jump ports.pc t l.latches.unit →
     IsAsked i (pipeline_in l) (record { ports = ports; mem = mem; at = at })
 is_asked l i t ports mem jump at t_is ports_are mem_is jump_is samples its =
     record {
-      given =
-          ports_are
-          ∙ (λ j. ports_given (retired (in_result l.result) l.latches.word (record (registers_at l.latches.places) { pc = advanced (t_is j) (registers_at l.latches.places).pc })));
+      given = ports_are ∙ (λ j. ports_given (retired_in l (t_is j)));
       memory = mem_is;
       samples = λ n. samples n ∙ (λ j. unit_refusal (jump_is j) n ports.pc (t_is j) l.latches.unit);
       its = its ∙ (λ j. unit_samples (jump_is j) ports.pc (t_is j) l.latches.unit);

@@ -18,6 +18,7 @@ use Rattle.mic_datapath.specs.Access.{is_read}
 use Rattle.mic_datapath.specs.Memory.{written, sampled, word_under_way, memory_refusal, first_refusal, outcome}
 use Rattle.mic_datapath.specs.Next.{next_address}
 use Rattle.mic_datapath.specs.Registers.{NineRegisters, loaded, ports_given}
+use Rattle.mic2_fetch_unit.specs.FetchUnit.{Prefetch}
 use Rattle.mic2_datapath.specs.Microstep.{advanced, byte_at, demand, is_to_instruction, jumps, next_micro, operand_bytes, registers_in, source, unit_after, unit_refusal}
 use Rattle.mic3_datapath.specs.Pipeline.{Pipeline, Issued, Computed}
 
@@ -56,10 +57,14 @@ is_destination c (Some sources.Opc) = loads c registers.Opc
 is_destination c (Some sources.H) = loads c registers.H
 is_destination c (Some fetched) = false
 
+-- whether a register on either side is one of these destinations
+abbrev pub names_one_of : ℕ → Part → Bool
+names_one_of c part = is_destination c part.a || is_destination c part.b
+
 -- the statement in a slot has yet to load a register that this one names
 abbrev pub awaits : Part → Option Placed → Bool
 awaits part None = false
-awaits part (Some s) = is_destination s.part.dests part.a || is_destination s.part.dests part.b
+awaits part (Some s) = names_one_of s.part.dests part
 
 abbrev pub is_mdr : Option BusSource → Bool
 is_mdr (Some sources.Mdr) = true
@@ -97,13 +102,17 @@ dispatched (nexts.Goto to) byte = 0
 dispatched (nexts.Dispatch high) byte = byte
 dispatched (nexts.Branch test low) byte = 0
 
+-- the byte of the queue that a statement dispatches to, if it does
+abbrev pub dispatched_from : Placed → Prefetch → ℕ
+dispatched_from s unit = dispatched s.next (byte_at unit (operand_bytes s.part))
+
 abbrev pub issued_by : Placed → Pipeline → Issued
 issued_by s p =
     record {
       statement = s;
       a = source s.part.a p.micro;
       b = source s.part.b p.micro;
-      byte = dispatched s.next (byte_at p.micro.unit (operand_bytes s.part));
+      byte = dispatched_from s p.micro.unit;
     }
 
 abbrev pub issued : Placed → Pipeline → Option Issued

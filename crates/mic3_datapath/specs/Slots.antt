@@ -3,14 +3,18 @@ use Rattle.std.specs.Prelude.{◌≡◌, ℕ, List, Option, Some, None}
 use Rattle.mic_words.specs.declared.machine.Machine.TheVariants.{Mic2}
 use Rattle.micro_word.specs.Coding.{statement_of}
 use Rattle.micro_word.specs.declared.statement.Placed.{Placed}
+use Rattle.console_port.specs.World.{Refusal}
 use Rattle.mic_clock.specs.declared.buses.Computed.{Computed as Values}
+use Rattle.mic_datapath.specs.Places.{registers_at}
+use Rattle.mic_datapath.specs.Registers.{NineRegisters}
+use Rattle.mic2_fetch_unit.specs.FetchUnit.{Prefetch, sample_refusal}
 use Rattle.mic2_datapath.specs.Latches.{micro_in}
-use Rattle.mic2_datapath.specs.Microstep.{next_micro, unit_after}
+use Rattle.mic2_datapath.specs.Microstep.{next_micro, past, unit_after, unit_samples}
 use Rattle.mic3_datapath.specs.declared.slots.OperandSlot.{OperandSlot}
 use Rattle.mic3_datapath.specs.declared.slots.ResultSlot.{ResultSlot}
 use Rattle.mic3_datapath.specs.declared.pipeline.Pipeline.{Pipeline as Latched}
 use Rattle.mic3_datapath.specs.Pipeline.{Pipeline, Issued, Computed}
-use Rattle.mic3_datapath.specs.Cycle.{begins, computed, computed_in, is_jump_coming, issued, mpc_after, settled, bytes_leaving}
+use Rattle.mic3_datapath.specs.Cycle.{begins, computed, computed_in, is_jump_coming, issued, issued_in, mpc_after, retired, settled, bytes_leaving}
 use Rattle.mic3_datapath.specs.Mic3.{values_of}
 
 abbrev pub in_operand : Option OperandSlot → Option Issued
@@ -20,6 +24,22 @@ in_operand (Some o) = Some (record { statement = statement_of Mic2 o.control.wor
 abbrev pub in_result : Option ResultSlot → Option Computed
 in_result None = None
 in_result (Some r) = Some (record { statement = statement_of Mic2 r.control.word; value = r.value; byte = r.byte })
+
+-- the statement in the operand slot, which computes, and the one in the result slot, which retires
+
+abbrev pub computing : Option OperandSlot → Option Placed
+computing o = issued_in (in_operand o)
+
+abbrev pub retiring : Option ResultSlot → Option Placed
+retiring r = computed_in (in_result r)
+
+-- the registers after the edge in which this many bytes are taken
+abbrev pub retired_in : Latched → ℕ → NineRegisters
+retired_in l taken = retired (in_result l.result) l.latches.word (past taken (registers_at l.latches.places))
+
+-- why the word that the unit samples at the edge is refused, if it is
+abbrev pub unit_refused : ℕ → Option ResultSlot → ℕ → ℕ → Prefetch → Option Refusal
+unit_refused stack_end r pc taken unit = sample_refusal stack_end (unit_samples (is_jump_coming (retiring r)) pc taken unit)
 
 abbrev pub pipeline_in : Latched → Pipeline
 pipeline_in l = record { micro = micro_in l.latches; operand = in_operand l.operand; result = in_result l.result }

@@ -1,11 +1,10 @@
 //! Why a microinstruction is not issued yet: a value that it needs is under way, or a jump is.
 
-ghost use Rattle.std.specs.Prelude.{◌≡◌, ◌<◌, ◌||◌};
-ghost use Rattle.mic_words.specs.declared.machine.Machine.TheVariants.{Mic2};
-ghost use Rattle.micro_word.specs.Coding.{statement_of};
+ghost use Rattle.std.specs.Prelude.{◌≡◌, ◌<◌};
 ghost use Rattle.mic2_datapath.specs.Microstep.{is_to_instruction, jumps};
-ghost use Rattle.mic3_datapath.specs.Cycle.{awaits, computed_in, is_branch, is_destination, is_held_up, is_jump_coming, is_turning, is_word_coming, issued_in, names_mdr};
-ghost use Rattle.mic3_datapath.specs.Slots.{in_operand, in_result};
+ghost use Rattle.mic2_datapath.specs.Spelled.{spelled};
+ghost use Rattle.mic3_datapath.specs.Cycle.{awaits, is_branch, is_destination, is_held_up, is_jump_coming, is_turning, is_word_coming, names_mdr, names_one_of};
+ghost use Rattle.mic3_datapath.specs.Slots.{computing, retiring};
 
 use crate::slots::{OperandSlot, ResultSlot};
 use mic2_datapath::Control;
@@ -23,7 +22,7 @@ const JMPC: u8 = 4;
 #[inline(always)]
 #[tactic(auto, using(crate::proofs::Bits::branch_bits))]
 pub fn is_branch(control: &Control) -> bool
-    ensures { result ≡ is_branch (statement_of Mic2 control.now.word).next }
+    ensures { result ≡ is_branch (spelled control.now).next }
 {
     let jam = control.jam();
     jam == 1 || jam == 2
@@ -33,7 +32,7 @@ pub fn is_branch(control: &Control) -> bool
 #[inline(always)]
 #[tactic(auto, using(crate::proofs::Bits::instruction_bits))]
 pub fn is_to_instruction(control: &Control) -> bool
-    ensures { result ≡ is_to_instruction (statement_of Mic2 control.now.word).next }
+    ensures { result ≡ is_to_instruction (spelled control.now).next }
 {
     control.jam() == JMPC && control.lines.addr == 0
 }
@@ -41,14 +40,14 @@ pub fn is_to_instruction(control: &Control) -> bool
 /// Whether it loads PC.
 #[inline(always)]
 pub fn jumps(control: &Control) -> bool
-    ensures { result ≡ jumps (statement_of Mic2 control.now.word).part }
+    ensures { result ≡ jumps (spelled control.now).part }
 {
     is_named(control.destinations(), PC)
 }
 
 #[inline(always)]
 fn is_turning(operand: Option<OperandSlot>, behind: Option<ResultSlot>) -> bool
-    ensures { result ≡ is_turning (issued_in (in_operand operand)) (computed_in (in_result behind)) }
+    ensures { result ≡ is_turning (computing operand) (retiring behind) }
 {
     let before = match operand {
         Some(slot) => is_branch(&slot.control) || is_to_instruction(&slot.control),
@@ -65,7 +64,7 @@ fn is_turning(operand: Option<OperandSlot>, behind: Option<ResultSlot>) -> bool
 #[inline(always)]
 fn is_on_a(control: &Control, destinations: u16) -> bool
     requires { destinations < 512 }
-    ensures { result ≡ is_destination destinations (statement_of Mic2 control.now.word).part.a }
+    ensures { result ≡ is_destination destinations (spelled control.now).part.a }
 {
     is_named(destinations, control.lines.a)
 }
@@ -74,7 +73,7 @@ fn is_on_a(control: &Control, destinations: u16) -> bool
 #[inline(always)]
 fn is_on_b(control: &Control, destinations: u16) -> bool
     requires { destinations < 512 }
-    ensures { result ≡ is_destination destinations (statement_of Mic2 control.now.word).part.b }
+    ensures { result ≡ is_destination destinations (spelled control.now).part.b }
 {
     is_named(destinations, control.lines.b)
 }
@@ -83,15 +82,14 @@ fn is_on_b(control: &Control, destinations: u16) -> bool
 #[inline(always)]
 fn names_one_of(control: &Control, destinations: u16) -> bool
     requires { destinations < 512 }
-    ensures { result ≡ (is_destination destinations (statement_of Mic2 control.now.word).part.a
-        || is_destination destinations (statement_of Mic2 control.now.word).part.b) }
+    ensures { result ≡ names_one_of destinations (spelled control.now).part }
 {
     is_on_a(control, destinations) || is_on_b(control, destinations)
 }
 
 #[inline(always)]
 fn awaits_operand(control: &Control, operand: Option<OperandSlot>) -> bool
-    ensures { result ≡ awaits (statement_of Mic2 control.now.word).part (issued_in (in_operand operand)) }
+    ensures { result ≡ awaits (spelled control.now).part (computing operand) }
 {
     match operand {
         Some(slot) => names_one_of(control, slot.control.destinations()),
@@ -101,7 +99,7 @@ fn awaits_operand(control: &Control, operand: Option<OperandSlot>) -> bool
 
 #[inline(always)]
 fn awaits_result(control: &Control, behind: Option<ResultSlot>) -> bool
-    ensures { result ≡ awaits (statement_of Mic2 control.now.word).part (computed_in (in_result behind)) }
+    ensures { result ≡ awaits (spelled control.now).part (retiring behind) }
 {
     match behind {
         Some(slot) => names_one_of(control, slot.control.destinations()),
@@ -111,7 +109,7 @@ fn awaits_result(control: &Control, behind: Option<ResultSlot>) -> bool
 
 #[inline(always)]
 fn names_mdr(control: &Control) -> bool
-    ensures { result ≡ names_mdr (statement_of Mic2 control.now.word).part }
+    ensures { result ≡ names_mdr (spelled control.now).part }
 {
     names_one_of(control, MDR)
 }
@@ -122,7 +120,7 @@ fn is_word_coming(
     operand: Option<OperandSlot>,
     behind: Option<ResultSlot>,
 ) -> bool
-    ensures { result ≡ is_word_coming word (issued_in (in_operand operand)) (computed_in (in_result behind)) }
+    ensures { result ≡ is_word_coming word (computing operand) (retiring behind) }
 {
     match behind {
         Some(slot) => word.is_some() || (operand.is_some() && slot.control.mem() == Mem::Read),
@@ -132,7 +130,7 @@ fn is_word_coming(
 
 #[inline(always)]
 fn will_jump(operand: Option<OperandSlot>) -> bool
-    ensures { result ≡ is_jump_coming (issued_in (in_operand operand)) }
+    ensures { result ≡ is_jump_coming (computing operand) }
 {
     match operand {
         Some(slot) => jumps(&slot.control),
@@ -143,7 +141,7 @@ fn will_jump(operand: Option<OperandSlot>) -> bool
 /// Whether the word that retires loads PC.
 #[inline(always)]
 pub fn jumps_now(behind: Option<ResultSlot>) -> bool
-    ensures { result ≡ is_jump_coming (computed_in (in_result behind)) }
+    ensures { result ≡ is_jump_coming (retiring behind) }
 {
     match behind {
         Some(slot) => jumps(&slot.control),
@@ -159,7 +157,7 @@ pub fn is_held_up(
     operand: Option<OperandSlot>,
     behind: Option<ResultSlot>,
 ) -> bool
-    ensures { result ≡ is_held_up (statement_of Mic2 control.now.word) word (issued_in (in_operand operand)) (computed_in (in_result behind)) }
+    ensures { result ≡ is_held_up (spelled control.now) word (computing operand) (retiring behind) }
 {
     is_turning(operand, behind)
         || awaits_operand(control, operand)

@@ -1,11 +1,10 @@
 //! The machine: its four calls, which are one cycle of the pipeline.
 
 ghost use Rattle.std.specs.Prelude.{◌≡◌, refl};
-ghost use Rattle.mic_words.specs.declared.machine.Machine.TheVariants.{Mic2};
-ghost use Rattle.micro_word.specs.Coding.{statement_of};
 ghost use Rattle.mic_clock.specs.Meaning.{Driven, AtEdge};
 ghost use Rattle.mic_datapath.specs.Stage.{phase_of};
 ghost use Rattle.mic2_datapath.specs.Latches.{AreLatches};
+ghost use Rattle.mic2_datapath.specs.Spelled.{spelled};
 ghost use Rattle.mic3_datapath.specs.Cycle.{issued};
 ghost use Rattle.mic3_datapath.specs.Slots.{HasComputed, in_operand, pipeline_in};
 
@@ -31,8 +30,9 @@ pub struct Mic3 {
     values: Computed,
     pipeline: Pipeline,
     ghost kept: { AreLatches pipeline.latches },
-    ghost drove: { phase_of stage ≡ Driven → in_operand to_issue ≡ issued (statement_of Mic2 control.word) (pipeline_in pipeline) },
-    ghost computed: { phase_of stage ≡ AtEdge → HasComputed (statement_of Mic2 control.word) (pipeline_in pipeline) (in_operand to_issue) values },
+    ghost drove: { phase_of stage ≡ Driven → in_operand to_issue ≡ issued (spelled control) (pipeline_in pipeline) },
+    ghost computed: { phase_of stage ≡ AtEdge →
+        HasComputed (spelled control) (pipeline_in pipeline) (in_operand to_issue) values },
 }
 
 impl Mic3 {

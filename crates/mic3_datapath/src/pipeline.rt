@@ -1,17 +1,15 @@
 //! What Mic-3 keeps between cycles.
 
 ghost use Rattle.std.specs.Prelude.{◌≡◌, ◌<◌, ◌≤◌, ℕ, Some, OnOk, OnErr, IfErr, length, slice_index};
-ghost use Rattle.mic_words.specs.declared.machine.Machine.TheVariants.{Mic2};
-ghost use Rattle.micro_word.specs.Coding.{statement_of};
 ghost use Rattle.console_port.specs.Bus.{refused_by};
 ghost use Rattle.mic_datapath.specs.Places.{registers_at};
 ghost use Rattle.mic_datapath.specs.Registers.{ports_given};
-ghost use Rattle.mic2_fetch_unit.specs.FetchUnit.{sample_refusal};
 ghost use Rattle.mic2_datapath.specs.Latches.{AreLatches};
-ghost use Rattle.mic2_datapath.specs.Microstep.{advanced, byte_at, demand, operand_bytes, unit_after, unit_samples};
-ghost use Rattle.mic3_datapath.specs.Cycle.{begins, computed, computed_in, dispatched, from_computed, from_issued, from_retired, is_jump_coming, issued, mem_in, mpc_after, retired, settled, bytes_leaving, waits};
+ghost use Rattle.mic2_datapath.specs.Microstep.{demand, past, unit_after};
+ghost use Rattle.mic2_datapath.specs.Spelled.{spelled};
+ghost use Rattle.mic3_datapath.specs.Cycle.{begins, bytes_leaving, computed, dispatched_from, from_computed, from_issued, from_retired, is_jump_coming, issued, mem_in, mpc_after, retired, settled, waits};
 ghost use Rattle.mic3_datapath.specs.Mic3.{initial as initial_of, values_of};
-ghost use Rattle.mic3_datapath.specs.Slots.{edged, in_operand, in_result, pipeline_in, word_held};
+ghost use Rattle.mic3_datapath.specs.Slots.{edged, in_operand, in_result, pipeline_in, retired_in, retiring, unit_refused, word_held};
 
 use crate::hazards::{is_branch, is_held_up, is_to_instruction, jumps_now};
 use crate::slots::{OperandSlot, ResultSlot};
@@ -66,7 +64,7 @@ pub fn mem_in(slot: Option<ResultSlot>) -> Mem
 /// Whether a word waits.
 #[inline(always)]
 fn waits(control: &Control, pipeline: &Pipeline) -> bool
-    ensures { result ≡ waits (statement_of Mic2 control.now.word) (pipeline_in pipeline.now) }
+    ensures { result ≡ waits (spelled control.now) (pipeline_in pipeline.now) }
 {
     is_held_up(
         control,
@@ -79,8 +77,8 @@ fn waits(control: &Control, pipeline: &Pipeline) -> bool
 /// The byte that a word dispatches to: the last of those that it takes.
 #[inline(always)]
 fn dispatched(control: &Control, unit: &FetchUnit) -> u8
-    requires { demand (statement_of Mic2 control.now.word) ≤ length unit.now.bytes }
-    ensures { result ≡ dispatched (statement_of Mic2 control.now.word).next (byte_at unit.now (operand_bytes (statement_of Mic2 control.now.word).part)) }
+    requires { demand (spelled control.now) ≤ length unit.now.bytes }
+    ensures { result ≡ dispatched_from (spelled control.now) unit.now }
 {
     let dispatches = control.jam() == JMPC;
     if dispatches {
@@ -93,8 +91,7 @@ fn dispatched(control: &Control, unit: &FetchUnit) -> u8
 /// The registers after the edge: PC goes on by this many bytes, and the word in the result slot retires.
 #[inline(always)]
 fn retire(slot: Option<ResultSlot>, taken: u8, arriving: Option<u32>, places: &mut Places)
-    ensures registers { registers_at places.new ≡
-        retired (in_result slot) arriving (record (registers_at places.old) { pc = advanced taken (registers_at places.old).pc }) }
+    ensures registers { registers_at places.new ≡ retired (in_result slot) arriving (past taken (registers_at places.old)) }
     ensures others { (k : ℕ) → 9 ≤ k → k < 15 → slice_index places.new k ≡ slice_index places.old k }
 {
     match slot {
@@ -120,9 +117,8 @@ fn clock_unit(
     unit: &mut FetchUnit,
 ) -> Result<(), BusFault>
     requires { taken ≤ length unit.old.bytes }
-    ensures ok { OnOk result (unit.new ≡ unit_after (is_jump_coming (computed_in (in_result slot))) bus.now.words pc taken unit.old) }
-    ensures err { IfErr result (λ e. refused_by (sample_refusal (length bus.now.words)
-        (unit_samples (is_jump_coming (computed_in (in_result slot))) pc taken unit.old)) ≡ Some e) }
+    ensures ok { OnOk result (unit.new ≡ unit_after (is_jump_coming (retiring slot)) bus.now.words pc taken unit.old) }
+    ensures err { IfErr result (λ e. refused_by (unit_refused (length bus.now.words) slot pc taken unit.old) ≡ Some e) }
     ensures stays { OnErr result (unit.new ≡ unit.old) }
 {
     let jumps = jumps_now(slot);
@@ -275,7 +271,7 @@ impl Pipeline {
     #[inline(always)]
     pub fn issue(&mut self, control: &Control) -> Option<OperandSlot>
         requires { AreLatches self.old.latches }
-        ensures value { in_operand result ≡ issued (statement_of Mic2 control.now.word) (pipeline_in self.old) }
+        ensures value { in_operand result ≡ issued (spelled control.now) (pipeline_in self.old) }
         ensures pipeline { pipeline_in self.new ≡ pipeline_in self.old }
         ensures latches { AreLatches self.new.latches }
     {
@@ -296,8 +292,7 @@ impl Pipeline {
     /// What the memory's ports are given, where this many bytes are taken.
     #[inline(always)]
     pub fn ports(&self, taken: u8) -> Ports
-        ensures { result ≡ ports_given (retired (in_result self.now.result) self.now.latches.word
-            (record (registers_at self.now.latches.places) { pc = advanced taken (registers_at self.now.latches.places).pc })) }
+        ensures { result ≡ ports_given (retired_in self.now taken) }
     {
         match self.result {
             Some(slot) => self
@@ -327,9 +322,8 @@ impl Pipeline {
         requires pc { pc ≡ (settled (in_operand to_issue) (pipeline_in self.old)).pc }
         ensures latches { AreLatches self.new.latches }
         ensures ok { OnOk result (pipeline_in self.new ≡ edged (in_operand to_issue) (pipeline_in self.old) bus.now.words sampled) }
-        ensures err { IfErr result (λ e. refused_by (sample_refusal (length bus.now.words)
-            (unit_samples (is_jump_coming (computed_in (in_result self.old.result))) pc (bytes_leaving (in_operand to_issue)) self.old.latches.unit))
-            ≡ Some e) }
+        ensures err { IfErr result (λ e. refused_by (unit_refused (length bus.now.words)
+            self.old.result pc (bytes_leaving (in_operand to_issue)) self.old.latches.unit) ≡ Some e) }
         ensures state { OnErr result (pipeline_in self.new ≡ pipeline_in self.old) }
     {
         let taken = bytes_leaving(to_issue);

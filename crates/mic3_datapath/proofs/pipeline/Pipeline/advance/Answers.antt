@@ -1,8 +1,8 @@
 use Rattle.std.proofs.Common.{◌≡◌, ◌∙◌}
 use Rattle.mic_datapath.specs.Places.{registers_at}
-use Rattle.mic2_datapath.specs.Microstep.{advanced, unit_after}
-use Rattle.mic3_datapath.specs.Cycle.{computed_in, is_jump_coming, retired, settled}
-use Rattle.mic3_datapath.specs.Slots.{in_operand, in_result, pipeline_in}
+use Rattle.mic2_datapath.specs.Microstep.{unit_after}
+use Rattle.mic3_datapath.specs.Cycle.{computed_in, is_jump_coming, settled}
+use Rattle.mic3_datapath.specs.Slots.{in_operand, in_result, pipeline_in, retired_in}
 use Rattle.mic3_datapath.proofs.pipeline.Pipeline.advance.Goals as goal
 
 pub returns-clause-ok : goal.returns-clause-ok
@@ -12,7 +12,7 @@ returns-clause-ok c =
     let l = old.latches in
     let became : registers_at c.retire.new.places ≡ settled i (pipeline_in old) =
     c.retire.ensures.registers
-    ∙ (λ j. retired (in_result old.result) l.word (record (registers_at l.places) { pc = advanced (c.bytes_leaving-taken.ensures j) (registers_at l.places).pc })) in
+    ∙ (λ j. retired_in old (c.bytes_leaving-taken.ensures j)) in
     let unit =
     c.in_ok-clock_unit.ensures.ok
     ∙ (λ j. unit_after (is_jump_coming (computed_in (in_result old.result))) c.args.bus.now.words (c.requires.pc j) (c.bytes_leaving-taken.ensures j) l.unit) in
