@@ -23,6 +23,10 @@ pub record ArePaged (table frames : List ℕ) (size : ℕ) : Type 0 where
   pub own : (page other : ℕ) → slice_index table page ≢ 0 → slice_index table page ≡ slice_index table other → page ≡ other
   pub unmapped : (at : ℕ) → at < 1024 → slice_index frames at ≡ 0
 
+-- each memory that the old table and frames keep, the new ones keep too
+abbrev pub KeepsWords : List ℕ → List ℕ → List ℕ → List ℕ → Type 0
+KeepsWords table frames table' frames' = (size : ℕ) → ArePaged table frames size → words_of table' frames' size ≡ words_of table frames size
+
 -- a frame that was not written
 unfoldable pub empty_frame : List ℕ
 empty_frame = replicate 1024 0

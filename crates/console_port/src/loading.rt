@@ -1,7 +1,7 @@
 //! An image's text and pool, written into memory.
 
-ghost use Rattle.std.specs.Prelude.{◌≡◌, ◌⊎◌, ◌+◌, ◌*◌, ◌<◌, ◌≤◌, ℕ, length, slice_index};
-ghost use Rattle.console_port.specs.Loading.{text_word, IsLoaded};
+ghost use Rattle.std.specs.Prelude.{◌≡◌, ◌+◌, ◌*◌, ◌<◌, ◌≤◌, ℕ, length, slice_index};
+ghost use Rattle.console_port.specs.Loading.{text_word, IsLoaded, StaysOutside};
 
 use crate::map::{FRAME, MOST_POOL, MOST_TEXT, POOL};
 use crate::pages::Pages;
@@ -42,7 +42,7 @@ fn write_pool(memory: &mut Pages, pool: &[u32])
     requires fits { POOL + length pool.now ≤ length memory.old }
     ensures size { length memory.new ≡ length memory.old }
     ensures pool { (k : ℕ) → k < length pool.now → slice_index memory.new (POOL + k) ≡ slice_index pool.now k }
-    ensures others { (at : ℕ) → (at < POOL) ⊎ (POOL + length pool.now ≤ at) → slice_index memory.new at ≡ slice_index memory.old at }
+    ensures others { StaysOutside POOL (POOL + length pool.now) memory.old memory.new }
 {
     for k in 0..pool.len() {
         memory.set(POOL + k as u32, pool[k]);

@@ -2,7 +2,7 @@
 
 ghost use Rattle.std.specs.Prelude.{◌≡◌, ◌≢◌, ◌+◌, ◌++◌, ◌<◌, ◌≤◌, ℕ, IfOk, IsTrue, ◌↔◌, length, replicate, slice_get, slice_index, slice_set};
 ghost use Rattle.std.specs.Vec.{vec_capacity};
-ghost use Rattle.console_port.specs.Pages.{ArePaged, empty_frame, HasRoom, words_of};
+ghost use Rattle.console_port.specs.Pages.{ArePaged, empty_frame, HasRoom, KeepsWords};
 
 use std::alloc::{AllocError, Global};
 use std::marker::Model;
@@ -95,8 +95,7 @@ fn frame_of(table: &mut [usize], frames: &mut Vec<u32>, page: usize) -> usize
     ensures own { result ≢ 0 }
     ensures capacity { vec_capacity frames.old ≤ vec_capacity frames.new }
     ensures paged { (size : ℕ) → ArePaged table.old frames.old.items size → ArePaged table.new frames.new.items size }
-    ensures words { (size : ℕ) → ArePaged table.old frames.old.items size →
-        words_of table.new frames.new.items size ≡ words_of table.old frames.old.items size }
+    ensures words { KeepsWords table.old frames.old.items table.new frames.new.items }
 {
     if table[page] == 0 {
         add_frame(table, frames, page);
