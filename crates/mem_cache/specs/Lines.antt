@@ -6,6 +6,10 @@ abbrev pub block_in : Option CacheLine → Option ℕ
 block_in None = None
 block_in (Some l) = Some l.block
 
+-- the line of a block, which holds it
+abbrev pub IsLineOf : List (Option CacheLine) → ℕ → CacheLine → Type 0
+IsLineOf lines block l = (l.block ≡ block) × (slice_get lines (block % length lines) ≡ Some (Some l))
+
 abbrev pub HasWords : List ℕ → Option CacheLine → Type 0
 HasWords words None = Unit {0}
 HasWords words (Some l) =

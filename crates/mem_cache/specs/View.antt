@@ -1,8 +1,8 @@
 -- What contracts see of a cached bus, and what calls of it come to, one after the other.
-use Rattle.std.specs.Prelude.{◌≡◌, List, [], ◌∷◌, length, Option, Some, None}
+use Rattle.std.specs.Prelude.{◌≡◌, ℕ, ◌<◌, List, [], ◌∷◌, length, Option, Some, None}
 use Rattle.console_port.specs.View.{BusView}
-use Rattle.mem_cache.specs.Accesses.{Access}
-use Rattle.mem_cache.specs.Tally.{Tally, counted}
+use Rattle.mem_cache.specs.Accesses.{Access, hits_of, misses_of}
+use Rattle.mem_cache.specs.Tally.{Tally, counted, empty_tally}
 
 pub record CacheView : Type 0 where
   -- the bus behind the cache
@@ -28,3 +28,10 @@ abbrev pub answered : List (Option Access) → List Access
 answered [] = []
 answered (None ∷ calls) = answered calls
 answered (Some access ∷ calls) = access ∷ answered calls
+
+-- from an empty cache, whatever calls are made of it, its counts are the hits and the misses among the accesses that were answered
+abbrev pub CountsAsAccesses : Type 0
+CountsAsAccesses =
+    (lines : ℕ) (calls : List (Option Access)) (first last : CacheView) → 0 < lines → first.tally ≡ empty_tally lines → AllLead calls first last →
+    (last.tally.counts.hits ≡ hits_of lines (length first.bus.words) (answered calls))
+    × (last.tally.counts.misses ≡ misses_of lines (length first.bus.words) (answered calls))

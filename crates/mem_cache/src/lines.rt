@@ -1,7 +1,7 @@
 //! The lines of a cache. A block of four words belongs to one line: that of its number modulo the number of lines.
 
-ghost use Rattle.std.specs.Prelude.{◌==◌, ◌≡◌, ◌<◌, ◌%◌, ◌*◌, ◌+◌, ◌^◌, ℕ, List, Some, None, IfSome, length, map, slice_get, slice_index, slice_set, is_some};
-ghost use Rattle.mem_cache.specs.Lines.{AreLines, block_in};
+ghost use Rattle.std.specs.Prelude.{◌==◌, ◌≡◌, ◌<◌, ◌%◌, ◌*◌, ◌+◌, ◌^◌, ℕ, List, Some, None, IfSome, length, map, slice_index, slice_set, is_some};
+ghost use Rattle.mem_cache.specs.Lines.{AreLines, IsLineOf, block_in};
 ghost use Rattle.mem_cache.specs.Tally.{has_block};
 
 use console_port::Bus;
@@ -33,7 +33,7 @@ pub(crate) fn words_of(bus: &Bus, block: u32) -> [u32; 4]
 /// The line of a block, where it holds that block.
 pub(crate) fn line_of(lines: &Vec<Option<CacheLine>>, block: u32) -> Option<CacheLine>
     requires { 0 < length lines.now.items }
-    ensures line { IfSome result (λ l. (l.block ≡ block) × (slice_get lines.now.items (block % length lines.now.items) ≡ Some (Some l))) }
+    ensures line { IfSome result (IsLineOf lines.now.items block) }
     ensures held { is_some result ≡ has_block (map block_in lines.now.items) block }
 {
     let index = block as usize % lines.len();
@@ -56,7 +56,7 @@ pub(crate) fn hold(lines: &mut Vec<Option<CacheLine>>, line: CacheLine)
 pub(crate) fn change(lines: &mut Vec<Option<CacheLine>>, at: u32, value: u32)
     requires { 0 < length lines.old.items }
     ensures blocks { map block_in lines.new.items ≡ map block_in lines.old.items }
-    ensures lines { (words : List ℕ) → AreLines words lines.old.items → AreLines (slice_set words at value) lines.new.items }
+    ensures lines { (ws : List ℕ) → AreLines ws lines.old.items → AreLines (slice_set ws at value) lines.new.items }
 {
     let held = line_of(lines, at / 4);
     if let Some(line) = held {
