@@ -35,6 +35,10 @@ StillTells left ended left' ended' = TellsLeft left ended → TellsLeft left' en
 abbrev pub Given : Option (List ℕ) → List ℕ → List ℕ → Type 0
 Given held kept given = IfSome held (λ h. given ≡ h ++ kept)
 
+-- these bytes are given after those that were
+abbrev pub Gives : List ℕ → Option (List ℕ) → List ℕ → Option (List ℕ) → List ℕ → Type 0
+Gives bytes held kept held' kept' = (given : List ℕ) → Given held kept given → Given held' kept' (given ++ bytes)
+
 -- the sink has passed on all that it holds, if it had before
 abbrev pub StaysFlushed : Option (List ℕ) → Option (List ℕ) → Option (List ℕ) → Option (List ℕ) → Type 0
 StaysFlushed held passed held' passed' = IsFlushed held passed → IsFlushed held' passed'

@@ -3,7 +3,7 @@
 ghost use Rattle.mic_base.specs.Causes.{HasCause};
 ghost use Rattle.mic_base.specs.Streams.{IsFlushed, PutsAndFlushes};
 ghost use Rattle.std.specs.Prelude.{◌≡◌, ◌≢◌, ◌<◌, ◌+◌, [], ◌∷◌, ◌++◌, ℕ, List, false, true, drop, length, Ok, IsOk, IsErr, IfOk, OnOk, OnErr, IfErr, IsErrOf, Some, Err};
-ghost use Rattle.console_port.specs.Console.{Asks, Untaken, Given, IsLost, TakeFails, HasFaultCause, most_kept};
+ghost use Rattle.console_port.specs.Console.{Asks, Untaken, Given, Gives, IsLost, TakeFails, HasFaultCause, most_kept};
 ghost use Rattle.console_port.specs.Streams.{SinkGoesOn, SourceGoesOn};
 ghost use Rattle.console_port.specs.World.{next_byte};
 
@@ -74,7 +74,7 @@ impl Console {
     /// Keeps a byte. A full buffer goes to the sink first.
     pub fn give<K: Sink>(&mut self, byte: u8, sink: &mut K) -> Result<(), BusFault>
         ensures ended { self.new.ended ≡ self.old.ended }
-        ensures ok { OnOk result ((given : List ℕ) → Given (K.held sink.old) self.old.kept given → Given (K.held sink.new) self.new.kept (given ++ byte ∷ [])) }
+        ensures ok { OnOk result (Gives (byte ∷ []) (K.held sink.old) self.old.kept (K.held sink.new) self.new.kept) }
         ensures lost { OnErr result (IsLost (K.held sink.old) self.old.kept (K.held sink.new) self.new.kept) }
         ensures fault { IfErr result (λ e. e ≡ BusFault.WriteFault) }
         ensures roomy { length self.old.kept < most_kept → IsOk result × (self.new.kept ≡ self.old.kept ++ byte ∷ []) × (sink.new ≡ sink.old) }
@@ -94,7 +94,7 @@ impl Console {
     #[inline(never)]
     fn give_to_full<K: Sink>(&mut self, byte: u8, sink: &mut K) -> Result<(), BusFault>
         ensures ended { self.new.ended ≡ self.old.ended }
-        ensures ok { OnOk result ((given : List ℕ) → Given (K.held sink.old) self.old.kept given → Given (K.held sink.new) self.new.kept (given ++ byte ∷ [])) }
+        ensures ok { OnOk result (Gives (byte ∷ []) (K.held sink.old) self.old.kept (K.held sink.new) self.new.kept) }
         ensures kept { OnOk result (self.new.kept ≡ byte ∷ []) }
         ensures lost { OnErr result (IsLost (K.held sink.old) self.old.kept (K.held sink.new) self.new.kept) }
         ensures fault { IfErr result (λ e. e ≡ BusFault.WriteFault) }

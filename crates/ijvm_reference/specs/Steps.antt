@@ -1,6 +1,6 @@
 -- A step of frames over a console, a source and a sink is the definition's `outcome`, where what these have left and hold are the state's
 -- untaken and given bytes.
-use Rattle.std.specs.Prelude.{◌≡◌, ◌≢◌, ℕ, ◌≤◌, List, [], ◌++◌, false, Option, Some, None, Result, Err, IsSome, IfOk, IfErr, IsErrOf}
+use Rattle.std.specs.Prelude.{◌≡◌, ◌≢◌, ℕ, ◌≤◌, List, [], false, Option, Some, None, Result, Err, IsSome, IfOk, IfErr, IsErrOf}
 use Rattle.mic_base.specs.Causes.{Rose}
 use Rattle.console_port.specs.View.{ConsoleView}
 use Rattle.console_port.specs.Console.{Untaken, Given, IsLost}
@@ -31,10 +31,6 @@ abbrev pub LedBy : (State → StepOutcome) → Option (List ℕ) → Option (Lis
     Option (List ℕ) → ConsoleView → MachineView → MachineView → Effect → Type 0
 LedBy does left held c left' held' c' old new effect =
     IsLedOn left held c left' held' c' (λ u g u' g'. does (state_of old u g) ≡ outcome_of effect (state_of new u' g'))
-
--- these bytes are given after those that were
-abbrev pub Gives : List ℕ → Option (List ℕ) → List ℕ → Option (List ℕ) → List ℕ → Type 0
-Gives bytes held kept held' kept' = (given : List ℕ) → Given held kept given → Given held' kept' (given ++ bytes)
 
 abbrev pub step_end : Effect → Option StepEnd
 step_end effects.Went = Some ends.Went
