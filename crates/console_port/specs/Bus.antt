@@ -1,5 +1,5 @@
 -- A bus between a source and a sink shows a world; what an access leads to, and what stands after an Err.
-use Rattle.std.specs.Prelude.{◌≡◌, ◌≢◌, ℕ, List, [], length, slice_get, Option}
+use Rattle.std.specs.Prelude.{◌≡◌, ◌≢◌, ℕ, List, [], length, slice_get, Option, Some, Result, IfErr}
 use Rattle.std.specs.Option.{option_map}
 use Rattle.console_port.specs.View.{BusView}
 use Rattle.console_port.specs.World.{World, Refusal, fault_of, read_value, after_read}
@@ -43,3 +43,7 @@ KeepsMemoryAndInput bus bus' = (bus'.words ≡ bus.words) × (bus'.console.ended
 -- the fault that a refused access returns
 abbrev pub refused_by : Option Refusal → Option BusFault
 refused_by refusal = option_map fault_of refusal
+
+-- an Err is the fault of this refusal
+abbrev pub FailsAsRefused : {T : Type 0} → Option Refusal → Result T BusFault → Type 0
+FailsAsRefused refusal result = IfErr result (λ e. refused_by refusal ≡ Some e)

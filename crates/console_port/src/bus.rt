@@ -3,7 +3,7 @@
 ghost use Rattle.mic_base.specs.Streams.{IsFlushed};
 ghost use Rattle.std.specs.Prelude.{◌/◌, ◌==◌, ◌≡◌, ◌≢◌, ◌≤◌, ◌<◌, [], ℕ, List, Option, Some, None, Ok, Err, true, false, length, replicate, IsTrue, ◌↔◌, IsSome, slice_get, slice_index, slice_set, IsOk, IfOk, OnOk, OnErr, IfErr};
 ghost use Rattle.console_port.specs.Access.{IsAccess, IsByMap};
-ghost use Rattle.console_port.specs.Bus.{Shows, Stands, IsLed, ChangesOnly, refused_by, IsRead};
+ghost use Rattle.console_port.specs.Bus.{Shows, Stands, IsLed, ChangesOnly, FailsAsRefused, refused_by, IsRead};
 ghost use Rattle.console_port.specs.Console.{IsFault, HasFaultCause, most_kept};
 ghost use Rattle.console_port.specs.Loading.{IsLoaded};
 ghost use Rattle.console_port.specs.Streams.{SinkGoesOn};
@@ -68,7 +68,7 @@ impl Bus {
     #[tactic(auto, unfolding(crate::specs::World::read_refusal))]
     pub fn check_read(&self, at: u32) -> Result<(), BusFault>
         ensures ok { OnOk result (read_refusal (length self.now.words) at ≡ None) }
-        ensures err { IfErr result (λ e. refused_by (read_refusal (length self.now.words) at) ≡ Some e) }
+        ensures err { FailsAsRefused (read_refusal (length self.now.words) at) result }
     {
         if self.has(at) || at == CONSOLE {
             Ok(())
@@ -80,7 +80,7 @@ impl Bus {
     #[tactic(auto, unfolding(crate::specs::World::write_refusal))]
     pub fn check_write(&self, at: u32) -> Result<(), BusFault>
         ensures ok { OnOk result (write_refusal (length self.now.words) at ≡ None) }
-        ensures err { IfErr result (λ e. refused_by (write_refusal (length self.now.words) at) ≡ Some e) }
+        ensures err { FailsAsRefused (write_refusal (length self.now.words) at) result }
     {
         if self.has(at) || at == CONSOLE {
             Ok(())
@@ -95,7 +95,7 @@ impl Bus {
     #[tactic(auto, unfolding(crate::specs::World::fetch_refusal))]
     pub fn check_fetch(&self, byte: u32) -> Result<(), BusFault>
         ensures ok { OnOk result (fetch_refusal (length self.now.words) byte ≡ None) }
-        ensures err { IfErr result (λ e. refused_by (fetch_refusal (length self.now.words) byte) ≡ Some e) }
+        ensures err { FailsAsRefused (fetch_refusal (length self.now.words) byte) result }
     {
         if self.has(byte / 4) {
             Ok(())
@@ -169,7 +169,7 @@ impl Bus {
     pub fn fetch_byte(&self, byte: u32) -> Result<u8, BusFault>
         ensures ok { IfOk result (λ value. value ≡ byte_in self.now.words byte) }
         ensures allowed { OnOk result (fetch_refusal (length self.now.words) byte ≡ None) }
-        ensures err { IfErr result (λ e. refused_by (fetch_refusal (length self.now.words) byte) ≡ Some e) }
+        ensures err { FailsAsRefused (fetch_refusal (length self.now.words) byte) result }
     {
         if self.has(byte / 4) {
             Ok(self.byte(byte))
@@ -183,7 +183,7 @@ impl Bus {
     pub fn fetch_word(&self, at: u32) -> Result<u32, BusFault>
         ensures ok { IfOk result (λ value. value ≡ slice_index self.now.words at) }
         ensures allowed { OnOk result (word_refusal (length self.now.words) at ≡ None) }
-        ensures err { IfErr result (λ e. refused_by (word_refusal (length self.now.words) at) ≡ Some e) }
+        ensures err { FailsAsRefused (word_refusal (length self.now.words) at) result }
     {
         if self.has(at) {
             Ok(self.word(at))

@@ -2,7 +2,7 @@
 
 ghost use Rattle.std.specs.Prelude.{◌==◌, ◌≡◌, ◌≢◌, ◌≤◌, ◌<◌, ◌%◌, ◌^◌, ℕ, List, Option, Some, None, Ok, Err, true, [], length, slice_index, slice_set, slice_get, map, nat_lt, IsOk, IsSome, IfOk, OnOk, OnErr, IfErr};
 ghost use Rattle.console_port.specs.Access.{IsAccess, IsByMap};
-ghost use Rattle.console_port.specs.Bus.{ChangesOnly, Shows, Stands, IsLed, IsRead, refused_by};
+ghost use Rattle.console_port.specs.Bus.{ChangesOnly, FailsAsRefused, Shows, Stands, IsLed, IsRead, refused_by};
 ghost use Rattle.console_port.specs.Console.{HasFaultCause, IsFault, most_kept};
 ghost use Rattle.console_port.specs.Streams.{SinkGoesOn};
 ghost use Rattle.console_port.specs.World.{World, after_write, byte_in, console_at, fetch_refusal, read_refusal, write_refusal};
@@ -123,7 +123,7 @@ impl CachedBus {
         requires { (self.old.tally.counts.hits < 2 ^ 63) × (self.old.tally.counts.misses < 2 ^ 63) }
         ensures ok { IfOk result (λ value. value ≡ byte_in self.old.bus.words byte) }
         ensures allowed { OnOk result (fetch_refusal (length self.old.bus.words) byte ≡ None) }
-        ensures err { IfErr result (λ e. refused_by (fetch_refusal (length self.old.bus.words) byte) ≡ Some e) }
+        ensures err { FailsAsRefused (fetch_refusal (length self.old.bus.words) byte) result }
         ensures bus { self.new.bus ≡ self.old.bus }
         ensures counts { OnOk result (Counts (Access.Fetch byte) self.old self.new) }
         ensures uncounted { OnErr result (self.new.tally ≡ self.old.tally) }

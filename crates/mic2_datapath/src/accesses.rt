@@ -1,8 +1,8 @@
 //! The accesses of a cycle: their addresses are tested before anything is changed.
 
-ghost use Rattle.std.specs.Prelude.{◌≡◌, Some, None, Err, length, OnOk, IfErr, true};
+ghost use Rattle.std.specs.Prelude.{◌≡◌, None, Err, length, OnOk, true};
 ghost use Rattle.console_port.specs.World.{World};
-ghost use Rattle.console_port.specs.Bus.{refused_by};
+ghost use Rattle.console_port.specs.Bus.{FailsAsRefused};
 ghost use Rattle.console_port.specs.Console.{HasFaultCause};
 ghost use Rattle.console_port.specs.Streams.{SinkGoesOn, SourceGoesOn};
 ghost use Rattle.mic_datapath.specs.Memory.{memory_refusal};
@@ -20,7 +20,7 @@ use micro_word::Mem;
 fn check(bus: &Bus, mem: Mem, mar: u32, at: Option<u32>) -> Result<(), BusFault>
     ensures ok { OnOk result (access_refusal (length bus.now.words) mem mar at ≡ None) }
     ensures memory { OnOk result (memory_refusal (length bus.now.words) mem mar ≡ None) }
-    ensures err { IfErr result (λ e. refused_by (access_refusal (length bus.now.words) mem mar at) ≡ Some e) }
+    ensures err { FailsAsRefused (access_refusal (length bus.now.words) mem mar at) result }
 {
     check_memory(bus, mem, mar)?;
     check_sample(at, bus)

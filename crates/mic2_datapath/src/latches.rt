@@ -1,13 +1,13 @@
 //! What Mic-2 keeps between cycles.
 
-ghost use Rattle.std.specs.Prelude.{◌≡◌, ◌≢◌, ◌≤◌, ◌<◌, ◌*◌, ◌+◌, ℕ, None, OnOk, OnErr, IfErr, IfNone, IfSome, IsTrue, length, slice_index, true};
+ghost use Rattle.std.specs.Prelude.{◌≡◌, ◌≢◌, ◌≤◌, ◌<◌, ◌*◌, ◌+◌, ℕ, None, OnOk, OnErr, IfNone, IfSome, IsTrue, length, slice_index, true};
 ghost use Rattle.mic_words.specs.Arithmetic.{signed_byte, signed_pair};
 ghost use Rattle.micro_word.specs.declared.statement.PlacedNext.{PlacedNext};
 ghost use Rattle.micro_word.specs.Coding.{addr_bits, jam_bits};
 ghost use Rattle.micro_word.specs.Words.{is_next};
 ghost use Rattle.micro_word.specs.Lines.{AreSlots};
 ghost use Rattle.micro_word.specs.Operation.{shifted};
-ghost use Rattle.console_port.specs.Bus.{ChangesOnly, refused_by};
+ghost use Rattle.console_port.specs.Bus.{ChangesOnly, FailsAsRefused};
 ghost use Rattle.mic_datapath.specs.Next.{GoesTo, next_address};
 ghost use Rattle.mic_datapath.specs.Places.{registers_at};
 ghost use Rattle.mic_datapath.specs.Registers.{loaded, ports_given};
@@ -128,7 +128,7 @@ pub fn go(jumps: bool, pc: u32, taken: u8, bus: &Bus, unit: &mut FetchUnit) -> R
     requires there { taken ≤ length unit.old.bytes }
     ensures ok { OnOk result (unit.new ≡ unit_after jumps bus.now.words pc taken unit.old) }
     ensures allowed { OnOk result (sample_refusal (length bus.now.words) (unit_samples jumps pc taken unit.old) ≡ None) }
-    ensures err { IfErr result (λ e. refused_by (sample_refusal (length bus.now.words) (unit_samples jumps pc taken unit.old)) ≡ Some e) }
+    ensures err { FailsAsRefused (sample_refusal (length bus.now.words) (unit_samples jumps pc taken unit.old)) result }
     ensures stays { OnErr result (unit.new ≡ unit.old) }
 {
     if jumps {
@@ -311,7 +311,7 @@ impl Latches {
         ensures latches { AreLatches self.new }
         ensures ok { OnOk result (micro_in self.new ≡ stalled bus.now.words (micro_in self.old)) }
         ensures allowed { OnOk result (edge_refusal (length bus.now.words) 0 self.old.unit ≡ None) }
-        ensures err { IfErr result (λ e. refused_by (edge_refusal (length bus.now.words) 0 self.old.unit) ≡ Some e) }
+        ensures err { FailsAsRefused (edge_refusal (length bus.now.words) 0 self.old.unit) result }
         ensures state { OnErr result (micro_in self.new ≡ micro_in self.old) }
     {
         self.unit.edge(0, bus)?;
@@ -362,8 +362,7 @@ impl Latches {
         ensures latches { AreLatches self.new }
         ensures ok { OnOk result (micro_in self.new ≡ moved_on (spelled control.now) (micro_in self.old) value bus.now.words word) }
         ensures allowed { OnOk result (unit_refused (length bus.now.words) (spelled control.now) (micro_in self.old) ≡ None) }
-        ensures err { IfErr result (λ e.
-            refused_by (unit_refused (length bus.now.words) (spelled control.now) (micro_in self.old)) ≡ Some e) }
+        ensures err { FailsAsRefused (unit_refused (length bus.now.words) (spelled control.now) (micro_in self.old)) result }
         ensures state { OnErr result (micro_in self.new ≡ micro_in self.old) }
     {
         word_law(Machine::Mic2);

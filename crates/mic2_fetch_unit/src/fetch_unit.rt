@@ -1,7 +1,7 @@
 //! The queue, its edge and its jump.
 
-ghost use Rattle.std.specs.Prelude.{◌≡◌, ◌+◌, ◌*◌, ◌≤◌, ◌<◌, ℕ, List, true, Some, None, OnOk, OnErr, IfErr, if◌then◌else◌, length, slice_index};
-ghost use Rattle.console_port.specs.Bus.{refused_by};
+ghost use Rattle.std.specs.Prelude.{◌≡◌, ◌+◌, ◌*◌, ◌≤◌, ◌<◌, ℕ, List, true, Some, None, OnOk, OnErr, if◌then◌else◌, length, slice_index};
+ghost use Rattle.console_port.specs.Bus.{FailsAsRefused};
 ghost use Rattle.mic2_fetch_unit.specs.FetchUnit.{at_start, sampled_at, edge as edge_of, jump as jump_of, edge_refusal, jump_refusal, sample_refusal};
 
 use crate::queue::Queue;
@@ -189,7 +189,7 @@ impl FetchUnit {
         requires at { at ≡ sampled_at taken self.old }
         ensures ok { OnOk result (self.new ≡ edge_of bus.now.words taken self.old) }
         ensures allowed { OnOk result (edge_refusal (length bus.now.words) taken self.old ≡ None) }
-        ensures err { IfErr result (λ e. refused_by (edge_refusal (length bus.now.words) taken self.old) ≡ Some e) }
+        ensures err { FailsAsRefused (edge_refusal (length bus.now.words) taken self.old) result }
         ensures stays { OnErr result (self.new ≡ self.old) }
     {
         check_sample(at, bus)?;
@@ -204,7 +204,7 @@ impl FetchUnit {
         requires { taken ≤ length self.old.bytes }
         ensures ok { OnOk result (self.new ≡ edge_of bus.now.words taken self.old) }
         ensures allowed { OnOk result (edge_refusal (length bus.now.words) taken self.old ≡ None) }
-        ensures err { IfErr result (λ e. refused_by (edge_refusal (length bus.now.words) taken self.old) ≡ Some e) }
+        ensures err { FailsAsRefused (edge_refusal (length bus.now.words) taken self.old) result }
         ensures stays { OnErr result (self.new ≡ self.old) }
     {
         // Most edges leave more than two bytes, and nothing is pending before them.
@@ -225,7 +225,7 @@ impl FetchUnit {
     pub fn jump(&mut self, pc: u32, bus: &Bus) -> Result<(), BusFault>
         ensures ok { OnOk result (self.new ≡ jump_of bus.now.words pc) }
         ensures allowed { OnOk result (jump_refusal (length bus.now.words) pc ≡ None) }
-        ensures err { IfErr result (λ e. refused_by (jump_refusal (length bus.now.words) pc) ≡ Some e) }
+        ensures err { FailsAsRefused (jump_refusal (length bus.now.words) pc) result }
         ensures stays { OnErr result (self.new ≡ self.old) }
     {
         check_jump(pc, bus)?;

@@ -1,8 +1,8 @@
 //! The unit's own port to memory.
 
-ghost use Rattle.std.specs.Prelude.{◌≡◌, Some, None, OnOk, IfErr, length, slice_index};
+ghost use Rattle.std.specs.Prelude.{◌≡◌, None, OnOk, length, slice_index};
 ghost use Rattle.std.specs.Option.{option_map};
-ghost use Rattle.console_port.specs.Bus.{refused_by};
+ghost use Rattle.console_port.specs.Bus.{FailsAsRefused};
 ghost use Rattle.mic2_fetch_unit.specs.FetchUnit.{jump_refusal, sample_refusal};
 
 use console_port::{Bus, BusFault};
@@ -11,7 +11,7 @@ use console_port::{Bus, BusFault};
 #[tactic(auto, unfolding(console_port::specs::World::word_refusal))]
 pub fn check_sample(at: Option<u32>, bus: &Bus) -> Result<(), BusFault>
     ensures ok { OnOk result (sample_refusal (length bus.now.words) at ≡ None) }
-    ensures err { IfErr result (λ e. refused_by (sample_refusal (length bus.now.words) at) ≡ Some e) }
+    ensures err { FailsAsRefused (sample_refusal (length bus.now.words) at) result }
 {
     match at {
         Some(at) if !bus.has(at) => Err(BusFault::OutOfMap(at)),
@@ -35,7 +35,7 @@ pub fn sampled(at: Option<u32>, bus: &Bus) -> Option<u32>
 #[tactic(auto, unfolding(console_port::specs::World::word_refusal))]
 pub fn check_jump(pc: u32, bus: &Bus) -> Result<(), BusFault>
     ensures ok { OnOk result (jump_refusal (length bus.now.words) pc ≡ None) }
-    ensures err { IfErr result (λ e. refused_by (jump_refusal (length bus.now.words) pc) ≡ Some e) }
+    ensures err { FailsAsRefused (jump_refusal (length bus.now.words) pc) result }
 {
     check_sample(Some(pc / 4), bus)
 }

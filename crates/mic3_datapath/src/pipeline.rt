@@ -1,7 +1,7 @@
 //! What Mic-3 keeps between cycles.
 
-ghost use Rattle.std.specs.Prelude.{◌≡◌, ◌<◌, ◌≤◌, ℕ, Some, OnOk, OnErr, IfErr, length, slice_index};
-ghost use Rattle.console_port.specs.Bus.{refused_by};
+ghost use Rattle.std.specs.Prelude.{◌≡◌, ◌<◌, ◌≤◌, ℕ, OnOk, OnErr, length, slice_index};
+ghost use Rattle.console_port.specs.Bus.{FailsAsRefused};
 ghost use Rattle.mic_datapath.specs.Places.{registers_at};
 ghost use Rattle.mic_datapath.specs.Registers.{ports_given};
 ghost use Rattle.mic2_datapath.specs.Latches.{AreLatches};
@@ -118,7 +118,7 @@ fn clock_unit(
 ) -> Result<(), BusFault>
     requires { taken ≤ length unit.old.bytes }
     ensures ok { OnOk result (unit.new ≡ unit_after (is_jump_coming (retiring slot)) bus.now.words pc taken unit.old) }
-    ensures err { IfErr result (λ e. refused_by (unit_refused (length bus.now.words) slot pc taken unit.old) ≡ Some e) }
+    ensures err { FailsAsRefused (unit_refused (length bus.now.words) slot pc taken unit.old) result }
     ensures stays { OnErr result (unit.new ≡ unit.old) }
 {
     let jumps = jumps_now(slot);
@@ -322,8 +322,8 @@ impl Pipeline {
         requires pc { pc ≡ (settled (in_operand to_issue) (pipeline_in self.old)).pc }
         ensures latches { AreLatches self.new.latches }
         ensures ok { OnOk result (pipeline_in self.new ≡ edged (in_operand to_issue) (pipeline_in self.old) bus.now.words sampled) }
-        ensures err { IfErr result (λ e. refused_by (unit_refused (length bus.now.words)
-            self.old.result pc (bytes_leaving (in_operand to_issue)) self.old.latches.unit) ≡ Some e) }
+        ensures err { FailsAsRefused (unit_refused (length bus.now.words)
+            self.old.result pc (bytes_leaving (in_operand to_issue)) self.old.latches.unit) result }
         ensures state { OnErr result (pipeline_in self.new ≡ pipeline_in self.old) }
     {
         let taken = bytes_leaving(to_issue);

@@ -1,8 +1,8 @@
 //! The accesses of a cycle: their addresses are tested before anything is changed.
 
-ghost use Rattle.std.specs.Prelude.{◌≡◌, Some, None, Err, ℕ, is_some, length, OnOk, IfOk, IfErr};
+ghost use Rattle.std.specs.Prelude.{◌≡◌, None, Err, ℕ, is_some, length, OnOk, IfOk};
 ghost use Rattle.console_port.specs.World.{World};
-ghost use Rattle.console_port.specs.Bus.{refused_by};
+ghost use Rattle.console_port.specs.Bus.{FailsAsRefused};
 ghost use Rattle.console_port.specs.Console.{HasFaultCause};
 ghost use Rattle.console_port.specs.Streams.{SinkGoesOn, SourceGoesOn};
 ghost use Rattle.mic_datapath.specs.Memory.{memory_refusal, byte_refusal, access_refusal, byte_under_way, ports_with};
@@ -24,7 +24,7 @@ pub struct Sampled {
 /// Tests the write or the read.
 pub fn check_memory(bus: &Bus, mem: Mem, at: u32) -> Result<(), BusFault>
     ensures ok { OnOk result (memory_refusal (length bus.now.words) mem at ≡ None) }
-    ensures err { IfErr result (λ e. refused_by (memory_refusal (length bus.now.words) mem at) ≡ Some e) }
+    ensures err { FailsAsRefused (memory_refusal (length bus.now.words) mem at) result }
 {
     match mem {
         Mem::Write => bus.check_write(at),
@@ -35,7 +35,7 @@ pub fn check_memory(bus: &Bus, mem: Mem, at: u32) -> Result<(), BusFault>
 
 fn check_fetch(bus: &Bus, fetch: bool, at: u32) -> Result<(), BusFault>
     ensures ok { OnOk result (byte_refusal (length bus.now.words) fetch at ≡ None) }
-    ensures err { IfErr result (λ e. refused_by (byte_refusal (length bus.now.words) fetch at) ≡ Some e) }
+    ensures err { FailsAsRefused (byte_refusal (length bus.now.words) fetch at) result }
 {
     if fetch { bus.check_fetch(at) } else { Ok(()) }
 }
@@ -44,7 +44,7 @@ fn check(bus: &Bus, mem: Mem, fetch: bool, ports: &Ports) -> Result<(), BusFault
     ensures ok { OnOk result (access_refusal (length bus.now.words) mem fetch ports.now ≡ None) }
     ensures memory { OnOk result (memory_refusal (length bus.now.words) mem ports.now.mar ≡ None) }
     ensures fetch { OnOk result (byte_refusal (length bus.now.words) fetch ports.now.pc ≡ None) }
-    ensures err { IfErr result (λ e. refused_by (access_refusal (length bus.now.words) mem fetch ports.now) ≡ Some e) }
+    ensures err { FailsAsRefused (access_refusal (length bus.now.words) mem fetch ports.now) result }
 {
     check_memory(bus, mem, ports.mar)?;
     check_fetch(bus, fetch, ports.pc)
