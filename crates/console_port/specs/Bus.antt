@@ -1,5 +1,5 @@
 -- A bus between a source and a sink shows a world; what an access leads to, and what stands after an Err.
-use Rattle.std.specs.Prelude.{◌≡◌, ◌≢◌, ℕ, List, [], length, slice_get, Option, Some, Result, IfErr}
+use Rattle.std.specs.Prelude.{◌≡◌, ◌≢◌, ℕ, List, [], length, slice_get, Option, Some, None, Result, OnOk, OnErr, IfErr}
 use Rattle.std.specs.Option.{option_map}
 use Rattle.console_port.specs.View.{BusView}
 use Rattle.console_port.specs.World.{World, Refusal, fault_of, read_value, after_read}
@@ -47,3 +47,10 @@ refused_by refusal = option_map fault_of refusal
 -- an Err is the fault of this refusal
 abbrev pub FailsAsRefused : {T : Type 0} → Option Refusal → Result T BusFault → Type 0
 FailsAsRefused refusal result = IfErr result (λ e. refused_by refusal ≡ Some e)
+
+-- a call is done where nothing is refused; otherwise it returns the refusal, and leaves all as it was
+pub record IsDoneUnless {A T : Type 0} (refusal : Option Refusal) (old after new : A) (result : Result T BusFault) : Type 0 where
+  pub ok : OnOk result (new ≡ after)
+  pub allowed : OnOk result (refusal ≡ None)
+  pub err : FailsAsRefused refusal result
+  pub stays : OnErr result (new ≡ old)

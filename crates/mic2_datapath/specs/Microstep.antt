@@ -1,6 +1,6 @@
 -- The microstep of Mic-2 (chapter 4; the order of events at the clock edge is this profile's). A statement assigns
 -- whole words, or waits for the bytes that it names.
-use Rattle.std.specs.Prelude.{ℕ, zero, suc, ◌+◌, ◌*◌, ◌/◌, ◌||◌, Bool, true, false, not, nat_lt, if◌then◌else◌, List, length, slice_index, Option, Some}
+use Rattle.std.specs.Prelude.{ℕ, zero, suc, ◌+◌, ◌*◌, ◌/◌, ◌||◌, Bool, true, false, not, nat_lt, if◌then◌else◌, List, length, slice_index, Option, Some, Result}
 use Rattle.mic_words.specs.Arithmetic.{plus, signed_byte, signed_pair}
 use Rattle.micro_word.specs.Words.{is_byte, is_pair}
 use Rattle.micro_word.specs.Destinations.{loads}
@@ -13,7 +13,9 @@ use Rattle.micro_word.specs.declared.statement.PlacedNext.{PlacedNext}
 use Rattle.micro_word.specs.declared.statement.PlacedNext.TheVariants as nexts
 use Rattle.micro_word.specs.declared.statement.Part.{Part}
 use Rattle.micro_word.specs.declared.statement.Placed.{Placed}
+use Rattle.console_port.specs.Bus.{IsDoneUnless}
 use Rattle.console_port.specs.World.{World, Refusal}
+use Rattle.console_port.specs.declared.fault.BusFault.{BusFault}
 use Rattle.mic_clock.specs.Meaning.{Outcome}
 use Rattle.mic_datapath.specs.Registers.{NineRegisters, on_bus, loaded, ports_given}
 use Rattle.mic_datapath.specs.Memory.{written, sampled, word_under_way, memory_refusal, first_refusal, outcome}
@@ -154,6 +156,11 @@ abbrev pub refusal : ℕ → Placed → Micro → Option Refusal
 refusal stack_end s m =
     let r = settled s m in
     first_refusal (memory_refusal stack_end s.part.mem r.mar) (unit_refusal (jumps s.part) stack_end r.pc (demand s) m.unit)
+
+-- the unit has its edge or jumps, unless the word that it samples is refused
+abbrev pub HasUnitEdge : {T : Type 0} → Bool → List ℕ → ℕ → ℕ → Prefetch → Prefetch → Result T BusFault → Type 0
+HasUnitEdge jump words pc taken u u' result =
+    IsDoneUnless (sample_refusal (length words) (unit_samples jump pc taken u)) u (unit_after jump words pc taken u) u' result
 
 -- why the word that the unit samples at the edge is refused, if it is
 abbrev pub unit_refused : ℕ → Placed → Micro → Option Refusal

@@ -13,7 +13,7 @@ ghost use Rattle.mic_datapath.specs.Places.{registers_at};
 ghost use Rattle.mic_datapath.specs.Registers.{loaded, ports_given};
 ghost use Rattle.mic2_fetch_unit.specs.FetchUnit.{edge_refusal, sample_refusal};
 ghost use Rattle.mic2_datapath.specs.Mic2.{initial as initial_of};
-ghost use Rattle.mic2_datapath.specs.Microstep.{advanced, byte_at, dispatch_bytes, is_to_instruction, moved_on, past, result_of, source, stalled, unit_after, unit_refusal, unit_refused, unit_samples};
+ghost use Rattle.mic2_datapath.specs.Microstep.{HasUnitEdge, advanced, byte_at, dispatch_bytes, is_to_instruction, moved_on, past, result_of, source, stalled, unit_refusal, unit_refused, unit_samples};
 ghost use Rattle.mic2_datapath.specs.Latches.{AreLatches, HasFront, IsInside, loaded_in, micro_in};
 ghost use Rattle.mic2_datapath.specs.Spelled.{spelled};
 
@@ -126,10 +126,7 @@ pub fn load(
 #[tactic(auto, unfolding(mic2_fetch_unit::specs::FetchUnit::edge_refusal))]
 pub fn go(jumps: bool, pc: u32, taken: u8, bus: &Bus, unit: &mut FetchUnit) -> Result<(), BusFault>
     requires there { taken ≤ length unit.old.bytes }
-    ensures ok { OnOk result (unit.new ≡ unit_after jumps bus.now.words pc taken unit.old) }
-    ensures allowed { OnOk result (sample_refusal (length bus.now.words) (unit_samples jumps pc taken unit.old) ≡ None) }
-    ensures err { FailsAsRefused (sample_refusal (length bus.now.words) (unit_samples jumps pc taken unit.old)) result }
-    ensures stays { OnErr result (unit.new ≡ unit.old) }
+    ensures { HasUnitEdge jumps bus.now.words pc taken unit.old unit.new result }
 {
     if jumps {
         unit.jump(pc, bus)

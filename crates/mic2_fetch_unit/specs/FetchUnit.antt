@@ -1,8 +1,10 @@
 -- The fetch unit of Mic-2 (chapter 4): a queue of instruction bytes in front of memory. When it samples a word is this profile's.
-use Rattle.std.specs.Prelude.{◌≡◌, ℕ, ◌/◌, ◌%◌, ◌<◌, ◌≤◌, Bool, true, nat_le, if◌then◌else◌, List, [], ◌∷◌, ◌++◌, length, drop, slice_index, Option, Some, None, is_some}
+use Rattle.std.specs.Prelude.{◌≡◌, ℕ, ◌/◌, ◌%◌, ◌<◌, ◌≤◌, Bool, true, nat_le, if◌then◌else◌, List, [], ◌∷◌, ◌++◌, length, drop, slice_index, Option, Some, None, Result, is_some}
 use Rattle.std.specs.Option.{option_map}
 use Rattle.mic_words.specs.Arithmetic.{next}
+use Rattle.console_port.specs.Bus.{IsDoneUnless}
 use Rattle.console_port.specs.World.{Refusal, byte_of, word_refusal}
+use Rattle.console_port.specs.declared.fault.BusFault.{BusFault}
 
 pub record Prefetch : Type 0 where
   -- the queue, the front byte first
@@ -64,6 +66,14 @@ edge_refusal stack_end t u = sample_refusal stack_end (sampled_at t u)
 -- why a jump is refused
 abbrev pub jump_refusal : ℕ → ℕ → Option Refusal
 jump_refusal stack_end pc = word_refusal stack_end (pc / 4)
+
+-- the unit has an edge that takes t bytes, unless it is refused
+abbrev pub HasEdge : {T : Type 0} → List ℕ → ℕ → Prefetch → Prefetch → Result T BusFault → Type 0
+HasEdge words t u u' result = IsDoneUnless (edge_refusal (length words) t u) u (edge words t u) u' result
+
+-- the unit jumps to a byte address, unless that is refused
+abbrev pub Jumps : {T : Type 0} → List ℕ → ℕ → Prefetch → Prefetch → Result T BusFault → Type 0
+Jumps words pc u u' result = IsDoneUnless (jump_refusal (length words) pc) u (jump words pc) u' result
 
 -- a unit after a reset, over a memory whose first word is `first`
 abbrev pub at_start : ℕ → Prefetch

@@ -1,8 +1,7 @@
 //! The queue, its edge and its jump.
 
-ghost use Rattle.std.specs.Prelude.{◌≡◌, ◌+◌, ◌*◌, ◌≤◌, ◌<◌, ℕ, List, true, Some, None, OnOk, OnErr, if◌then◌else◌, length, slice_index};
-ghost use Rattle.console_port.specs.Bus.{FailsAsRefused};
-ghost use Rattle.mic2_fetch_unit.specs.FetchUnit.{at_start, sampled_at, edge as edge_of, jump as jump_of, edge_refusal, jump_refusal, sample_refusal};
+ghost use Rattle.std.specs.Prelude.{◌≡◌, ◌+◌, ◌*◌, ◌≤◌, ◌<◌, ℕ, List, true, Some, None, if◌then◌else◌, length, slice_index};
+ghost use Rattle.mic2_fetch_unit.specs.FetchUnit.{HasEdge, Jumps, at_start, sampled_at, edge as edge_of, jump as jump_of, jump_refusal, sample_refusal};
 
 use crate::queue::Queue;
 use crate::sampling::{check_jump, check_sample, sampled};
@@ -187,10 +186,7 @@ impl FetchUnit {
     fn edge_at(&mut self, taken: u8, at: Option<u32>, bus: &Bus) -> Result<(), BusFault>
         requires within { taken ≤ length self.old.bytes }
         requires at { at ≡ sampled_at taken self.old }
-        ensures ok { OnOk result (self.new ≡ edge_of bus.now.words taken self.old) }
-        ensures allowed { OnOk result (edge_refusal (length bus.now.words) taken self.old ≡ None) }
-        ensures err { FailsAsRefused (edge_refusal (length bus.now.words) taken self.old) result }
-        ensures stays { OnErr result (self.new ≡ self.old) }
+        ensures { HasEdge bus.now.words taken self.old self.new result }
     {
         check_sample(at, bus)?;
         self.go_on(taken, at, bus);
@@ -202,10 +198,7 @@ impl FetchUnit {
     #[tactic(auto, unfolding(crate::specs::FetchUnit::edge_refusal))]
     pub fn edge(&mut self, taken: u8, bus: &Bus) -> Result<(), BusFault>
         requires { taken ≤ length self.old.bytes }
-        ensures ok { OnOk result (self.new ≡ edge_of bus.now.words taken self.old) }
-        ensures allowed { OnOk result (edge_refusal (length bus.now.words) taken self.old ≡ None) }
-        ensures err { FailsAsRefused (edge_refusal (length bus.now.words) taken self.old) result }
-        ensures stays { OnErr result (self.new ≡ self.old) }
+        ensures { HasEdge bus.now.words taken self.old self.new result }
     {
         // Most edges leave more than two bytes, and nothing is pending before them.
         let full = self.is_full(taken);
@@ -223,10 +216,7 @@ impl FetchUnit {
     /// The jump to a byte address. An Err is `OutOfMap`.
     #[inline(always)]
     pub fn jump(&mut self, pc: u32, bus: &Bus) -> Result<(), BusFault>
-        ensures ok { OnOk result (self.new ≡ jump_of bus.now.words pc) }
-        ensures allowed { OnOk result (jump_refusal (length bus.now.words) pc ≡ None) }
-        ensures err { FailsAsRefused (jump_refusal (length bus.now.words) pc) result }
-        ensures stays { OnErr result (self.new ≡ self.old) }
+        ensures { Jumps bus.now.words pc self.old self.new result }
     {
         check_jump(pc, bus)?;
         self.go_to(pc, bus);
