@@ -1,5 +1,5 @@
 -- What a cycle of Mic-1 has before its edge: a word with its control lines, and what leaves the ALU and the shifter; and an edge that reaches only memory.
-use Rattle.std.specs.Prelude.{◌≡◌, ⊤, ℕ, false, IsTrue, List, Option, Ok}
+use Rattle.std.specs.Prelude.{◌≡◌, ⊤, ℕ, Bool, true, false, IsTrue, List, Option, Ok}
 use Rattle.console_port.specs.View.{BusView}
 use Rattle.mic_clock.specs.Edge.{IsEdge}
 use Rattle.mic_words.specs.declared.machine.Machine.TheVariants as machines
@@ -10,7 +10,7 @@ use Rattle.micro_word.specs.Operation.{shifted}
 use Rattle.micro_word.specs.Words.{is_canonical}
 use Rattle.micro_word.specs.declared.lines.Lines.{Lines}
 use Rattle.micro_word.specs.declared.statement.Mem.TheVariants as mems
-use Rattle.mic1_datapath.specs.Latches.{fetches, micro_in}
+use Rattle.mic1_datapath.specs.Latches.{AreLatches, fetches, micro_in}
 use Rattle.mic1_datapath.specs.Mic1.{mic1_meaning}
 use Rattle.mic1_datapath.specs.Microstep.{next_micro, result_of, settled}
 use Rattle.mic1_datapath.specs.Micro.{Micro}
@@ -26,6 +26,12 @@ pub record HasComputed (word : ℕ) (m : Micro) (value c : ℕ) : Type 0 where
   pub value_is : value ≡ result_of (statement_of machines.Mic1 word).part m
   pub c_is : c ≡ shifted (statement_of machines.Mic1 word).part.shift value
 
+-- what a cycle has before its edge
+pub record IsAtEdge (l : Latches) (word : ℕ) (lines : Lines) (value c : ℕ) : Type 0 where
+  pub latches : AreLatches l
+  pub decoded : IsDecoded word lines
+  pub computed : HasComputed word (micro_in l) value c
+
 -- the state after a word that has this value out of the ALU, with what its accesses sampled under way
 abbrev pub moved_on : ℕ → ℕ → Micro → Option ℕ → Option ℕ → Micro
 moved_on word value m read byte = next_micro (statement_of machines.Mic1 word).next value (settled (statement_of machines.Mic1 word).part m) read byte
@@ -38,3 +44,10 @@ IsQuiet word = (mem_of (fields_of machines.Mic1 word).mem ≡ mems.None) × (fet
 abbrev pub IsEdgeInside : ℕ → Latches → BusView → Latches → BusView → Type 0
 IsEdgeInside word l bus l' bus' =
     (left held : Option (List ℕ)) → IsEdge mic1_meaning word (micro_in l) left held bus {T = ⊤} (micro_in l') left held bus' (Ok tt)
+
+-- an edge that reaches only memory is done, or all is as it was
+pub record IsTried (word : ℕ) (l : Latches) (bus : BusView) (l' : Latches) (bus' : BusView) (done : Bool) : Type 0 where
+  pub latches : AreLatches l'
+  pub edge : done ≡ true → IsEdgeInside word l bus l' bus'
+  pub console : bus'.console ≡ bus.console
+  pub none : done ≡ false → (l' ≡ l) × (bus' ≡ bus)

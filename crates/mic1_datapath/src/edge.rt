@@ -1,13 +1,13 @@
 //! The clock edge of a cycle, after what the cycle computed.
 
-ghost use Rattle.std.specs.Prelude.{◌≡◌, Err, true, false};
+ghost use Rattle.std.specs.Prelude.{◌≡◌, Err, true};
 ghost use Rattle.console_port.specs.Console.{HasFaultCause};
 ghost use Rattle.console_port.specs.Streams.{SinkGoesOn, SourceGoesOn};
 ghost use Rattle.mic_words.specs.declared.machine.Machine.TheVariants.{Mic1};
 ghost use Rattle.micro_word.specs.Coding.{mem_of};
 ghost use Rattle.micro_word.specs.Layout.{fields_of};
 ghost use Rattle.mic_clock.specs.Edge.{IsEdge, LetsBytesWait};
-ghost use Rattle.mic1_datapath.specs.Cycle.{HasComputed, IsDecoded, IsEdgeInside, IsQuiet};
+ghost use Rattle.mic1_datapath.specs.Cycle.{IsAtEdge, IsQuiet, IsTried};
 ghost use Rattle.mic1_datapath.specs.Latches.{AreLatches, micro_in};
 ghost use Rattle.mic1_datapath.specs.Mic1.{mic1_meaning};
 
@@ -62,13 +62,8 @@ fn edge_of_one(
     c: u32,
     bus: &mut Bus,
 ) -> bool
-    requires latches { AreLatches latches.old }
-    requires decoded { IsDecoded word lines.now }
-    requires computed { HasComputed word (micro_in latches.old) value c }
-    ensures latches { AreLatches latches.new }
-    ensures edge { result ≡ true → IsEdgeInside word latches.old bus.old latches.new bus.new }
-    ensures console { bus.new.console ≡ bus.old.console }
-    ensures none { result ≡ false → (latches.new ≡ latches.old) × (bus.new ≡ bus.old) }
+    requires { IsAtEdge latches.old word lines.now value c }
+    ensures { IsTried word latches.old bus.old latches.new bus.new result }
 {
     if is_quiet(word) {
         latches.advance(word, lines, value, c, NOTHING);
@@ -119,13 +114,8 @@ fn edge_inside(
     c: u32,
     bus: &mut Bus,
 ) -> bool
-    requires latches { AreLatches latches.old }
-    requires decoded { IsDecoded word lines.now }
-    requires computed { HasComputed word (micro_in latches.old) value c }
-    ensures latches { AreLatches latches.new }
-    ensures edge { result ≡ true → IsEdgeInside word latches.old bus.old latches.new bus.new }
-    ensures console { bus.new.console ≡ bus.old.console }
-    ensures none { result ≡ false → (latches.new ≡ latches.old) × (bus.new ≡ bus.old) }
+    requires { IsAtEdge latches.old word lines.now value c }
+    ensures { IsTried word latches.old bus.old latches.new bus.new result }
 {
     // Most words access nothing, and most others one thing.
     if edge_of_one(latches, word, lines, value, c, bus) {
@@ -154,9 +144,7 @@ fn any_edge<S: Source, K: Sink>(
     source: &mut S,
     sink: &mut K,
 ) -> Result<(), BusFault>
-    requires latches { AreLatches latches.old }
-    requires decoded { IsDecoded word lines.now }
-    requires computed { HasComputed word (micro_in latches.old) value c }
+    requires { IsAtEdge latches.old word lines.now value c }
     ensures latches { AreLatches latches.new }
     ensures edge { IsEdge mic1_meaning word (micro_in latches.old) (S.left source.old) (K.held sink.old) bus.old
         (micro_in latches.new) (S.left source.new) (K.held sink.new) bus.new result }
@@ -186,9 +174,7 @@ fn edge_outside<S: Source, K: Sink>(
     source: &mut S,
     sink: &mut K,
 ) -> Result<(), BusFault>
-    requires latches { AreLatches latches.old }
-    requires decoded { IsDecoded word lines.now }
-    requires computed { HasComputed word (micro_in latches.old) value c }
+    requires { IsAtEdge latches.old word lines.now value c }
     ensures latches { AreLatches latches.new }
     ensures edge { IsEdge mic1_meaning word (micro_in latches.old) (S.left source.old) (K.held sink.old) bus.old
         (micro_in latches.new) (S.left source.new) (K.held sink.new) bus.new result }
@@ -213,9 +199,7 @@ pub fn edge<S: Source, K: Sink>(
     source: &mut S,
     sink: &mut K,
 ) -> Result<(), BusFault>
-    requires latches { AreLatches latches.old }
-    requires decoded { IsDecoded word lines.now }
-    requires computed { HasComputed word (micro_in latches.old) value c }
+    requires { IsAtEdge latches.old word lines.now value c }
     ensures latches { AreLatches latches.new }
     ensures edge { IsEdge mic1_meaning word (micro_in latches.old) (S.left source.old) (K.held sink.old) bus.old
         (micro_in latches.new) (S.left source.new) (K.held sink.new) bus.new result }

@@ -1,7 +1,7 @@
 use Rattle.std.proofs.Common.{subst, sym}
 use Rattle.console_port.specs.View.{BusView}
 use Rattle.mic_clock.specs.Edge.{IsEdge, LetsBytesWait}
-use Rattle.mic1_datapath.specs.Cycle.{HasComputed}
+use Rattle.mic1_datapath.specs.Cycle.{IsAtEdge}
 use Rattle.mic1_datapath.specs.Mic1.{mic1_meaning}
 use Rattle.mic1_datapath.specs.Latches.{micro_in}
 use Rattle.mic1_datapath.specs.declared.latches.Latches.{Latches}
@@ -9,10 +9,10 @@ use Rattle.mic1_datapath.proofs.edge.edge.Goals as goal
 
 -- what is tried first leaves all as it was, where it does nothing
 
-pub edge_outside-requires-clause-computed : goal.edge_outside-requires-clause-computed
-edge_outside-requires-clause-computed g c =
+pub edge_outside-requires : goal.edge_outside-requires
+edge_outside-requires g c =
     let same = c.edge_inside.ensures.none c.if-edge_inside.false in
-    subst (λ (l : Latches). HasComputed c.args.word (micro_in l) c.args.value c.args.c) (sym same.0) c.requires.computed
+    subst (λ (l : Latches). IsAtEdge l c.args.word c.args.lines.now c.args.value c.args.c) (sym same.0) c.requires
 
 pub returns-then-edge_inside-clause-edge : goal.returns-then-edge_inside-clause-edge
 returns-then-edge_inside-clause-edge g c =

@@ -17,8 +17,8 @@ advance-requires-clause-value c =
     let same = c.edge_of_one.ensures.none c.if-edge_of_one.false in
     (subst (λ (l : Latches). HasComputed c.args.word (micro_in l) c.args.value c.args.c) (sym same.0) c.requires.computed).value_is
 
-pub returns-clause-edge : goal.returns-clause-edge
-returns-clause-edge c =
+pub returns : goal.returns
+returns c =
     let word = c.args.word in
     let s = statement_of machines.Mic1 word in
     let same = c.edge_of_one.ensures.none c.if-edge_of_one.false in
@@ -31,10 +31,15 @@ returns-clause-edge c =
     is_asked word m c.args.value c.args.c c.destinations.result c.ports-ports.result c.of_bits-mem.result c.fetch-fetch.result
     its.value_is its.c_is c.destinations.ensures.value c.ports-ports.ensures (c.of_bits-mem.ensures ∙ ap mem_of c.mem.ensures) c.fetch-fetch.ensures in
     let does = c.access_memory-sampled.ensures in
-    λ done.
-    subst (λ (l : Latches). IsEdgeInside word l c.args.bus.now c.advance.new.self bus') same.0
-    (subst (λ (b : BusView). IsEdgeInside word c.edge_of_one.new.latches b c.advance.new.self bus') same.1
-    (λ left held. edge_done word m asked is left held bus left held bus' _ _ does.clear
-    (led_inside _ _ bus bus' does.console _ (λ w shows. does.access w shows.words)) does.others _
-    (c.advance.ensures.micro
-    ∙ ap (λ (x : ℕ). next_micro s.next x (settled s.part m) c.access_memory-sampled.result.word c.access_memory-sampled.result.byte) its.value_is)))
+    record {
+      latches = c.advance.ensures.latches;
+      edge = λ done.
+          subst (λ (l : Latches). IsEdgeInside word l c.args.bus.now c.advance.new.self bus') same.0
+          (subst (λ (b : BusView). IsEdgeInside word c.edge_of_one.new.latches b c.advance.new.self bus') same.1
+          (λ left held. edge_done word m asked is left held bus left held bus' _ _ does.clear
+          (led_inside _ _ bus bus' does.console _ (λ w shows. does.access w shows.words)) does.others _
+          (c.advance.ensures.micro
+          ∙ ap (λ (x : ℕ). next_micro s.next x (settled s.part m) c.access_memory-sampled.result.word c.access_memory-sampled.result.byte) its.value_is)));
+      console = does.console ∙ c.edge_of_one.ensures.console;
+      none = λ no. absurd (cc);
+    }
