@@ -1,10 +1,9 @@
 //! The accesses of a cycle: their addresses are tested before anything is changed.
 
-ghost use Rattle.std.specs.Prelude.{◌≡◌, None, Err, length, OnOk, true};
+ghost use Rattle.std.specs.Prelude.{◌≡◌, None, length, OnOk, true};
 ghost use Rattle.console_port.specs.World.{World};
 ghost use Rattle.console_port.specs.Bus.{FailsAsRefused};
-ghost use Rattle.console_port.specs.Console.{HasFaultCause};
-ghost use Rattle.console_port.specs.Streams.{SinkGoesOn, SourceGoesOn};
+ghost use Rattle.console_port.specs.Streams.{StreamsGoOn};
 ghost use Rattle.mic_datapath.specs.Memory.{memory_refusal};
 ghost use Rattle.mic_datapath.specs.Access.{HasAccessed, IsTransfer, LetsBytesWait};
 ghost use Rattle.mic2_fetch_unit.specs.FetchUnit.{sample_refusal};
@@ -62,9 +61,8 @@ pub fn access<S: Source, K: Sink>(
         (S.left source.old) (K.held sink.old) bus.old (S.left source.new) (K.held sink.new) bus.new result }
     ensures waits { LetsBytesWait (length bus.old.words) mem ports.now.mar
         (access_refusal (length bus.old.words) mem ports.now.mar at) bus.old.console.kept sink.old sink.new }
-    ensures source { SourceGoesOn S.left bus.old.console.ended source.old bus.new.console.ended source.new }
-    ensures sink { SinkGoesOn K.held K.passed (result ≡ Err BusFault.WriteFault) sink.old sink.new }
-    ensures cause { HasFaultCause (S.faults source.old) (S.faults source.new) (K.faults sink.old) (K.faults sink.new) result }
+    ensures streams { StreamsGoOn S.left S.faults K.held K.passed K.faults bus.old source.old sink.old
+        bus.new source.new sink.new result }
 {
     // Most cycles access nothing.
     if mem == Mem::None {

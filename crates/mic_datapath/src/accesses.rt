@@ -1,10 +1,9 @@
 //! The accesses of a cycle: their addresses are tested before anything is changed.
 
-ghost use Rattle.std.specs.Prelude.{◌≡◌, None, Err, ℕ, is_some, length, OnOk, IfOk};
+ghost use Rattle.std.specs.Prelude.{◌≡◌, None, ℕ, is_some, length, OnOk, IfOk};
 ghost use Rattle.console_port.specs.World.{World};
 ghost use Rattle.console_port.specs.Bus.{FailsAsRefused};
-ghost use Rattle.console_port.specs.Console.{HasFaultCause};
-ghost use Rattle.console_port.specs.Streams.{SinkGoesOn, SourceGoesOn};
+ghost use Rattle.console_port.specs.Streams.{StreamsGoOn};
 ghost use Rattle.mic_datapath.specs.Memory.{memory_refusal, byte_refusal, access_refusal, byte_under_way, ports_with};
 ghost use Rattle.mic_datapath.specs.Access.{HasAccessed, IsAccess, IsTransfer, LetsBytesWait, is_read};
 
@@ -63,9 +62,8 @@ pub fn transfer<S: Source, K: Sink>(
         (S.left source.old) (K.held sink.old) bus.old (S.left source.new) (K.held sink.new) bus.new result }
     ensures sampled { IfOk result (λ word. is_some word ≡ is_read mem) }
     ensures waits { LetsBytesWait (length bus.old.words) mem ports.now.mar None bus.old.console.kept sink.old sink.new }
-    ensures source { SourceGoesOn S.left bus.old.console.ended source.old bus.new.console.ended source.new }
-    ensures sink { SinkGoesOn K.held K.passed (result ≡ Err BusFault.WriteFault) sink.old sink.new }
-    ensures cause { HasFaultCause (S.faults source.old) (S.faults source.new) (K.faults sink.old) (K.faults sink.new) result }
+    ensures streams { StreamsGoOn S.left S.faults K.held K.passed K.faults bus.old source.old sink.old
+        bus.new source.new sink.new result }
 {
     match mem {
         Mem::Write => {
@@ -110,9 +108,8 @@ fn access_tested<S: Source, K: Sink>(
     ensures sampled { IfOk result (λ x. (is_some x.word ≡ is_read mem) × (is_some x.byte ≡ fetch)) }
     ensures waits { LetsBytesWait (length bus.old.words) mem mar
         (access_refusal (length bus.old.words) mem fetch (ports_with mar mdr pc)) bus.old.console.kept sink.old sink.new }
-    ensures source { SourceGoesOn S.left bus.old.console.ended source.old bus.new.console.ended source.new }
-    ensures sink { SinkGoesOn K.held K.passed (result ≡ Err BusFault.WriteFault) sink.old sink.new }
-    ensures cause { HasFaultCause (S.faults source.old) (S.faults source.new) (K.faults sink.old) (K.faults sink.new) result }
+    ensures streams { StreamsGoOn S.left S.faults K.held K.passed K.faults bus.old source.old sink.old
+        bus.new source.new sink.new result }
 {
     let ports = Ports { mar, mdr, pc };
     check(bus, mem, fetch, &ports)?;
@@ -137,9 +134,8 @@ pub fn access<S: Source, K: Sink>(
     ensures sampled { IfOk result (λ x. (is_some x.word ≡ is_read mem) × (is_some x.byte ≡ fetch)) }
     ensures waits { LetsBytesWait (length bus.old.words) mem ports.now.mar
         (access_refusal (length bus.old.words) mem fetch ports.now) bus.old.console.kept sink.old sink.new }
-    ensures source { SourceGoesOn S.left bus.old.console.ended source.old bus.new.console.ended source.new }
-    ensures sink { SinkGoesOn K.held K.passed (result ≡ Err BusFault.WriteFault) sink.old sink.new }
-    ensures cause { HasFaultCause (S.faults source.old) (S.faults source.new) (K.faults sink.old) (K.faults sink.new) result }
+    ensures streams { StreamsGoOn S.left S.faults K.held K.passed K.faults bus.old source.old sink.old
+        bus.new source.new sink.new result }
 {
     if is_quiet(mem, fetch) {
         return Ok(no_access(mem, fetch, ports, bus));
