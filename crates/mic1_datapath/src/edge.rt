@@ -1,8 +1,7 @@
 //! The clock edge of a cycle, after what the cycle computed.
 
-ghost use Rattle.std.specs.Prelude.{◌≡◌, Err, true};
-ghost use Rattle.console_port.specs.Console.{HasFaultCause};
-ghost use Rattle.console_port.specs.Streams.{SinkGoesOn, SourceGoesOn};
+ghost use Rattle.std.specs.Prelude.{◌≡◌, true};
+ghost use Rattle.console_port.specs.Streams.{StreamsGoOn};
 ghost use Rattle.mic_words.specs.declared.machine.Machine.TheVariants.{Mic1};
 ghost use Rattle.micro_word.specs.Coding.{mem_of};
 ghost use Rattle.micro_word.specs.Layout.{fields_of};
@@ -149,9 +148,8 @@ fn any_edge<S: Source, K: Sink>(
     ensures edge { IsEdge mic1_meaning word (micro_in latches.old) (S.left source.old) (K.held sink.old) bus.old
         (micro_in latches.new) (S.left source.new) (K.held sink.new) bus.new result }
     ensures waits { LetsBytesWait mic1_meaning word (micro_in latches.old) (S.left source.old) (K.held sink.old) bus.old sink.old sink.new }
-    ensures source { SourceGoesOn S.left bus.old.console.ended source.old bus.new.console.ended source.new }
-    ensures sink { SinkGoesOn K.held K.passed (result ≡ Err BusFault.WriteFault) sink.old sink.new }
-    ensures cause { HasFaultCause (S.faults source.old) (S.faults source.new) (K.faults sink.old) (K.faults sink.new) result }
+    ensures streams { StreamsGoOn S.left S.faults K.held K.passed K.faults bus.old source.old sink.old
+        bus.new source.new sink.new result }
 {
     console_law();
     let mem = Mem::of_bits(bits::mem(Machine::Mic1, word));
@@ -179,9 +177,8 @@ fn edge_outside<S: Source, K: Sink>(
     ensures edge { IsEdge mic1_meaning word (micro_in latches.old) (S.left source.old) (K.held sink.old) bus.old
         (micro_in latches.new) (S.left source.new) (K.held sink.new) bus.new result }
     ensures waits { LetsBytesWait mic1_meaning word (micro_in latches.old) (S.left source.old) (K.held sink.old) bus.old sink.old sink.new }
-    ensures source { SourceGoesOn S.left bus.old.console.ended source.old bus.new.console.ended source.new }
-    ensures sink { SinkGoesOn K.held K.passed (result ≡ Err BusFault.WriteFault) sink.old sink.new }
-    ensures cause { HasFaultCause (S.faults source.old) (S.faults source.new) (K.faults sink.old) (K.faults sink.new) result }
+    ensures streams { StreamsGoOn S.left S.faults K.held K.passed K.faults bus.old source.old sink.old
+        bus.new source.new sink.new result }
 {
     any_edge(latches, word, lines, value, c, bus, source, sink)?;
     Ok(())
@@ -204,9 +201,8 @@ pub fn edge<S: Source, K: Sink>(
     ensures edge { IsEdge mic1_meaning word (micro_in latches.old) (S.left source.old) (K.held sink.old) bus.old
         (micro_in latches.new) (S.left source.new) (K.held sink.new) bus.new result }
     ensures waits { LetsBytesWait mic1_meaning word (micro_in latches.old) (S.left source.old) (K.held sink.old) bus.old sink.old sink.new }
-    ensures source { SourceGoesOn S.left bus.old.console.ended source.old bus.new.console.ended source.new }
-    ensures sink { SinkGoesOn K.held K.passed (result ≡ Err BusFault.WriteFault) sink.old sink.new }
-    ensures cause { HasFaultCause (S.faults source.old) (S.faults source.new) (K.faults sink.old) (K.faults sink.new) result }
+    ensures streams { StreamsGoOn S.left S.faults K.held K.passed K.faults bus.old source.old sink.old
+        bus.new source.new sink.new result }
 {
     if edge_inside(latches, word, lines, value, c, bus) {
         return Ok(());

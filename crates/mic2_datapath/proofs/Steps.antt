@@ -3,8 +3,9 @@ use Rattle.std.proofs.Common.{◌≡◌, ℕ, ◌%◌, ◌≤◌, ◌==◌, ◌&
 use Rattle.std.specs.Prelude.{⊤, IfErr, IsErrAnd, OnErr, OnOk}
 use Rattle.console_port.specs.World.{World, Refusal, StackLimit, OutOfMap, fault_of, console_at}
 use Rattle.console_port.specs.Bus.{ChangesOnly, IsLed, Shows, Stands, refused_by}
-use Rattle.console_port.specs.Console.{HasFaultCause, IsFault}
-use Rattle.console_port.specs.View.{BusView}
+use Rattle.console_port.specs.Console.{HasFaultCause, IsFault, StillTells}
+use Rattle.console_port.specs.Streams.{StreamsGoOn}
+use Rattle.console_port.specs.View.{BusView, ConsoleView}
 use Rattle.console_port.specs.declared.fault.BusFault.{BusFault}
 use Rattle.console_port.specs.declared.fault.BusFault.TheVariants as faults
 use Rattle.mic_words.specs.declared.machine.Machine.TheVariants as machines
@@ -187,7 +188,7 @@ refused_no_fault (Some (StackLimit at)) e is fault = let same : e ≡ fault_of (
 refused_no_fault (Some (OutOfMap at)) e is fault = let same : e ≡ fault_of (OutOfMap at) = cc in subst IsFault same fault
 
 -- a refusal has no cause in the source or the sink
-pub no_cause : (why : Option Refusal) (source sink : ℕ) (r : Result ⊤ BusFault) → IfErr r (λ e. refused_by why ≡ Some e) → HasFaultCause source source sink sink r
+no_cause : (why : Option Refusal) (source sink : ℕ) (r : Result ⊤ BusFault) → IfErr r (λ e. refused_by why ≡ Some e) → HasFaultCause source source sink sink r
 no_cause why source sink r fails =
     record {
       source_later = omega arith;
@@ -200,6 +201,20 @@ no_cause why source sink r fails =
   where
     never : (e : BusFault) → r ≡ Err e → IsFault e → ⊥
     never e is = refused_no_fault why e (subst (λ (x : Result ⊤ BusFault). IfErr x (λ f. refused_by why ≡ Some f)) is fails)
+
+-- a call that reaches no console, and fails only as it is refused, leaves the source and the sink
+pub streams_stay : {S K : Type 0} (left : S → Option (List ℕ)) (source_faults : S → ℕ) (held passed : K → Option (List ℕ)) (sink_faults : K → ℕ)
+    (source : S) (sink : K) (bus bus' : BusView) → bus'.console ≡ bus.console → (why : Option Refusal) (r : Result ⊤ BusFault) →
+    IfErr r (λ e. refused_by why ≡ Some e) → StreamsGoOn left source_faults held passed sink_faults bus source sink bus' source sink r
+streams_stay left source_faults held passed sink_faults source sink bus bus' console why r fails =
+    record {
+      source_goes_on = record {
+        asked_no_more = λ ended. (ap (λ (k : ConsoleView). k.ended) console ∙ ended, refl);
+        tells_left = subst (λ (k : ConsoleView). StillTells (left source) bus.console.ended (left source) k.ended) (sym console) (λ tells. tells);
+      };
+      sink_goes_on = record { keeps = λ front holds. holds; tells = λ known. known; flushed = λ goes flushed. flushed };
+      cause = no_cause why (source_faults source) (sink_faults sink) r fails;
+    }
 
 -- what is refused here is a read, because anything else was tested before
 pub it_reads : (reads : Bool) (r : Option Refusal) (e : BusFault) → (reads ≡ false → r ≡ None) → refused_by r ≡ Some e → reads ≡ true

@@ -1,8 +1,7 @@
 //! A cycle over the latches and what is on the buses.
 
-ghost use Rattle.std.specs.Prelude.{◌≡◌, Err};
-ghost use Rattle.console_port.specs.Console.{HasFaultCause};
-ghost use Rattle.console_port.specs.Streams.{SinkGoesOn, SourceGoesOn};
+ghost use Rattle.std.specs.Prelude.{◌≡◌};
+ghost use Rattle.console_port.specs.Streams.{StreamsGoOn};
 ghost use Rattle.mic_clock.specs.Edge.{IsEdge, LetsBytesWait};
 ghost use Rattle.mic2_datapath.specs.Latches.{AreLatches, HasComputed, micro_in};
 ghost use Rattle.mic2_datapath.specs.Mic2.{driven, mic2_meaning};
@@ -60,9 +59,8 @@ impl Latches {
         ensures edge { IsEdge mic2_meaning control.now.word (micro_in self.old) (S.left source.old) (K.held sink.old) bus.old
             (micro_in self.new) (S.left source.new) (K.held sink.new) bus.new result }
         ensures waits { LetsBytesWait mic2_meaning control.now.word (micro_in self.old) (S.left source.old) (K.held sink.old) bus.old sink.old sink.new }
-        ensures source { SourceGoesOn S.left bus.old.console.ended source.old bus.new.console.ended source.new }
-        ensures sink { SinkGoesOn K.held K.passed (result ≡ Err BusFault.WriteFault) sink.old sink.new }
-        ensures cause { HasFaultCause (S.faults source.old) (S.faults source.new) (K.faults sink.old) (K.faults sink.new) result }
+        ensures streams { StreamsGoOn S.left S.faults K.held K.passed K.faults bus.old source.old sink.old
+            bus.new source.new sink.new result }
     {
         console_law();
         if stalled {
@@ -96,9 +94,8 @@ impl Latches {
         ensures edge { IsEdge mic2_meaning control.now.word (micro_in self.old) (S.left source.old) (K.held sink.old) bus.old
             (micro_in self.new) (S.left source.new) (K.held sink.new) bus.new result }
         ensures waits { LetsBytesWait mic2_meaning control.now.word (micro_in self.old) (S.left source.old) (K.held sink.old) bus.old sink.old sink.new }
-        ensures source { SourceGoesOn S.left bus.old.console.ended source.old bus.new.console.ended source.new }
-        ensures sink { SinkGoesOn K.held K.passed (result ≡ Err BusFault.WriteFault) sink.old sink.new }
-        ensures cause { HasFaultCause (S.faults source.old) (S.faults source.new) (K.faults sink.old) (K.faults sink.new) result }
+        ensures streams { StreamsGoOn S.left S.faults K.held K.passed K.faults bus.old source.old sink.old
+            bus.new source.new sink.new result }
     {
         self.any_edge(control, stalled, value, c, bus, source, sink)?;
         Ok(())
@@ -122,9 +119,8 @@ impl Latches {
         ensures edge { IsEdge mic2_meaning control.now.word (micro_in self.old) (S.left source.old) (K.held sink.old) bus.old
             (micro_in self.new) (S.left source.new) (K.held sink.new) bus.new result }
         ensures waits { LetsBytesWait mic2_meaning control.now.word (micro_in self.old) (S.left source.old) (K.held sink.old) bus.old sink.old sink.new }
-        ensures source { SourceGoesOn S.left bus.old.console.ended source.old bus.new.console.ended source.new }
-        ensures sink { SinkGoesOn K.held K.passed (result ≡ Err BusFault.WriteFault) sink.old sink.new }
-        ensures cause { HasFaultCause (S.faults source.old) (S.faults source.new) (K.faults sink.old) (K.faults sink.new) result }
+        ensures streams { StreamsGoOn S.left S.faults K.held K.passed K.faults bus.old source.old sink.old
+            bus.new source.new sink.new result }
     {
         if !stalled {
             // Most words access nothing, and most others what is in memory.

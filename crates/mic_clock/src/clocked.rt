@@ -1,8 +1,7 @@
 //! What a board asks of a machine.
 
-ghost use Rattle.std.specs.Prelude.{◌≡◌, Err, IfOk, ◌<◌, ℕ, List, slice_index};
-ghost use Rattle.console_port.specs.Console.{HasFaultCause};
-ghost use Rattle.console_port.specs.Streams.{SinkGoesOn, SourceGoesOn};
+ghost use Rattle.std.specs.Prelude.{◌≡◌, IfOk, ◌<◌, ℕ, List, slice_index};
+ghost use Rattle.console_port.specs.Streams.{StreamsGoOn};
 ghost use Rattle.mic_clock.specs.Edge.{IsEdge, LetsBytesWait};
 ghost use Rattle.mic_clock.specs.Meaning.{Meaning, Phase, AtRest, SetUp, Driven, AtEdge};
 ghost use Rattle.mic_clock.specs.Run.{SeesBuses, word_at};
@@ -80,9 +79,8 @@ pub trait Clocked {
         ensures edge { IsEdge meaning (word self.old) (state self.old) (S.left source.old) (K.held sink.old) bus.old
             (state self.new) (S.left source.new) (K.held sink.new) bus.new result }
         ensures waits { LetsBytesWait meaning (word self.old) (state self.old) (S.left source.old) (K.held sink.old) bus.old sink.old sink.new }
-        ensures source { SourceGoesOn S.left bus.old.console.ended source.old bus.new.console.ended source.new }
-        ensures sink { SinkGoesOn K.held K.passed (result ≡ Err BusFault.WriteFault) sink.old sink.new }
-        ensures cause { HasFaultCause (S.faults source.old) (S.faults source.new) (K.faults sink.old) (K.faults sink.new) result };
+        ensures streams { StreamsGoOn S.left S.faults K.held K.passed K.faults bus.old source.old sink.old
+            bus.new source.new sink.new result };
 
     /// The four calls of a cycle in one, which a machine may do faster.
     #[inline(always)]
@@ -101,9 +99,8 @@ pub trait Clocked {
             (state self.new) (S.left source.new) (K.held sink.new) bus.new result }
         ensures waits { LetsBytesWait meaning (word_at meaning store.now.words (state self.old)) (state self.old)
             (S.left source.old) (K.held sink.old) bus.old sink.old sink.new }
-        ensures source { SourceGoesOn S.left bus.old.console.ended source.old bus.new.console.ended source.new }
-        ensures sink { SinkGoesOn K.held K.passed (result ≡ Err BusFault.WriteFault) sink.old sink.new }
-        ensures cause { HasFaultCause (S.faults source.old) (S.faults source.new) (K.faults sink.old) (K.faults sink.new) result }
+        ensures streams { StreamsGoOn S.left S.faults K.held K.passed K.faults bus.old source.old sink.old
+            bus.new source.new sink.new result }
     {
         self.setup(store);
         let drive = self.drive();

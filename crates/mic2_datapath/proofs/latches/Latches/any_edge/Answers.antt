@@ -1,4 +1,4 @@
-use Rattle.std.proofs.Common.{ℕ, sym, ◌∙◌, ap, subst, Result}
+use Rattle.std.proofs.Common.{ℕ, refl, sym, ◌∙◌, ap, subst, Result}
 use Rattle.std.specs.Prelude.{⊤}
 use Rattle.console_port.specs.declared.fault.BusFault.{BusFault}
 use Rattle.mic_clock.specs.Edge.{IsEdge}
@@ -8,7 +8,7 @@ use Rattle.micro_word.specs.Coding.{statement_of}
 use Rattle.mic_words.specs.declared.machine.Machine.TheVariants as machines
 use Rattle.mic2_datapath.specs.Latches.{micro_in}
 use Rattle.mic2_datapath.specs.Microstep.{moved_on}
-use Rattle.mic2_datapath.proofs.Steps.{Asked, IsAsked, edge_done, edge_fails, edge_waits, handed_on, is_asked, no_cause, samples_clear, stall_edge, unrefused}
+use Rattle.mic2_datapath.proofs.Steps.{Asked, IsAsked, edge_done, edge_fails, edge_waits, handed_on, is_asked, samples_clear, stall_edge, streams_stay, unrefused}
 use Rattle.mic2_datapath.proofs.latches.Latches.any_edge.Goals as goal
 
 -- a cycle that stalls
@@ -18,8 +18,10 @@ returns-then-stalled-clause-edge g c =
     stall_edge c.args.control.now.word (micro_in c.args.self.now) _ _ c.args.bus.now (sym c.requires.computed.waits ∙ c.if-stalled.true) _ _
     c.stall.ensures.ok c.stall.ensures.allowed c.stall.ensures.state c.stall.ensures.err
 
-pub returns-then-stalled-clause-cause : goal.returns-then-stalled-clause-cause
-returns-then-stalled-clause-cause g c = no_cause _ _ _ _ c.stall.ensures.err
+pub returns-then-stalled-clause-streams : goal.returns-then-stalled-clause-streams
+returns-then-stalled-clause-streams g c =
+    streams_stay g.S.Source.left g.S.Source.faults g.K.Sink.held g.K.Sink.passed g.K.Sink.faults c.args.source.now c.args.sink.now c.args.bus.now c.args.bus.now
+    refl _ _ c.stall.ensures.err
 
 -- any other
 

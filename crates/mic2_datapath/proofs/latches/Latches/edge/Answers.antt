@@ -15,7 +15,7 @@ use Rattle.mic2_datapath.specs.Microstep.{jumps, moved_on}
 use Rattle.mic2_datapath.specs.Mic2.{mic2_meaning}
 use Rattle.mic2_datapath.specs.Latches.{access_by, micro_in}
 use Rattle.mic2_datapath.proofs.Inside.{led_inside, led_same}
-use Rattle.mic2_datapath.proofs.Steps.{IsAsked, asked_for, edge_either, is_for, it_reads, mar_there, mdr_there, no_cause, on_each_err, refusal_left, sampled_there}
+use Rattle.mic2_datapath.proofs.Steps.{IsAsked, asked_for, edge_either, is_for, it_reads, mar_there, mdr_there, on_each_err, refusal_left, sampled_there, streams_stay}
 use Rattle.mic2_datapath.proofs.latches.Latches.edge.Goals as goal
 use Rattle.mic2_datapath.proofs.latches.Latches.edge.Goals.{then-not-stalled+else-is_quiet+in_default, else-not-stalled}
 
@@ -35,8 +35,10 @@ returns-then-is_quiet-clause-edge g c =
     (subst (λ (x : ℕ). OnOk c.advance.result (micro_in c.advance.new.self ≡ moved_on s m x bus.words None)) (c.requires.computed.alu c.if-not-stalled.true) c.advance.ensures.ok)
     (on_each_err c.advance.result _ c.advance.ensures.err (λ e fails. refl)) c.advance.ensures.state c.advance.ensures.err
 
-pub returns-then-is_quiet-clause-cause : goal.returns-then-is_quiet-clause-cause
-returns-then-is_quiet-clause-cause g c = no_cause _ _ _ _ c.advance.ensures.err
+pub returns-then-is_quiet-clause-streams : goal.returns-then-is_quiet-clause-streams
+returns-then-is_quiet-clause-streams g c =
+    streams_stay g.S.Source.left g.S.Source.faults g.K.Sink.held g.K.Sink.passed g.K.Sink.faults c.args.source.now c.args.sink.now c.args.bus.now c.args.bus.now
+    refl _ _ c.advance.ensures.err
 
 -- a cycle that reads or writes what is in memory; what the unit samples is tested before a write, so that a word was read where it is refused
 
@@ -71,8 +73,10 @@ returns-in-Some-clause-edge g c =
     (subst (λ (x : ℕ). OnOk r (micro_in c.advance-in-Some.new.self ≡ moved_on s m x bus'.words sampled)) (computed.alu goes) c.advance-in-Some.ensures.ok)
     (on_each_err r _ fails (λ e fail. c.in-Some.ensures.inside.same (reads e (ap refused_by (sym (refusal_left n asked clear)) ∙ fail)))) c.advance-in-Some.ensures.state fails
 
-pub returns-in-Some-clause-cause : goal.returns-in-Some-clause-cause
-returns-in-Some-clause-cause g c = no_cause _ _ _ _ c.advance-in-Some.ensures.err
+pub returns-in-Some-clause-streams : goal.returns-in-Some-clause-streams
+returns-in-Some-clause-streams g c =
+    streams_stay g.S.Source.left g.S.Source.faults g.K.Sink.held g.K.Sink.passed g.K.Sink.faults c.args.source.now c.args.sink.now c.args.bus.now c.access_inside.new.bus
+    c.access_inside.ensures.console _ _ c.advance-in-Some.ensures.err
 
 -- a cycle that stalls, accesses something else, or is refused
 
