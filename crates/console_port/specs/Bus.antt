@@ -36,10 +36,6 @@ pub record Stands (left held : Option (List ℕ)) (bus : BusView) (left' held' :
 abbrev pub ChangesOnly : ℕ → List ℕ → List ℕ → Type 0
 ChangesOnly at old new = (length new ≡ length old) × ((a : ℕ) → a ≢ at → slice_get new a ≡ slice_get old a)
 
--- the memory stays, and whether the end of input was met
-abbrev pub KeepsMemoryAndInput : BusView → BusView → Type 0
-KeepsMemoryAndInput bus bus' = (bus'.words ≡ bus.words) × (bus'.console.ended ≡ bus.console.ended)
-
 -- the fault that a refused access returns
 abbrev pub refused_by : Option Refusal → Option BusFault
 refused_by refusal = option_map fault_of refusal

@@ -5,7 +5,7 @@ ghost use Rattle.console_port.specs.Streams.{StreamsGoOn};
 ghost use Rattle.mic_words.specs.declared.machine.Machine.TheVariants.{Mic1};
 ghost use Rattle.micro_word.specs.Coding.{mem_of};
 ghost use Rattle.micro_word.specs.Layout.{fields_of};
-ghost use Rattle.mic_clock.specs.Edge.{IsEdge, LetsBytesWait};
+ghost use Rattle.mic_clock.specs.Edge.{IsEdgeOver};
 ghost use Rattle.mic1_datapath.specs.Cycle.{IsAtEdge, IsQuiet, IsTried};
 ghost use Rattle.mic1_datapath.specs.Latches.{AreLatches, micro_in};
 ghost use Rattle.mic1_datapath.specs.Mic1.{mic1_meaning};
@@ -145,9 +145,8 @@ fn any_edge<S: Source, K: Sink>(
 ) -> Result<(), BusFault>
     requires { IsAtEdge latches.old word lines.now value c }
     ensures latches { AreLatches latches.new }
-    ensures edge { IsEdge mic1_meaning word (micro_in latches.old) (S.left source.old) (K.held sink.old) bus.old
-        (micro_in latches.new) (S.left source.new) (K.held sink.new) bus.new result }
-    ensures waits { LetsBytesWait mic1_meaning word (micro_in latches.old) (S.left source.old) (K.held sink.old) bus.old sink.old sink.new }
+    ensures edge { IsEdgeOver mic1_meaning S.left K.held word (micro_in latches.old) bus.old source.old sink.old
+        (micro_in latches.new) bus.new source.new sink.new result }
     ensures streams { StreamsGoOn S.left S.faults K.held K.passed K.faults bus.old source.old sink.old
         bus.new source.new sink.new result }
 {
@@ -174,9 +173,8 @@ fn edge_outside<S: Source, K: Sink>(
 ) -> Result<(), BusFault>
     requires { IsAtEdge latches.old word lines.now value c }
     ensures latches { AreLatches latches.new }
-    ensures edge { IsEdge mic1_meaning word (micro_in latches.old) (S.left source.old) (K.held sink.old) bus.old
-        (micro_in latches.new) (S.left source.new) (K.held sink.new) bus.new result }
-    ensures waits { LetsBytesWait mic1_meaning word (micro_in latches.old) (S.left source.old) (K.held sink.old) bus.old sink.old sink.new }
+    ensures edge { IsEdgeOver mic1_meaning S.left K.held word (micro_in latches.old) bus.old source.old sink.old
+        (micro_in latches.new) bus.new source.new sink.new result }
     ensures streams { StreamsGoOn S.left S.faults K.held K.passed K.faults bus.old source.old sink.old
         bus.new source.new sink.new result }
 {
@@ -198,9 +196,8 @@ pub fn edge<S: Source, K: Sink>(
 ) -> Result<(), BusFault>
     requires { IsAtEdge latches.old word lines.now value c }
     ensures latches { AreLatches latches.new }
-    ensures edge { IsEdge mic1_meaning word (micro_in latches.old) (S.left source.old) (K.held sink.old) bus.old
-        (micro_in latches.new) (S.left source.new) (K.held sink.new) bus.new result }
-    ensures waits { LetsBytesWait mic1_meaning word (micro_in latches.old) (S.left source.old) (K.held sink.old) bus.old sink.old sink.new }
+    ensures edge { IsEdgeOver mic1_meaning S.left K.held word (micro_in latches.old) bus.old source.old sink.old
+        (micro_in latches.new) bus.new source.new sink.new result }
     ensures streams { StreamsGoOn S.left S.faults K.held K.passed K.faults bus.old source.old sink.old
         bus.new source.new sink.new result }
 {

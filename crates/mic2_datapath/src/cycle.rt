@@ -2,7 +2,7 @@
 
 ghost use Rattle.std.specs.Prelude.{◌≡◌};
 ghost use Rattle.console_port.specs.Streams.{StreamsGoOn};
-ghost use Rattle.mic_clock.specs.Edge.{IsEdge, LetsBytesWait};
+ghost use Rattle.mic_clock.specs.Edge.{IsEdgeOver};
 ghost use Rattle.mic2_datapath.specs.Latches.{AreLatches, HasComputed, micro_in};
 ghost use Rattle.mic2_datapath.specs.Mic2.{driven, mic2_meaning};
 ghost use Rattle.mic2_datapath.specs.Spelled.{spelled};
@@ -56,9 +56,8 @@ impl Latches {
         requires latches { AreLatches self.old }
         requires computed { HasComputed (spelled control.now) (micro_in self.old) stalled value c }
         ensures latches { AreLatches self.new }
-        ensures edge { IsEdge mic2_meaning control.now.word (micro_in self.old) (S.left source.old) (K.held sink.old) bus.old
-            (micro_in self.new) (S.left source.new) (K.held sink.new) bus.new result }
-        ensures waits { LetsBytesWait mic2_meaning control.now.word (micro_in self.old) (S.left source.old) (K.held sink.old) bus.old sink.old sink.new }
+        ensures edge { IsEdgeOver mic2_meaning S.left K.held control.now.word (micro_in self.old)
+            bus.old source.old sink.old (micro_in self.new) bus.new source.new sink.new result }
         ensures streams { StreamsGoOn S.left S.faults K.held K.passed K.faults bus.old source.old sink.old
             bus.new source.new sink.new result }
     {
@@ -91,9 +90,8 @@ impl Latches {
         requires latches { AreLatches self.old }
         requires computed { HasComputed (spelled control.now) (micro_in self.old) stalled value c }
         ensures latches { AreLatches self.new }
-        ensures edge { IsEdge mic2_meaning control.now.word (micro_in self.old) (S.left source.old) (K.held sink.old) bus.old
-            (micro_in self.new) (S.left source.new) (K.held sink.new) bus.new result }
-        ensures waits { LetsBytesWait mic2_meaning control.now.word (micro_in self.old) (S.left source.old) (K.held sink.old) bus.old sink.old sink.new }
+        ensures edge { IsEdgeOver mic2_meaning S.left K.held control.now.word (micro_in self.old)
+            bus.old source.old sink.old (micro_in self.new) bus.new source.new sink.new result }
         ensures streams { StreamsGoOn S.left S.faults K.held K.passed K.faults bus.old source.old sink.old
             bus.new source.new sink.new result }
     {
@@ -116,9 +114,8 @@ impl Latches {
         requires latches { AreLatches self.old }
         requires computed { HasComputed (spelled control.now) (micro_in self.old) stalled value c }
         ensures latches { AreLatches self.new }
-        ensures edge { IsEdge mic2_meaning control.now.word (micro_in self.old) (S.left source.old) (K.held sink.old) bus.old
-            (micro_in self.new) (S.left source.new) (K.held sink.new) bus.new result }
-        ensures waits { LetsBytesWait mic2_meaning control.now.word (micro_in self.old) (S.left source.old) (K.held sink.old) bus.old sink.old sink.new }
+        ensures edge { IsEdgeOver mic2_meaning S.left K.held control.now.word (micro_in self.old)
+            bus.old source.old sink.old (micro_in self.new) bus.new source.new sink.new result }
         ensures streams { StreamsGoOn S.left S.faults K.held K.passed K.faults bus.old source.old sink.old
             bus.new source.new sink.new result }
     {

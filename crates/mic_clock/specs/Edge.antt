@@ -37,3 +37,10 @@ module _ {State : Type 0} (m : Meaning State) (word : ℕ) (s : State) (left hel
   abbrev pub LetsBytesWait : {K : Type 0} → K → K → Type 0
   LetsBytesWait sink sink' =
       length bus.console.kept < most_kept → (sink' ≡ sink) ⊎ ((bus.console.kept ≢ []) × ((w : World) → Shows left held bus w → ReadsConsole m word s w))
+
+module _ {State S K : Type 0} (m : Meaning State) (left : S → Option (List ℕ)) (held : K → Option (List ℕ)) where
+  -- an edge between a source and a sink, which lets the console's bytes wait
+  pub record IsEdgeOver {T : Type 0} (word : ℕ) (s : State) (bus : BusView) (source : S) (sink : K)
+      (s' : State) (bus' : BusView) (source' : S) (sink' : K) (result : Result T BusFault) : Type 0 where
+    pub edge : IsEdge m word s (left source) (held sink) bus s' (left source') (held sink') bus' result
+    pub waits : LetsBytesWait m word s (left source) (held sink) bus sink sink'

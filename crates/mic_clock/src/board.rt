@@ -2,7 +2,8 @@
 
 ghost use Rattle.mic_base.specs.Streams.{IsFlushed};
 ghost use Rattle.std.specs.Prelude.{◌≡◌, [], ◌<◌, ◌≤◌, ◌+◌, ◌^◌, ℕ, List, Option, None, Some, Err, IsOk, OnOk, IfErr, IsSome, true, false, length, max};
-ghost use Rattle.console_port.specs.Bus.{KeepsMemoryAndInput, Stands};
+ghost use Rattle.console_port.specs.Bus.{Stands};
+ghost use Rattle.console_port.specs.View.{KeepsMemoryAndInput};
 ghost use Rattle.console_port.specs.Console.{HasFaultCause};
 ghost use Rattle.console_port.specs.Streams.{SinkGoesOn};
 ghost use Rattle.mic_clock.specs.Edge.{LetsBytesWait};

@@ -2,7 +2,7 @@
 
 ghost use Rattle.std.specs.Prelude.{◌≡◌, IfOk, ◌<◌, ℕ, List, slice_index};
 ghost use Rattle.console_port.specs.Streams.{StreamsGoOn};
-ghost use Rattle.mic_clock.specs.Edge.{IsEdge, LetsBytesWait};
+ghost use Rattle.mic_clock.specs.Edge.{IsEdgeOver};
 ghost use Rattle.mic_clock.specs.Meaning.{Meaning, Phase, AtRest, SetUp, Driven, AtEdge};
 ghost use Rattle.mic_clock.specs.Run.{SeesBuses, word_at};
 
@@ -76,9 +76,8 @@ pub trait Clocked {
     ) -> Result<(), BusFault>
         requires { phase self.old ≡ AtEdge }
         ensures phase { phase self.new ≡ AtRest }
-        ensures edge { IsEdge meaning (word self.old) (state self.old) (S.left source.old) (K.held sink.old) bus.old
-            (state self.new) (S.left source.new) (K.held sink.new) bus.new result }
-        ensures waits { LetsBytesWait meaning (word self.old) (state self.old) (S.left source.old) (K.held sink.old) bus.old sink.old sink.new }
+        ensures edge { IsEdgeOver meaning S.left K.held (word self.old) (state self.old) bus.old source.old sink.old
+            (state self.new) bus.new source.new sink.new result }
         ensures streams { StreamsGoOn S.left S.faults K.held K.passed K.faults bus.old source.old sink.old
             bus.new source.new sink.new result };
 
@@ -95,10 +94,8 @@ pub trait Clocked {
         requires machine { store.now.machine ≡ meaning.machine }
         ensures phase { phase self.new ≡ AtRest }
         ensures seen { IfOk result (λ seen. SeesBuses meaning store.now.words (state self.old) seen.0 seen.1) }
-        ensures edge { IsEdge meaning (word_at meaning store.now.words (state self.old)) (state self.old) (S.left source.old) (K.held sink.old) bus.old
-            (state self.new) (S.left source.new) (K.held sink.new) bus.new result }
-        ensures waits { LetsBytesWait meaning (word_at meaning store.now.words (state self.old)) (state self.old)
-            (S.left source.old) (K.held sink.old) bus.old sink.old sink.new }
+        ensures edge { IsEdgeOver meaning S.left K.held (word_at meaning store.now.words (state self.old))
+            (state self.old) bus.old source.old sink.old (state self.new) bus.new source.new sink.new result }
         ensures streams { StreamsGoOn S.left S.faults K.held K.passed K.faults bus.old source.old sink.old
             bus.new source.new sink.new result }
     {

@@ -17,19 +17,13 @@ returns-clause-edge g c =
     is_asked c.args.word m c.args.value c.args.c c.destinations.result c.ports-ports.result c.of_bits-mem.result c.fetch-fetch.result
     its.value_is its.c_is c.destinations.ensures.value c.ports-ports.ensures (c.of_bits-mem.ensures ∙ ap mem_of c.mem.ensures) c.fetch-fetch.ensures in
     let a = c.in_ok-sampled.ensures.access in
-    edge_done c.args.word m asked is _ _ c.args.bus.now _ _ c.access.new.bus _ _ a.allowed a.ok a.others _
-    (c.advance.ensures.micro ∙ ap (λ (x : ℕ). next_micro s.next x (settled s.part m) c.in_ok-sampled.sampled.word c.in_ok-sampled.sampled.byte) its.value_is)
-
-pub returns-clause-waits : goal.returns-clause-waits
-returns-clause-waits g c =
-    let s = statement_of machines.Mic1 c.args.word in
-    let m = micro_in c.args.latches.now in
-    let its = c.requires.computed in
-    let asked : Asked = record { ports = c.ports-ports.result; mem = c.of_bits-mem.result; fetch = c.fetch-fetch.result } in
-    let is : IsAsked s m asked =
-    is_asked c.args.word m c.args.value c.args.c c.destinations.result c.ports-ports.result c.of_bits-mem.result c.fetch-fetch.result
-    its.value_is its.c_is c.destinations.ensures.value c.ports-ports.ensures (c.of_bits-mem.ensures ∙ ap mem_of c.mem.ensures) c.fetch-fetch.ensures in
-    edge_waits c.args.word m asked is _ _ c.args.bus.now c.console_law.ensures _ _ c.in_ok-sampled.ensures.waits
+    record {
+      edge =
+          edge_done c.args.word m asked is _ _ c.args.bus.now _ _ c.access.new.bus _ _ a.allowed a.ok a.others _
+          (c.advance.ensures.micro
+          ∙ ap (λ (x : ℕ). next_micro s.next x (settled s.part m) c.in_ok-sampled.sampled.word c.in_ok-sampled.sampled.byte) its.value_is);
+      waits = edge_waits c.args.word m asked is _ _ c.args.bus.now c.console_law.ensures _ _ c.in_ok-sampled.ensures.waits;
+    }
 
 pub returns-in_err-sampled-clause-edge : goal.returns-in_err-sampled-clause-edge
 returns-in_err-sampled-clause-edge g c =
@@ -44,16 +38,9 @@ returns-in_err-sampled-clause-edge g c =
     let held = g.K.Sink.held c.args.sink.now in
     let left' = g.S.Source.left c.access.new.source in
     let held' = g.K.Sink.held c.access.new.sink in
-    edge_passed c.args.word m left held c.args.bus.now left' held' c.access.new.bus m _ c.from_residual.result c.from_residual.ensures.1
-    (edge_fails c.args.word m asked is left held c.args.bus.now left' held' c.access.new.bus c.console_law.ensures _ _ c.in_err-sampled.ensures.access)
-
-pub returns-in_err-sampled-clause-waits : goal.returns-in_err-sampled-clause-waits
-returns-in_err-sampled-clause-waits g c =
-    let s = statement_of machines.Mic1 c.args.word in
-    let m = micro_in c.args.latches.now in
-    let its = c.requires.computed in
-    let asked : Asked = record { ports = c.ports-ports.result; mem = c.of_bits-mem.result; fetch = c.fetch-fetch.result } in
-    let is : IsAsked s m asked =
-    is_asked c.args.word m c.args.value c.args.c c.destinations.result c.ports-ports.result c.of_bits-mem.result c.fetch-fetch.result
-    its.value_is its.c_is c.destinations.ensures.value c.ports-ports.ensures (c.of_bits-mem.ensures ∙ ap mem_of c.mem.ensures) c.fetch-fetch.ensures in
-    edge_waits c.args.word m asked is _ _ c.args.bus.now c.console_law.ensures _ _ c.in_err-sampled.ensures.waits
+    record {
+      edge =
+          edge_passed c.args.word m left held c.args.bus.now left' held' c.access.new.bus m _ c.from_residual.result c.from_residual.ensures.1
+          (edge_fails c.args.word m asked is left held c.args.bus.now left' held' c.access.new.bus c.console_law.ensures _ _ c.in_err-sampled.ensures.access);
+      waits = edge_waits c.args.word m asked is left held c.args.bus.now c.console_law.ensures _ _ c.in_err-sampled.ensures.waits;
+    }

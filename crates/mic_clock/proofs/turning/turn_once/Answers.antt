@@ -24,6 +24,7 @@ returns-in-Some-end_before-clause-turn g c =
 
 pub returns-in-Err-clause-turn : goal.returns-in-Err-clause-turn
 returns-in-Err-clause-turn g c =
+    let edge = c.in-Err.ensures.edge.edge in
     let state = g.M.Clocked.state in
     let m = g.M.Clocked.meaning in
     let board = board_of c.args.machine.now c.args.store.now c.args.bus.now c.args.running.now c.args.tally.now in
@@ -45,7 +46,7 @@ returns-in-Ok-clause-turn g c =
     let no_end : end_before m (state board.machine) board.counts ≡ None = sym (ends_as_ruled m _ _ _ rule) in
     let not_ended : board.end ≡ None = search rules in
     let counted = counted_as_ruled m _ _ _ _ (rw c.keep_buses.ensures at c.count.ensures.counts) in
-    (λ q. led-done state m _ _ _ _ _ _ not_ended no_end c.in-Ok.ensures.edge.ok
+    (λ q. led-done state m _ _ _ _ _ _ not_ended no_end c.in-Ok.ensures.edge.edge.ok
     (counted ∙ ap (λ (d : Drive). counts_after m board.counts d.stalled (state c.clock.new.self)) c.in-Ok.ensures.seen.0) (search rules))
 
 pub returns-in-Ok-clause-tick : goal.returns-in-Ok-clause-tick

@@ -1,4 +1,4 @@
-use Rattle.std.proofs.Common.{ℕ, refl, sym, ◌∙◌, ap, subst, Result}
+use Rattle.std.proofs.Common.{ℕ, inl, refl, sym, ◌∙◌, ap, subst, Result}
 use Rattle.std.specs.Prelude.{⊤}
 use Rattle.console_port.specs.declared.fault.BusFault.{BusFault}
 use Rattle.mic_clock.specs.Edge.{IsEdge}
@@ -15,8 +15,12 @@ use Rattle.mic2_datapath.proofs.latches.Latches.any_edge.Goals as goal
 
 pub returns-then-stalled-clause-edge : goal.returns-then-stalled-clause-edge
 returns-then-stalled-clause-edge g c =
-    stall_edge c.args.control.now.word (micro_in c.args.self.now) _ _ c.args.bus.now (sym c.requires.computed.waits ∙ c.if-stalled.true) _ _
-    c.stall.ensures.ok c.stall.ensures.allowed c.stall.ensures.state c.stall.ensures.err
+    record {
+      edge =
+          stall_edge c.args.control.now.word (micro_in c.args.self.now) _ _ c.args.bus.now (sym c.requires.computed.waits ∙ c.if-stalled.true) _ _
+          c.stall.ensures.ok c.stall.ensures.allowed c.stall.ensures.state c.stall.ensures.err;
+      waits = λ room. inl refl;
+    }
 
 pub returns-then-stalled-clause-streams : goal.returns-then-stalled-clause-streams
 returns-then-stalled-clause-streams g c =
@@ -41,21 +45,12 @@ returns-clause-edge g c =
     c.mem.ensures c.will_fetch-at.ensures.refusal c.will_fetch-at.ensures.value in
     let a = c.in_ok-sampled.ensures.access in
     let moves = unrefused _ _ c.advance.ensures.err (samples_clear s m asked is _ _ a.others.0 a.allowed) c.advance.ensures.ok in
-    edge_done control.word m _ _ c.args.bus.now asked is _ _ c.access.new.bus _ a.allowed a.ok a.others _
-    (moves ∙ ap (λ (x : ℕ). moved_on s m x c.access.new.bus.words c.in_ok-sampled.sampled) (c.requires.computed.alu c.if-stalled.false))
-
-pub returns-clause-waits : goal.returns-clause-waits
-unfolding statement_of
-returns-clause-waits g c =
-    let control = c.args.control.now in
-    let s = statement_of machines.Mic2 control.word in
-    let m = micro_in c.args.self.now in
-    let asked : Asked = record { ports = c.ports-ports.result; mem = c.mem.result; at = c.will_fetch-at.result } in
-    let is : IsAsked s m asked =
-    is_asked control.word m c.args.stalled c.args.value c.args.c c.destinations-destinations.result control.lines.takes c.is_named.result c.ports-ports.result c.mem.result
-    c.will_fetch-at.result c.requires.computed c.if-stalled.false c.destinations-destinations.ensures.value control.demands c.is_named.ensures c.ports-ports.ensures
-    c.mem.ensures c.will_fetch-at.ensures.refusal c.will_fetch-at.ensures.value in
-    edge_waits control.word m _ _ c.args.bus.now asked is c.console_law.ensures _ _ c.in_ok-sampled.ensures.waits
+    record {
+      edge =
+          edge_done control.word m _ _ c.args.bus.now asked is _ _ c.access.new.bus _ a.allowed a.ok a.others _
+          (moves ∙ ap (λ (x : ℕ). moved_on s m x c.access.new.bus.words c.in_ok-sampled.sampled) (c.requires.computed.alu c.if-stalled.false));
+      waits = edge_waits control.word m _ _ c.args.bus.now asked is c.console_law.ensures _ _ c.in_ok-sampled.ensures.waits;
+    }
 
 pub returns-in_err-sampled-clause-edge : goal.returns-in_err-sampled-clause-edge
 unfolding statement_of
@@ -69,18 +64,9 @@ returns-in_err-sampled-clause-edge g c =
     c.will_fetch-at.result c.requires.computed c.if-stalled.false c.destinations-destinations.ensures.value control.demands c.is_named.ensures c.ports-ports.ensures
     c.mem.ensures c.will_fetch-at.ensures.refusal c.will_fetch-at.ensures.value in
     let edge = edge_fails control.word m _ _ c.args.bus.now asked is c.console_law.ensures _ _ _ c.access.new.bus c.in_err-sampled.field-0.0 c.in_err-sampled.ensures.access in
-    subst (λ (r : Result ⊤ BusFault). IsEdge mic2_meaning control.word m (g.S.Source.left c.args.source.now) (g.K.Sink.held c.args.sink.now) c.args.bus.now {T = ⊤} m
-    (g.S.Source.left c.access.new.source) (g.K.Sink.held c.access.new.sink) c.access.new.bus r) (handed_on _ _ c.from_residual.ensures.1) edge
-
-pub returns-in_err-sampled-clause-waits : goal.returns-in_err-sampled-clause-waits
-unfolding statement_of
-returns-in_err-sampled-clause-waits g c =
-    let control = c.args.control.now in
-    let s = statement_of machines.Mic2 control.word in
-    let m = micro_in c.args.self.now in
-    let asked : Asked = record { ports = c.ports-ports.result; mem = c.mem.result; at = c.will_fetch-at.result } in
-    let is : IsAsked s m asked =
-    is_asked control.word m c.args.stalled c.args.value c.args.c c.destinations-destinations.result control.lines.takes c.is_named.result c.ports-ports.result c.mem.result
-    c.will_fetch-at.result c.requires.computed c.if-stalled.false c.destinations-destinations.ensures.value control.demands c.is_named.ensures c.ports-ports.ensures
-    c.mem.ensures c.will_fetch-at.ensures.refusal c.will_fetch-at.ensures.value in
-    edge_waits control.word m _ _ c.args.bus.now asked is c.console_law.ensures _ _ c.in_err-sampled.ensures.waits
+    record {
+      edge =
+          subst (λ (r : Result ⊤ BusFault). IsEdge mic2_meaning control.word m (g.S.Source.left c.args.source.now) (g.K.Sink.held c.args.sink.now)
+          c.args.bus.now {T = ⊤} m (g.S.Source.left c.access.new.source) (g.K.Sink.held c.access.new.sink) c.access.new.bus r) (handed_on _ _ c.from_residual.ensures.1) edge;
+      waits = edge_waits control.word m _ _ c.args.bus.now asked is c.console_law.ensures _ _ c.in_err-sampled.ensures.waits;
+    }

@@ -1,4 +1,4 @@
-use Rattle.std.proofs.Common.{◌≡◌, length, ℕ, None, Some, Option, refl, sym, ◌∙◌, ap, subst, rules}
+use Rattle.std.proofs.Common.{◌≡◌, length, ℕ, None, Some, Option, inl, refl, sym, ◌∙◌, ap, subst, rules}
 use Rattle.std.specs.Prelude.{is_some, IfErr, OnOk}
 use Rattle.console_port.specs.Bus.{refused_by, ChangesOnly}
 use Rattle.console_port.specs.View.{BusView}
@@ -7,7 +7,7 @@ use Rattle.console_port.specs.declared.fault.BusFault.{BusFault}
 use Rattle.micro_word.specs.Coding.{statement_of}
 use Rattle.micro_word.specs.Operation.{shifted}
 use Rattle.micro_word.specs.declared.statement.Mem.TheVariants as mems
-use Rattle.mic_clock.specs.Edge.{LetsBytesWait}
+use Rattle.mic_clock.specs.Edge.{IsEdgeOver}
 use Rattle.mic_words.specs.declared.machine.Machine.TheVariants as machines
 use Rattle.mic_datapath.specs.Memory.{memory_refusal}
 use Rattle.mic2_fetch_unit.specs.FetchUnit.{sample_refusal}
@@ -30,10 +30,14 @@ returns-then-is_quiet-clause-edge g c =
     let bus = c.args.bus.now in
     let is : IsAsked s m (asked_for s m mems.None) =
     is_for s m mems.None (sym c.requires.computed.waits ∙ c.if-not-stalled.true) (sym (c.is_quiet.ensures c.if-is_quiet.true)) in
-    edge_either control.word m _ _ bus (asked_for s m mems.None) is bus None _ c.advance.result
-    (led_same _ _ bus _ (λ w shows. record { its_word = refl; after = refl; words = refl })) (refl, λ a other. refl) c.advance.ensures.allowed
-    (subst (λ (x : ℕ). OnOk c.advance.result (micro_in c.advance.new.self ≡ moved_on s m x bus.words None)) (c.requires.computed.alu c.if-not-stalled.true) c.advance.ensures.ok)
-    (on_each_err c.advance.result _ c.advance.ensures.err (λ e fails. refl)) c.advance.ensures.state c.advance.ensures.err
+    record {
+      edge =
+          edge_either control.word m _ _ bus (asked_for s m mems.None) is bus None _ c.advance.result
+          (led_same _ _ bus _ (λ w shows. record { its_word = refl; after = refl; words = refl })) (refl, λ a other. refl) c.advance.ensures.allowed
+          (subst (λ (x : ℕ). OnOk c.advance.result (micro_in c.advance.new.self ≡ moved_on s m x bus.words None)) (c.requires.computed.alu c.if-not-stalled.true) c.advance.ensures.ok)
+          (on_each_err c.advance.result _ c.advance.ensures.err (λ e fails. refl)) c.advance.ensures.state c.advance.ensures.err;
+      waits = λ room. inl refl;
+    }
 
 pub returns-then-is_quiet-clause-streams : goal.returns-then-is_quiet-clause-streams
 returns-then-is_quiet-clause-streams g c =
@@ -66,26 +70,30 @@ returns-in-Some-clause-edge g c =
     let fails = subst (λ (why : Option Refusal). IfErr r (λ e. refused_by why ≡ Some e)) left c.advance-in-Some.ensures.err in
     let reads = λ (e : BusFault) (fail : refused_by (sample_refusal n asked.at) ≡ Some e). it_reads (is_some sampled) (sample_refusal n asked.at) e
     (λ no. ap (λ (at : Option ℕ). sample_refusal n at) (sym there) ∙ c.in-Some.ensures.inside.samples no) fail in
-    edge_either control.word m _ _ bus asked is bus' sampled _ r
-    (led_inside _ _ bus bus' c.access_inside.ensures.console _ (λ w shows. c.in-Some.ensures.inside.transfer asked.ports w (sym mar) mdr shows.words))
-    (subst (λ (at : ℕ). ChangesOnly at bus.words bus'.words) mar c.access_inside.ensures.others)
-    (subst (λ (why : Option Refusal). OnOk r (why ≡ None)) left c.advance-in-Some.ensures.allowed)
-    (subst (λ (x : ℕ). OnOk r (micro_in c.advance-in-Some.new.self ≡ moved_on s m x bus'.words sampled)) (computed.alu goes) c.advance-in-Some.ensures.ok)
-    (on_each_err r _ fails (λ e fail. c.in-Some.ensures.inside.same (reads e (ap refused_by (sym (refusal_left n asked clear)) ∙ fail)))) c.advance-in-Some.ensures.state fails
+    record {
+      edge =
+          edge_either control.word m _ _ bus asked is bus' sampled _ r
+          (led_inside _ _ bus bus' c.access_inside.ensures.console _ (λ w shows. c.in-Some.ensures.inside.transfer asked.ports w (sym mar) mdr shows.words))
+          (subst (λ (at : ℕ). ChangesOnly at bus.words bus'.words) mar c.access_inside.ensures.others)
+          (subst (λ (why : Option Refusal). OnOk r (why ≡ None)) left c.advance-in-Some.ensures.allowed)
+          (subst (λ (x : ℕ). OnOk r (micro_in c.advance-in-Some.new.self ≡ moved_on s m x bus'.words sampled)) (computed.alu goes) c.advance-in-Some.ensures.ok)
+          (on_each_err r _ fails (λ e fail. c.in-Some.ensures.inside.same (reads e (ap refused_by (sym (refusal_left n asked clear)) ∙ fail)))) c.advance-in-Some.ensures.state fails;
+      waits = λ room. inl refl;
+    }
 
 pub returns-in-Some-clause-streams : goal.returns-in-Some-clause-streams
 returns-in-Some-clause-streams g c =
-    streams_stay g.S.Source.left g.S.Source.faults g.K.Sink.held g.K.Sink.passed g.K.Sink.faults c.args.source.now c.args.sink.now c.args.bus.now c.access_inside.new.bus
-    c.access_inside.ensures.console _ _ c.advance-in-Some.ensures.err
+    streams_stay g.S.Source.left g.S.Source.faults g.K.Sink.held g.K.Sink.passed g.K.Sink.faults c.args.source.now c.args.sink.now
+    c.args.bus.now c.access_inside.new.bus c.access_inside.ensures.console _ _ c.advance-in-Some.ensures.err
 
 -- a cycle that stalls, accesses something else, or is refused
 
-pub returns-clause-waits : goal.returns-clause-waits
-returns-clause-waits g c =
-    let control = c.args.control.now in
+pub returns-clause-edge : goal.returns-clause-edge
+returns-clause-edge g c =
     let same : c.if-not-stalled.bus ≡ c.args.bus.now =
     elim c.if-not-stalled.branch [ then-not-stalled+else-is_quiet+in_default w ↦ search rules | else-not-stalled w ↦ w.bus-is ] in
     subst
     (λ (b : BusView).
-    LetsBytesWait mic2_meaning control.word (micro_in c.args.self.now) (g.S.Source.left c.args.source.now) (g.K.Sink.held c.args.sink.now) b c.args.sink.now c.rare_edge.new.sink)
-    same c.rare_edge.ensures.waits
+    IsEdgeOver mic2_meaning g.S.Source.left g.K.Sink.held c.args.control.now.word (micro_in c.args.self.now) b c.args.source.now c.args.sink.now
+    (micro_in c.rare_edge.new.self) c.rare_edge.new.bus c.rare_edge.new.source c.rare_edge.new.sink c.rare_edge.result)
+    same c.rare_edge.ensures.edge

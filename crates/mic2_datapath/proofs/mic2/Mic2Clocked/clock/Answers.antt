@@ -31,21 +31,27 @@ returns-then-drive-clause-seen g c =
 
 pub returns-then-drive-clause-edge : goal.returns-then-drive-clause-edge
 returns-then-drive-clause-edge g c =
-    tells _ _ _ _ c.args.bus.now _ (micro_in c.edge.new.self) _ _ c.edge.new.bus
-    (edge_for _ _ _ _ c.of-control.ensures c.drive-drive.ensures.micro _ _ c.args.bus.now (micro_in c.edge.new.self) _ _ c.edge.new.bus (Ok tt) c.in_ok-edge.ensures.edge)
-
-pub returns-then-drive-clause-waits : goal.returns-then-drive-clause-waits
-returns-then-drive-clause-waits g c =
-    waits_for _ _ _ _ c.of-control.ensures c.drive-drive.ensures.micro _ _ c.args.bus.now c.args.sink.now c.edge.new.sink c.in_ok-edge.ensures.waits
+    record {
+      edge =
+          tells _ _ _ _ c.args.bus.now _ (micro_in c.edge.new.self) _ _ c.edge.new.bus
+          (edge_for _ _ _ _ c.of-control.ensures c.drive-drive.ensures.micro
+          _ _ c.args.bus.now (micro_in c.edge.new.self) _ _ c.edge.new.bus (Ok tt) c.in_ok-edge.ensures.edge.edge);
+      waits =
+          waits_for _ _ _ _ c.of-control.ensures c.drive-drive.ensures.micro
+          _ _ c.args.bus.now c.args.sink.now c.edge.new.sink c.in_ok-edge.ensures.edge.waits;
+    }
 
 pub returns-in_err-edge-clause-edge : goal.returns-in_err-edge-clause-edge
 returns-in_err-edge-clause-edge g c =
-    fails_for _ _ _ _ c.of-control.ensures c.drive-drive.ensures.micro _ _ c.args.bus.now (micro_in c.edge.new.self) _ _ c.edge.new.bus c.in_err-edge.field-0.0 _
-    c.from_residual.ensures.1 c.in_err-edge.ensures.edge
-
-pub returns-in_err-edge-clause-waits : goal.returns-in_err-edge-clause-waits
-returns-in_err-edge-clause-waits g c =
-    waits_for _ _ _ _ c.of-control.ensures c.drive-drive.ensures.micro _ _ c.args.bus.now c.args.sink.now c.edge.new.sink c.in_err-edge.ensures.waits
+    record {
+      edge =
+          fails_for _ _ _ _ c.of-control.ensures c.drive-drive.ensures.micro
+          _ _ c.args.bus.now (micro_in c.edge.new.self) _ _ c.edge.new.bus c.in_err-edge.field-0.0 _
+          c.from_residual.ensures.1 c.in_err-edge.ensures.edge.edge;
+      waits =
+          waits_for _ _ _ _ c.of-control.ensures c.drive-drive.ensures.micro
+          _ _ c.args.bus.now c.args.sink.now c.edge.new.sink c.in_err-edge.ensures.edge.waits;
+    }
 
 -- any other
 
@@ -75,18 +81,24 @@ returns-clause-seen g c =
 
 pub returns-clause-edge : goal.returns-clause-edge
 returns-clause-edge g c =
-    tells _ _ _ _ c.args.bus.now _ (micro_in c.edge-2.new.self) _ _ c.edge-2.new.bus
-    (edge_for _ _ _ _ c.of-control.ensures c.drive-drive.ensures.micro _ _ c.args.bus.now (micro_in c.edge-2.new.self) _ _ c.edge-2.new.bus (Ok tt) c.in_ok-edge-2.ensures.edge)
-
-pub returns-clause-waits : goal.returns-clause-waits
-returns-clause-waits g c =
-    waits_for _ _ _ _ c.of-control.ensures c.drive-drive.ensures.micro _ _ c.args.bus.now c.args.sink.now c.edge-2.new.sink c.in_ok-edge-2.ensures.waits
+    record {
+      edge =
+          tells _ _ _ _ c.args.bus.now _ (micro_in c.edge-2.new.self) _ _ c.edge-2.new.bus
+          (edge_for _ _ _ _ c.of-control.ensures c.drive-drive.ensures.micro
+          _ _ c.args.bus.now (micro_in c.edge-2.new.self) _ _ c.edge-2.new.bus (Ok tt) c.in_ok-edge-2.ensures.edge.edge);
+      waits =
+          waits_for _ _ _ _ c.of-control.ensures c.drive-drive.ensures.micro
+          _ _ c.args.bus.now c.args.sink.now c.edge-2.new.sink c.in_ok-edge-2.ensures.edge.waits;
+    }
 
 pub returns-in_err-edge-2-clause-edge : goal.returns-in_err-edge-2-clause-edge
 returns-in_err-edge-2-clause-edge g c =
-    fails_for _ _ _ _ c.of-control.ensures c.drive-drive.ensures.micro _ _ c.args.bus.now (micro_in c.edge-2.new.self) _ _ c.edge-2.new.bus c.in_err-edge-2.field-0.0 _
-    c.from_residual-in_err-edge-2.ensures.1 c.in_err-edge-2.ensures.edge
-
-pub returns-in_err-edge-2-clause-waits : goal.returns-in_err-edge-2-clause-waits
-returns-in_err-edge-2-clause-waits g c =
-    waits_for _ _ _ _ c.of-control.ensures c.drive-drive.ensures.micro _ _ c.args.bus.now c.args.sink.now c.edge-2.new.sink c.in_err-edge-2.ensures.waits
+    record {
+      edge =
+          fails_for _ _ _ _ c.of-control.ensures c.drive-drive.ensures.micro
+          _ _ c.args.bus.now (micro_in c.edge-2.new.self) _ _ c.edge-2.new.bus c.in_err-edge-2.field-0.0 _
+          c.from_residual-in_err-edge-2.ensures.1 c.in_err-edge-2.ensures.edge.edge;
+      waits =
+          waits_for _ _ _ _ c.of-control.ensures c.drive-drive.ensures.micro
+          _ _ c.args.bus.now c.args.sink.now c.edge-2.new.sink c.in_err-edge-2.ensures.edge.waits;
+    }

@@ -54,21 +54,12 @@ returns-clause-edge g c =
     is_asked old.pipeline i c.bytes_leaving-taken.result c.ports-ports.result c.mem_in-mem.result c.jumps_now-jumps.result c.will_fetch-at.result
     c.bytes_leaving-taken.ensures c.ports-ports.ensures c.mem_in-mem.ensures c.jumps_now-jumps.ensures c.will_fetch-at.ensures.refusal c.will_fetch-at.ensures.value in
     let a = c.in_ok-sampled.ensures.access in
-    edge_done old.control.word i p asked is h _ _ c.args.bus.now _ _ c.access.new.bus _ a.allowed a.ok a.others _
-    (unrefused _ _ c.advance.ensures.err (samples_clear i p asked h _ _ a.others.0 a.allowed) c.advance.ensures.ok)
-
-pub returns-clause-waits : goal.returns-clause-waits
-returns-clause-waits g c =
-    let old = c.args.self.now in
-    let s : Placed = statement_of machines.Mic2 old.control.word in
-    let p : Pipeline = pipeline_in old.pipeline in
-    let i : Option Issued = in_operand old.to_issue in
-    let is : issued s p ≡ i = sym (old.computed c.requires).issues in
-    let asked : Asked = record { ports = c.ports-ports.result; mem = c.mem_in-mem.result; at = c.will_fetch-at.result } in
-    let h : IsAsked i p asked =
-    is_asked old.pipeline i c.bytes_leaving-taken.result c.ports-ports.result c.mem_in-mem.result c.jumps_now-jumps.result c.will_fetch-at.result
-    c.bytes_leaving-taken.ensures c.ports-ports.ensures c.mem_in-mem.ensures c.jumps_now-jumps.ensures c.will_fetch-at.ensures.refusal c.will_fetch-at.ensures.value in
-    edge_waits old.control.word i p asked is h _ _ c.args.bus.now c.console_law.ensures _ _ c.in_ok-sampled.ensures.waits
+    record {
+      edge =
+          edge_done old.control.word i p asked is h _ _ c.args.bus.now _ _ c.access.new.bus _ a.allowed a.ok a.others _
+          (unrefused _ _ c.advance.ensures.err (samples_clear i p asked h _ _ a.others.0 a.allowed) c.advance.ensures.ok);
+      waits = edge_waits old.control.word i p asked is h _ _ c.args.bus.now c.console_law.ensures _ _ c.in_ok-sampled.ensures.waits;
+    }
 
 pub returns-in_err-sampled-clause-edge : goal.returns-in_err-sampled-clause-edge
 returns-in_err-sampled-clause-edge g c =
@@ -82,18 +73,9 @@ returns-in_err-sampled-clause-edge g c =
     is_asked old.pipeline i c.bytes_leaving-taken.result c.ports-ports.result c.mem_in-mem.result c.jumps_now-jumps.result c.will_fetch-at.result
     c.bytes_leaving-taken.ensures c.ports-ports.ensures c.mem_in-mem.ensures c.jumps_now-jumps.ensures c.will_fetch-at.ensures.refusal c.will_fetch-at.ensures.value in
     let edge = edge_fails old.control.word i p asked is h _ _ c.args.bus.now c.console_law.ensures _ _ _ c.access.new.bus c.in_err-sampled.field-0.0 c.in_err-sampled.ensures.access in
-    subst (λ (r : Result ⊤ BusFault). IsEdge mic3_meaning old.control.word p (g.S.Source.left c.args.source.now) (g.K.Sink.held c.args.sink.now) c.args.bus.now {T = ⊤} p
-    (g.S.Source.left c.access.new.source) (g.K.Sink.held c.access.new.sink) c.access.new.bus r) (handed_on _ _ c.from_residual.ensures.1) edge
-
-pub returns-in_err-sampled-clause-waits : goal.returns-in_err-sampled-clause-waits
-returns-in_err-sampled-clause-waits g c =
-    let old = c.args.self.now in
-    let s : Placed = statement_of machines.Mic2 old.control.word in
-    let p : Pipeline = pipeline_in old.pipeline in
-    let i : Option Issued = in_operand old.to_issue in
-    let is : issued s p ≡ i = sym (old.computed c.requires).issues in
-    let asked : Asked = record { ports = c.ports-ports.result; mem = c.mem_in-mem.result; at = c.will_fetch-at.result } in
-    let h : IsAsked i p asked =
-    is_asked old.pipeline i c.bytes_leaving-taken.result c.ports-ports.result c.mem_in-mem.result c.jumps_now-jumps.result c.will_fetch-at.result
-    c.bytes_leaving-taken.ensures c.ports-ports.ensures c.mem_in-mem.ensures c.jumps_now-jumps.ensures c.will_fetch-at.ensures.refusal c.will_fetch-at.ensures.value in
-    edge_waits old.control.word i p asked is h _ _ c.args.bus.now c.console_law.ensures _ _ c.in_err-sampled.ensures.waits
+    record {
+      edge =
+          subst (λ (r : Result ⊤ BusFault). IsEdge mic3_meaning old.control.word p (g.S.Source.left c.args.source.now) (g.K.Sink.held c.args.sink.now)
+          c.args.bus.now {T = ⊤} p (g.S.Source.left c.access.new.source) (g.K.Sink.held c.access.new.sink) c.access.new.bus r) (handed_on _ _ c.from_residual.ensures.1) edge;
+      waits = edge_waits old.control.word i p asked is h _ _ c.args.bus.now c.console_law.ensures _ _ c.in_err-sampled.ensures.waits;
+    }
