@@ -23,6 +23,20 @@ pub record IsAccess (stack_end : ℕ) (mem : Mem) (fetch : Bool) (p : Ports) (w 
   pub its_byte : byte ≡ byte_under_way fetch p (written stack_end mem p w)
   pub after : v ≡ sampled stack_end mem p (written stack_end mem p w)
 
+-- Over a memory of these words, accesses that reach only memory. Every world of it goes to the same with the new words.
+
+-- nothing is written, and this word and this byte are under way
+abbrev pub SamplesMemory : BusView → Mem → Bool → Ports → Option ℕ → Option ℕ → Type 0
+SamplesMemory bus mem fetch p word byte = (w : World) → w.words ≡ bus.words → IsAccess (length bus.words) mem fetch p w word byte w
+
+abbrev pub AccessesMemory : BusView → BusView → Mem → Bool → Ports → Option ℕ → Option ℕ → Type 0
+AccessesMemory bus bus' mem fetch p word byte =
+    (w : World) → w.words ≡ bus.words → IsAccess (length bus.words) mem fetch p w word byte (record w { words = bus'.words })
+
+abbrev pub TransfersMemory : BusView → BusView → Mem → Ports → Option ℕ → Type 0
+TransfersMemory bus bus' mem p word =
+    (w : World) → w.words ≡ bus.words → IsTransfer (length bus.words) mem p w word (record w { words = bus'.words })
+
 abbrev pub is_read : Mem → Bool
 is_read mems.Read = true
 is_read mems.Write = false

@@ -2,9 +2,8 @@
 
 ghost use Rattle.std.specs.Prelude.{◌≡◌, ◌<◌, ◌/◌, None, is_some, length, true, false};
 ghost use Rattle.console_port.specs.Bus.{ChangesOnly};
-ghost use Rattle.console_port.specs.World.{World};
 ghost use Rattle.mic_datapath.specs.Memory.{access_refusal, memory_refusal};
-ghost use Rattle.mic_datapath.specs.Access.{IsAccess, IsTransfer, AreInMemory, is_access, is_read};
+ghost use Rattle.mic_datapath.specs.Access.{AccessesMemory, AreInMemory, SamplesMemory, TransfersMemory, is_access, is_read};
 
 use crate::accesses::{Sampled, sample};
 use crate::ports::Ports;
@@ -36,8 +35,7 @@ pub fn no_access(mem: Mem, fetch: bool, ports: &Ports, bus: &Bus) -> Sampled
     requires mem { mem ≡ Mem.None }
     requires fetch { fetch ≡ false }
     ensures clear { access_refusal (length bus.now.words) mem fetch ports.now ≡ None }
-    ensures access { (w : World) → w.words ≡ bus.now.words →
-        IsAccess (length bus.now.words) mem fetch ports.now w result.word result.byte w }
+    ensures access { SamplesMemory bus.now mem fetch ports.now result.word result.byte }
     ensures word { is_some result.word ≡ is_read mem }
     ensures byte { is_some result.byte ≡ fetch }
 {
@@ -53,8 +51,7 @@ pub fn no_access(mem: Mem, fetch: bool, ports: &Ports, bus: &Bus) -> Sampled
 pub fn fetch_alone(pc: u32, bus: &Bus) -> Sampled
     requires { pc / 4 < length bus.now.words }
     ensures clear { (p : Ports) → p.pc ≡ pc → access_refusal (length bus.now.words) Mem.None true p ≡ None }
-    ensures access { (p : Ports) → p.pc ≡ pc → (w : World) → w.words ≡ bus.now.words →
-        IsAccess (length bus.now.words) Mem.None true p w result.word result.byte w }
+    ensures access { (p : Ports) → p.pc ≡ pc → SamplesMemory bus.now Mem.None true p result.word result.byte }
     ensures word { result.word ≡ None }
     ensures byte { is_some result.byte ≡ true }
 {
@@ -70,8 +67,7 @@ pub fn fetch_alone(pc: u32, bus: &Bus) -> Sampled
 pub fn read_alone(mar: u32, bus: &Bus) -> Sampled
     requires { mar < length bus.now.words }
     ensures clear { (p : Ports) → p.mar ≡ mar → access_refusal (length bus.now.words) Mem.Read false p ≡ None }
-    ensures access { (p : Ports) → p.mar ≡ mar → (w : World) → w.words ≡ bus.now.words →
-        IsAccess (length bus.now.words) Mem.Read false p w result.word result.byte w }
+    ensures access { (p : Ports) → p.mar ≡ mar → SamplesMemory bus.now Mem.Read false p result.word result.byte }
     ensures word { is_some result.word ≡ true }
     ensures byte { result.byte ≡ None }
 {
@@ -87,8 +83,7 @@ pub fn read_alone(mar: u32, bus: &Bus) -> Sampled
 pub fn write_alone(mar: u32, mdr: u32, bus: &mut Bus)
     requires { mar < length bus.old.words }
     ensures clear { (p : Ports) → p.mar ≡ mar → access_refusal (length bus.old.words) Mem.Write false p ≡ None }
-    ensures access { (p : Ports) → p.mar ≡ mar → p.mdr ≡ mdr → (w : World) → w.words ≡ bus.old.words →
-        IsAccess (length bus.old.words) Mem.Write false p w None None (record w { words = bus.new.words }) }
+    ensures access { (p : Ports) → p.mar ≡ mar → p.mdr ≡ mdr → AccessesMemory bus.old bus.new Mem.Write false p None None }
     ensures others { ChangesOnly mar bus.old.words bus.new.words }
     ensures console { bus.new.console ≡ bus.old.console }
 {
@@ -100,8 +95,7 @@ pub fn write_alone(mar: u32, mdr: u32, bus: &mut Bus)
 fn transfer_memory(mem: Mem, ports: &Ports, bus: &mut Bus) -> Option<u32>
     requires { is_access mem ≡ true → ports.now.mar < length bus.old.words }
     ensures clear { memory_refusal (length bus.old.words) mem ports.now.mar ≡ None }
-    ensures transfer { (w : World) → w.words ≡ bus.old.words →
-        IsTransfer (length bus.old.words) mem ports.now w result (record w { words = bus.new.words }) }
+    ensures transfer { TransfersMemory bus.old bus.new mem ports.now result }
     ensures sampled { is_some result ≡ is_read mem }
     ensures others { ChangesOnly ports.now.mar bus.old.words bus.new.words }
     ensures size { length bus.new.words ≡ length bus.old.words }
@@ -123,8 +117,7 @@ fn transfer_memory(mem: Mem, ports: &Ports, bus: &mut Bus) -> Option<u32>
 pub fn access_memory(mem: Mem, fetch: bool, ports: &Ports, bus: &mut Bus) -> Sampled
     requires { AreInMemory (length bus.old.words) mem fetch ports.now.mar ports.now.pc }
     ensures clear { access_refusal (length bus.old.words) mem fetch ports.now ≡ None }
-    ensures access { (w : World) → w.words ≡ bus.old.words →
-        IsAccess (length bus.old.words) mem fetch ports.now w result.word result.byte (record w { words = bus.new.words }) }
+    ensures access { AccessesMemory bus.old bus.new mem fetch ports.now result.word result.byte }
     ensures word { is_some result.word ≡ is_read mem }
     ensures byte { is_some result.byte ≡ fetch }
     ensures others { ChangesOnly ports.now.mar bus.old.words bus.new.words }
