@@ -1,7 +1,6 @@
 -- What the latches of Mic-2 mean: the microstep's state, and what its buses carry between its calls.
 use Rattle.std.specs.Prelude.{◌≡◌, ℕ, ◌*◌, ◌+◌, ◌<◌, ◌≤◌, Bool, true, false, length, slice_index, Option, None, is_some}
 use Rattle.console_port.specs.View.{BusView}
-use Rattle.console_port.specs.World.{World}
 use Rattle.mic_words.specs.Arithmetic.{signed_byte, signed_pair}
 use Rattle.mic_words.specs.declared.machine.Machine.TheVariants.{Mic2}
 use Rattle.micro_word.specs.Coding.{mem_of}
@@ -12,7 +11,7 @@ use Rattle.micro_word.specs.declared.lines.TheConstants.{NOTHING}
 use Rattle.micro_word.specs.declared.statement.Mem.{Mem}
 use Rattle.micro_word.specs.declared.statement.Mem.TheVariants as mems
 use Rattle.micro_word.specs.declared.statement.Placed.{Placed}
-use Rattle.mic_datapath.specs.Access.{IsTransfer}
+use Rattle.mic_datapath.specs.Access.{TransfersMemory}
 use Rattle.mic_datapath.specs.Memory.{memory_refusal}
 use Rattle.mic_datapath.specs.Places.{registers_at}
 use Rattle.mic_datapath.specs.Registers.{NineRegisters, loaded}
@@ -71,7 +70,7 @@ loaded_in word c l = loaded (fields_of Mic2 word).c c l.word (registers_at l.pla
 pub record IsInside (word c taken : ℕ) (l : Latches) (bus bus' : BusView) (word_read : Option ℕ) : Type 0 where
   pub accesses : mem_of (fields_of Mic2 word).mem ≡ access_by (is_some word_read)
   pub clear : memory_refusal (length bus.words) (access_by (is_some word_read)) (loaded_in word c l).mar ≡ None
-  pub transfer : (p : Ports) (w : World) → p.mar ≡ (loaded_in word c l).mar → p.mdr ≡ (loaded_in word c l).mdr → w.words ≡ bus.words →
-      IsTransfer (length bus.words) (access_by (is_some word_read)) p w word_read (record w { words = bus'.words })
+  pub transfer : (p : Ports) → p.mar ≡ (loaded_in word c l).mar → p.mdr ≡ (loaded_in word c l).mdr →
+      TransfersMemory bus bus' (access_by (is_some word_read)) p word_read
   pub samples : is_some word_read ≡ false → sample_refusal (length bus.words) (unit_samples (names (fields_of Mic2 word).c 2) c taken l.unit) ≡ None
   pub same : is_some word_read ≡ true → bus' ≡ bus

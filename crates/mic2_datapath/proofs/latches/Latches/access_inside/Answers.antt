@@ -23,7 +23,7 @@ returns-then-is_read-clause-inside c =
       clear =
           (λ i. memory_refusal (length bus.words) (access_by (some i)) (sym at i))
           ∙ first_clear _ _ (c.read_alone-sampled.ensures.clear (ports_with c.mar_port-mar.result 0 0) refl);
-      transfer = λ p w mar mdr words.
+      transfer = λ p mar mdr w words.
           let a = c.read_alone-sampled.ensures.access p (mar ∙ sym at) w words in
           subst (λ (reads : Bool). IsTransfer (length bus.words) (access_by reads) p w read (record w { words = bus.words })) (sym some)
           (subst (λ (ws : List ℕ). IsTransfer (length bus.words) mems.Read p w read (record w { words = ws })) words
@@ -41,7 +41,7 @@ returns-clause-inside c =
     record {
       accesses = grind (arith, common_steps);
       clear = (λ i. memory_refusal n mems.Write (sym mar_is i)) ∙ first_clear _ _ (c.write_alone.ensures.clear (ports_with c.mar_port-mar.result 0 0) refl);
-      transfer = λ p w mar mdr words.
+      transfer = λ p mar mdr w words.
           let a = c.write_alone.ensures.access p (mar ∙ sym mar_is) (mdr ∙ sym mdr_is) w words in
           record { its_word = refl; after = a.after; words = ap (λ (v : World). v.words) a.after };
       samples = λ no. grind (arith, common_steps);

@@ -73,7 +73,7 @@ returns-in-Some-clause-edge g c =
     record {
       edge =
           edge_either control.word m _ _ bus asked is bus' sampled _ r
-          (led_inside _ _ bus bus' c.access_inside.ensures.console _ (λ w shows. c.in-Some.ensures.inside.transfer asked.ports w (sym mar) mdr shows.words))
+          (led_inside _ _ bus bus' c.access_inside.ensures.console _ (λ w shows. c.in-Some.ensures.inside.transfer asked.ports (sym mar) mdr w shows.words))
           (subst (λ (at : ℕ). ChangesOnly at bus.words bus'.words) mar c.access_inside.ensures.others)
           (subst (λ (why : Option Refusal). OnOk r (why ≡ None)) left c.advance-in-Some.ensures.allowed)
           (subst (λ (x : ℕ). OnOk r (micro_in c.advance-in-Some.new.self ≡ moved_on s m x bus'.words sampled)) (computed.alu goes) c.advance-in-Some.ensures.ok)
