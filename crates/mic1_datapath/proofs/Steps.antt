@@ -1,7 +1,7 @@
 -- What is asked of the bus for a statement, with its accesses, is its microstep or its refusal.
-use Rattle.std.proofs.Common.{◌≡◌, ℕ, ◌%◌, ◌≤◌, ◌==◌, ◌&&◌, Bool, true, false, IsTrue, List, Option, Some, None, Result, Ok, Err, length, inl, inr, refl, sym, ap, subst, ◌∙◌}
+use Rattle.std.proofs.Common.{◌≡◌, ℕ, ◌%◌, ◌≤◌, ◌==◌, ◌&&◌, Bool, true, false, IsTrue, List, Option, Some, None, Ok, Err, length, inl, inr, refl, sym, ap, subst, ◌∙◌}
 use Rattle.std.specs.Prelude.{⊤}
-use Rattle.console_port.specs.World.{World, Refusal, StackLimit, OutOfMap, fault_of, console_at}
+use Rattle.console_port.specs.World.{World, Refusal, console_at}
 use Rattle.console_port.specs.Bus.{ChangesOnly, IsLed, Shows, refused_by}
 use Rattle.console_port.specs.Console.{IsFault}
 use Rattle.console_port.specs.View.{BusView}
@@ -90,19 +90,6 @@ module _ (s : Placed) (m : Micro) (p : Asked) (h : IsAsked s m p) (n : ℕ) (w :
       ∙ (ap (λ (r : Option Refusal). outcome r (clock n s m w) (world_after n s m w)) (same_refusal s m p h n ∙ clear)
       ∙ sym (λ i. Done (clock n s m w) (sampled n (h.memory i) (h.given i) (written n (h.memory i) (h.given i) w))))
 
--- an access that returns a fault is not refused
-not_refused : {T : Type 0} (r : Option Refusal) (result : Result T BusFault) (e : BusFault) → result ≡ Err e → IsFault e →
-    ((f : BusFault) → refused_by r ≡ Some f → result ≡ Err f) → r ≡ None
-not_refused None result e is fault answers = refl
-not_refused (Some why) result e is fault answers = absurd (no_fault why (subst IsFault same fault))
-  where
-    same : e ≡ fault_of why
-    same = let a = answers (fault_of why) refl in cc
-
-    no_fault : (r : Refusal) → IsFault (fault_of r) → ⊥
-    no_fault (StackLimit at) f = f
-    no_fault (OutOfMap at) f = f
-
 both : (a b : Bool) → (a && b) ≡ true → a ≡ true
 both true b h = refl
 both false b h = absurd (cc)
@@ -179,7 +166,6 @@ module _ (word : ℕ) (m : Micro) (p : Asked) (h : IsAsked (statement_of machine
     unfolding step_of_word
     edge_fails law Does e a =
         let s = statement_of machines.Mic1 word in
-        let clear = λ (fault : IsFault e). not_refused why (Err e) e refl fault a.refusal in
         record {
           ok = tt;
           others = tt;
@@ -189,10 +175,10 @@ module _ (word : ℕ) (m : Micro) (p : Asked) (h : IsAsked (statement_of machine
             refused = λ no_fault w shows. step_refusal s m p h _ w (size_of w shows) ∙ a.refused no_fault;
             reads = λ is w shows.
                 let fault : IsFault e = subst IsFault (sym is) tt in
-                reads_console law word m p h _ w (size_of w shows) (clear fault) (a.behind fault) (a.reads (cc));
+                reads_console law word m p h _ w (size_of w shows) (a.clear fault) (a.behind fault) (a.reads (cc));
             uses = λ is w shows.
                 let fault : IsFault e = subst IsFault (sym is) tt in
-                uses_console law word m p h _ w (size_of w shows) (clear fault) (a.behind fault) (a.uses (cc));
+                uses_console law word m p h _ w (size_of w shows) (a.clear fault) (a.behind fault) (a.uses (cc));
           };
           state = refl;
           stands = a.stands;

@@ -2,7 +2,7 @@
 use Rattle.std.proofs.Common.{arith, ◌≡◌, ℕ, ◌%◌, ◌≤◌, ◌==◌, ◌&&◌, Bool, true, false, if◌then◌else◌, IsTrue, List, Option, Some, None, Result, Ok, Err, length, inl, inr, refl, sym, ap, ap₂, subst, ◌∙◌}
 use Rattle.std.specs.Prelude.{⊤, IfErr, IsErrAnd, OnOk, nat_lt, ◌||◌}
 use Rattle.std.proofs.lemmas.Bool.Decides.{nat_tests}
-use Rattle.console_port.specs.World.{World, Refusal, StackLimit, OutOfMap, fault_of, console_at}
+use Rattle.console_port.specs.World.{World, Refusal, console_at}
 use Rattle.console_port.specs.Bus.{ChangesOnly, IsLed, Shows, refused_by}
 use Rattle.console_port.specs.Console.{IsFault}
 use Rattle.console_port.specs.View.{BusView}
@@ -109,19 +109,6 @@ module _ (s : Placed) (i : Option Issued) (p : Pipeline) (q : Asked) (is : issue
       ∙ (ap (λ (r : Option Refusal). outcome r (clock n i p w) (world_after n i p w)) (same_refusal i p q h n ∙ clear)
       ∙ sym (λ j. Done (clock n i p w) (sampled n (h.memory j) (h.given j) (written n (h.memory j) (h.given j) w))))
 
--- an access that returns a fault is not refused
-not_refused : {T : Type 0} (r : Option Refusal) (result : Result T BusFault) (e : BusFault) → result ≡ Err e → IsFault e →
-    ((f : BusFault) → refused_by r ≡ Some f → result ≡ Err f) → r ≡ None
-not_refused None result e is fault answers = refl
-not_refused (Some why) result e is fault answers = absurd (no_fault why (subst IsFault same fault))
-  where
-    same : e ≡ fault_of why
-    same = let a = answers (fault_of why) refl in cc
-
-    no_fault : (r : Refusal) → IsFault (fault_of r) → ⊥
-    no_fault (StackLimit at) f = f
-    no_fault (OutOfMap at) f = f
-
 -- the fault that a call hands on
 pub handed_on : {T : Type 0} (r : Result T BusFault) (e : BusFault) → IsErrAnd r (λ f. f ≡ e) → Err e ≡ r
 handed_on (Ok told) e h = absurd h
@@ -222,7 +209,6 @@ module _ (word : ℕ) (i : Option Issued) (p : Pipeline) (q : Asked) (is : issue
     unfolding step_of_word
     edge_fails Does left' held' bus' e a =
         let s = statement_of machines.Mic2 word in
-        let clear = λ (fault : IsFault e). not_refused why (Err e) e refl fault a.refusal in
         record {
           ok = tt;
           others = tt;
@@ -232,10 +218,10 @@ module _ (word : ℕ) (i : Option Issued) (p : Pipeline) (q : Asked) (is : issue
             refused = λ no_fault w shows. step_refusal s i p q is h _ w (size_of w shows) ∙ a.refused no_fault;
             reads = λ same w shows.
                 let fault : IsFault e = subst IsFault (sym same) tt in
-                reads_console law word i p q is h _ w (size_of w shows) (clear fault) (a.behind fault) (a.reads (cc));
+                reads_console law word i p q is h _ w (size_of w shows) (a.clear fault) (a.behind fault) (a.reads (cc));
             uses = λ same w shows.
                 let fault : IsFault e = subst IsFault (sym same) tt in
-                uses_console law word i p q is h _ w (size_of w shows) (clear fault) (a.behind fault) (a.uses (cc));
+                uses_console law word i p q is h _ w (size_of w shows) (a.clear fault) (a.behind fault) (a.uses (cc));
           };
           state = refl;
           stands = a.stands;

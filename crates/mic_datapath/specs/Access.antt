@@ -56,7 +56,7 @@ pub record AtConsole : Type 0 where
       (written stack_end mems.Write p w).given ≡ w.given ++ (p.mdr % 256) ∷ []
 
 -- What accesses come to between a source and a sink, where `Does x w v` says that they lead the world w to v with x sampled.
--- A refusal is the result. A fault comes only past the memory's words, where the console is accessed.
+-- A refusal is the result. A fault comes only where nothing is refused, past the memory's words, where the console is accessed.
 pub record HasAccessed {T : Type 0} (why : Option Refusal) (mem : Mem) (mar : ℕ) (Does : T → World → World → Type 0)
     (left held : Option (List ℕ)) (bus : BusView) (left' held' : Option (List ℕ)) (bus' : BusView) (result : Result T BusFault) : Type 0 where
   pub allowed : OnOk result (why ≡ None)
@@ -64,6 +64,7 @@ pub record HasAccessed {T : Type 0} (why : Option Refusal) (mem : Mem) (mar : �
   pub others : OnOk result (ChangesOnly mar bus.words bus'.words)
   pub refusal : (e : BusFault) → refused_by why ≡ Some e → result ≡ Err e
   pub refused : IfErr result (λ e. (IsFault e → ⊥) → refused_by why ≡ Some e)
+  pub clear : IfErr result (λ e. IsFault e → why ≡ None)
   pub behind : IfErr result (λ e. IsFault e → length bus.words ≤ mar)
   pub stands : IfErr result (Stands left held bus left' held' bus')
   pub reads : IsErrOf result ReadFault → IsTrue (is_read mem && mar == console_at)
