@@ -4,7 +4,7 @@ use Rattle.mic_words.specs.declared.machine.Machine.TheVariants as machines
 use Rattle.mic1_datapath.specs.Microstep.{settled, next_micro}
 use Rattle.mic1_datapath.specs.Latches.{micro_in}
 use Rattle.mic1_datapath.proofs.Passed.{edge_passed}
-use Rattle.mic1_datapath.proofs.Steps.{Asked, IsAsked, edge_done, edge_fails, edge_waits, is_asked}
+use Rattle.mic1_datapath.proofs.Steps.{edge_done, edge_fails, edge_waits, is_asked}
 use Rattle.mic1_datapath.proofs.edge.any_edge.Goals as goal
 
 pub returns-clause-edge : goal.returns-clause-edge
@@ -12,28 +12,23 @@ returns-clause-edge g c =
     let s = statement_of machines.Mic1 c.args.word in
     let m = micro_in c.args.latches.now in
     let its = c.requires.computed in
-    let asked : Asked = record { ports = c.ports-ports.result; mem = c.of_bits-mem.result; fetch = c.fetch-fetch.result } in
-    let is : IsAsked s m asked =
-    is_asked c.args.word m c.args.value c.args.c c.destinations.result c.ports-ports.result c.of_bits-mem.result c.fetch-fetch.result
-    its.value_is its.c_is c.destinations.ensures.value c.ports-ports.ensures (c.of_bits-mem.ensures ∙ ap mem_of c.mem.ensures) c.fetch-fetch.ensures in
+    let is = is_asked c.args.word m c.args.value c.args.c _ _ _ _ its.value_is its.c_is c.destinations.ensures.value c.ports-ports.ensures
+    (c.of_bits-mem.ensures ∙ ap mem_of c.mem.ensures) c.fetch-fetch.ensures in
     let a = c.in_ok-sampled.ensures.access in
     record {
       edge =
-          edge_done c.args.word m asked is _ _ c.args.bus.now _ _ c.access.new.bus _ _ a.allowed a.ok a.others _
+          edge_done c.args.word m _ is _ _ c.args.bus.now _ _ c.access.new.bus _ _ a.allowed a.ok a.others _
           (c.advance.ensures.micro
           ∙ ap (λ (x : ℕ). next_micro s.next x (settled s.part m) c.in_ok-sampled.sampled.word c.in_ok-sampled.sampled.byte) its.value_is);
-      waits = edge_waits c.args.word m asked is _ _ c.args.bus.now c.console_law.ensures _ _ c.in_ok-sampled.ensures.waits;
+      waits = edge_waits c.args.word m _ is _ _ c.args.bus.now c.console_law.ensures _ _ c.in_ok-sampled.ensures.waits;
     }
 
 pub returns-in_err-sampled-clause-edge : goal.returns-in_err-sampled-clause-edge
 returns-in_err-sampled-clause-edge g c =
-    let s = statement_of machines.Mic1 c.args.word in
     let m = micro_in c.args.latches.now in
     let its = c.requires.computed in
-    let asked : Asked = record { ports = c.ports-ports.result; mem = c.of_bits-mem.result; fetch = c.fetch-fetch.result } in
-    let is : IsAsked s m asked =
-    is_asked c.args.word m c.args.value c.args.c c.destinations.result c.ports-ports.result c.of_bits-mem.result c.fetch-fetch.result
-    its.value_is its.c_is c.destinations.ensures.value c.ports-ports.ensures (c.of_bits-mem.ensures ∙ ap mem_of c.mem.ensures) c.fetch-fetch.ensures in
+    let is = is_asked c.args.word m c.args.value c.args.c _ _ _ _ its.value_is its.c_is c.destinations.ensures.value c.ports-ports.ensures
+    (c.of_bits-mem.ensures ∙ ap mem_of c.mem.ensures) c.fetch-fetch.ensures in
     let left = g.S.Source.left c.args.source.now in
     let held = g.K.Sink.held c.args.sink.now in
     let left' = g.S.Source.left c.access.new.source in
@@ -41,6 +36,6 @@ returns-in_err-sampled-clause-edge g c =
     record {
       edge =
           edge_passed c.args.word m left held c.args.bus.now left' held' c.access.new.bus m _ c.from_residual.result c.from_residual.ensures.1
-          (edge_fails c.args.word m asked is left held c.args.bus.now left' held' c.access.new.bus c.console_law.ensures _ _ c.in_err-sampled.ensures.access);
-      waits = edge_waits c.args.word m asked is left held c.args.bus.now c.console_law.ensures _ _ c.in_err-sampled.ensures.waits;
+          (edge_fails c.args.word m _ is left held c.args.bus.now left' held' c.access.new.bus c.console_law.ensures _ _ c.in_err-sampled.ensures.access);
+      waits = edge_waits c.args.word m _ is left held c.args.bus.now c.console_law.ensures _ _ c.in_err-sampled.ensures.waits;
     }

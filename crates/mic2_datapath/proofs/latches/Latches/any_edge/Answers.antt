@@ -8,7 +8,7 @@ use Rattle.micro_word.specs.Coding.{statement_of}
 use Rattle.mic_words.specs.declared.machine.Machine.TheVariants as machines
 use Rattle.mic2_datapath.specs.Latches.{micro_in}
 use Rattle.mic2_datapath.specs.Microstep.{moved_on}
-use Rattle.mic2_datapath.proofs.Steps.{Asked, IsAsked, edge_done, edge_fails, edge_waits, handed_on, is_asked, samples_clear, stall_edge, streams_stay, unrefused}
+use Rattle.mic2_datapath.proofs.Steps.{edge_done, edge_fails, edge_waits, handed_on, is_asked, samples_clear, stall_edge, streams_stay, unrefused}
 use Rattle.mic2_datapath.proofs.latches.Latches.any_edge.Goals as goal
 
 -- a cycle that stalls
@@ -38,35 +38,30 @@ returns-clause-edge g c =
     let control = c.args.control.now in
     let s = statement_of machines.Mic2 control.word in
     let m = micro_in c.args.self.now in
-    let asked : Asked = record { ports = c.ports-ports.result; mem = c.mem.result; at = c.will_fetch-at.result } in
-    let is : IsAsked s m asked =
-    is_asked control.word m c.args.stalled c.args.value c.args.c c.destinations-destinations.result control.lines.takes c.is_named.result c.ports-ports.result c.mem.result
-    c.will_fetch-at.result c.requires.computed c.if-stalled.false c.destinations-destinations.ensures.value control.demands c.is_named.ensures c.ports-ports.ensures
-    c.mem.ensures c.will_fetch-at.ensures.refusal c.will_fetch-at.ensures.value in
+    let is = is_asked control.word m c.args.stalled c.args.value c.args.c _ _ _ _ _ _ c.requires.computed c.if-stalled.false
+    c.destinations-destinations.ensures.value control.demands c.is_named.ensures c.ports-ports.ensures c.mem.ensures
+    c.will_fetch-at.ensures.refusal c.will_fetch-at.ensures.value in
     let a = c.in_ok-sampled.ensures.access in
-    let moves = unrefused _ _ c.advance.ensures.err (samples_clear s m asked is _ _ a.others.0 a.allowed) c.advance.ensures.ok in
+    let moves = unrefused _ _ c.advance.ensures.err (samples_clear s m _ is _ _ a.others.0 a.allowed) c.advance.ensures.ok in
     record {
       edge =
-          edge_done control.word m _ _ c.args.bus.now asked is _ _ c.access.new.bus _ a.allowed a.ok a.others _
+          edge_done control.word m _ _ c.args.bus.now _ is _ _ c.access.new.bus _ a.allowed a.ok a.others _
           (moves ∙ ap (λ (x : ℕ). moved_on s m x c.access.new.bus.words c.in_ok-sampled.sampled) (c.requires.computed.alu c.if-stalled.false));
-      waits = edge_waits control.word m _ _ c.args.bus.now asked is c.console_law.ensures _ _ c.in_ok-sampled.ensures.waits;
+      waits = edge_waits control.word m _ _ c.args.bus.now _ is c.console_law.ensures _ _ c.in_ok-sampled.ensures.waits;
     }
 
 pub returns-in_err-sampled-clause-edge : goal.returns-in_err-sampled-clause-edge
 unfolding statement_of
 returns-in_err-sampled-clause-edge g c =
     let control = c.args.control.now in
-    let s = statement_of machines.Mic2 control.word in
     let m = micro_in c.args.self.now in
-    let asked : Asked = record { ports = c.ports-ports.result; mem = c.mem.result; at = c.will_fetch-at.result } in
-    let is : IsAsked s m asked =
-    is_asked control.word m c.args.stalled c.args.value c.args.c c.destinations-destinations.result control.lines.takes c.is_named.result c.ports-ports.result c.mem.result
-    c.will_fetch-at.result c.requires.computed c.if-stalled.false c.destinations-destinations.ensures.value control.demands c.is_named.ensures c.ports-ports.ensures
-    c.mem.ensures c.will_fetch-at.ensures.refusal c.will_fetch-at.ensures.value in
-    let edge = edge_fails control.word m _ _ c.args.bus.now asked is c.console_law.ensures _ _ _ c.access.new.bus c.in_err-sampled.field-0.0 c.in_err-sampled.ensures.access in
+    let is = is_asked control.word m c.args.stalled c.args.value c.args.c _ _ _ _ _ _ c.requires.computed c.if-stalled.false
+    c.destinations-destinations.ensures.value control.demands c.is_named.ensures c.ports-ports.ensures c.mem.ensures
+    c.will_fetch-at.ensures.refusal c.will_fetch-at.ensures.value in
+    let edge = edge_fails control.word m _ _ c.args.bus.now _ is c.console_law.ensures _ _ _ c.access.new.bus c.in_err-sampled.field-0.0 c.in_err-sampled.ensures.access in
     record {
       edge =
           subst (λ (r : Result ⊤ BusFault). IsEdge mic2_meaning control.word m (g.S.Source.left c.args.source.now) (g.K.Sink.held c.args.sink.now)
           c.args.bus.now {T = ⊤} m (g.S.Source.left c.access.new.source) (g.K.Sink.held c.access.new.sink) c.access.new.bus r) (handed_on _ _ c.from_residual.ensures.1) edge;
-      waits = edge_waits control.word m _ _ c.args.bus.now asked is c.console_law.ensures _ _ c.in_err-sampled.ensures.waits;
+      waits = edge_waits control.word m _ _ c.args.bus.now _ is c.console_law.ensures _ _ c.in_err-sampled.ensures.waits;
     }
