@@ -298,12 +298,6 @@ module _ (word : ℕ) (m : Micro) (left held : Option (List ℕ)) (bus : BusView
   size_of : (w : World) → Shows left held bus w → length w.words ≡ length bus.words
   size_of w shows = ap (λ (ws : List ℕ). length ws) shows.words
 
-  -- an edge over a bus is one over the same bus
-  pub over_same : (b : BusView) → b ≡ bus → (t : Micro) (left' held' : Option (List ℕ)) (bus' : BusView) (result : Result ⊤ BusFault) →
-      IsEdge mic2_meaning word m left held b {T = ⊤} t left' held' bus' result → Edges t left' held' bus' result
-  over_same b same t left' held' bus' result edge =
-      subst (λ (x : BusView). IsEdge mic2_meaning word m left held x {T = ⊤} t left' held' bus' result) same edge
-
   -- an edge that is done may return a value
   pub tells : {T : Type 0} (told : T) (t : Micro) (left' held' : Option (List ℕ)) (bus' : BusView) → Edges t left' held' bus' (Ok tt) →
       IsEdge mic2_meaning word m left held bus {T = T} t left' held' bus' (Ok told)
