@@ -16,7 +16,7 @@ use Rattle.micro_word.specs.Operation.{shifted}
 use Rattle.micro_word.specs.declared.statement.Mem.{Mem}
 use Rattle.micro_word.specs.declared.statement.Mem.TheVariants as mems
 use Rattle.micro_word.specs.declared.statement.Placed.{Placed}
-use Rattle.mic_clock.specs.Edge.{IsEdge, LetsBytesWait}
+use Rattle.mic_clock.specs.Edge.{IsEdge, IsEdgeOver, LetsBytesWait}
 use Rattle.mic_clock.specs.Meaning.{Outcome, Done, refusal_in, untaken_by, given_by, ReadsConsole, WritesConsole, UsesConsole}
 use Rattle.mic_datapath.specs.Access.{AtConsole, HasAccessed, IsTransfer, is_read, is_access, LetsBytesWait as LetsWait}
 use Rattle.mic_datapath.specs.Memory.{first_refusal, memory_refusal, word_under_way, written, sampled, outcome}
@@ -298,32 +298,6 @@ module _ (word : ℕ) (m : Micro) (left held : Option (List ℕ)) (bus : BusView
   size_of : (w : World) → Shows left held bus w → length w.words ≡ length bus.words
   size_of w shows = ap (λ (ws : List ℕ). length ws) shows.words
 
-  -- an edge that is done may return a value
-  pub tells : {T : Type 0} (told : T) (t : Micro) (left' held' : Option (List ℕ)) (bus' : BusView) → Edges t left' held' bus' (Ok tt) →
-      IsEdge mic2_meaning word m left held bus {T = T} t left' held' bus' (Ok told)
-  tells told t left' held' bus' edge =
-      record {
-        ok = edge.ok;
-        others = edge.others;
-        refusal = λ w e shows refused. absurd (let is = edge.refusal w e shows refused in cc);
-        err = tt;
-        state = tt;
-        stands = tt;
-      }
-
-  -- an edge that is not done returns the fault
-  pub fails_so : {T : Type 0} (e : BusFault) (t : Micro) (left' held' : Option (List ℕ)) (bus' : BusView) → Edges t left' held' bus' (Err e) →
-      IsEdge mic2_meaning word m left held bus {T = T} t left' held' bus' (Err e)
-  fails_so e t left' held' bus' edge =
-      record {
-        ok = tt;
-        others = tt;
-        refusal = λ w f shows refused. let is = edge.refusal w f shows refused in let same : e ≡ f = cc in cc;
-        err = edge.err;
-        state = edge.state;
-        stands = edge.stands;
-      }
-
   -- a refused edge leaves all
   refused_edge : (why : Option Refusal) → ((w : World) → Shows left held bus w → refusal_in (step_of_word word m w) ≡ refused_by why) →
       (bus' : BusView) → bus' ≡ bus → (t : Micro) → t ≡ m → (e : BusFault) → refused_by why ≡ Some e → Edges t left held bus' (Err e)
@@ -454,26 +428,47 @@ module _ (word : ℕ) (m : Micro) (left held : Option (List ℕ)) (bus : BusView
             | inr asks ↦ inr (asks.some, λ w shows. reads_console law word m p h _ w (size_of w shows) asks.clear asks.behind asks.reads)
           ]
 
--- an edge of a cycle is one of the same word and state
+-- an edge of a cycle is one of the same word and state, with the result that the cycle returns
+module _ {S K : Type 0} (left : S → Option (List ℕ)) (held : K → Option (List ℕ)) (word word' : ℕ) (m m' : Micro) (same : word' ≡ word) (stays : m' ≡ m)
+    (bus : BusView) (source : S) (sink : K) (t : Micro) (bus' : BusView) (source' : S) (sink' : K) where
+  over_for : (r : Result ⊤ BusFault) → IsEdgeOver mic2_meaning left held word' m' bus source sink t bus' source' sink' r →
+      IsEdgeOver mic2_meaning left held word m bus source sink t bus' source' sink' r
+  over_for r over =
+      subst (λ (w : ℕ). IsEdgeOver mic2_meaning left held w m bus source sink t bus' source' sink' r) same
+      (subst (λ (n : Micro). IsEdgeOver mic2_meaning left held word' n bus source sink t bus' source' sink' r) stays over)
 
-pub edge_for : {T : Type 0} (word word' : ℕ) (m m' : Micro) → word' ≡ word → m' ≡ m →
-    (left held : Option (List ℕ)) (bus : BusView) (t : Micro) (left' held' : Option (List ℕ)) (bus' : BusView) (r : Result T BusFault) →
-    IsEdge mic2_meaning word' m' left held bus {T = T} t left' held' bus' r → IsEdge mic2_meaning word m left held bus {T = T} t left' held' bus' r
-edge_for {T} word word' m m' same stays left held bus t left' held' bus' r edge =
-    subst (λ (w : ℕ). IsEdge mic2_meaning w m left held bus {T = T} t left' held' bus' r) same
-    (subst (λ (n : Micro). IsEdge mic2_meaning word' n left held bus {T = T} t left' held' bus' r) stays edge)
+  pub over_told : {T : Type 0} (told : T) → IsEdgeOver mic2_meaning left held {T = ⊤} word' m' bus source sink t bus' source' sink' (Ok tt) →
+      IsEdgeOver mic2_meaning left held {T = T} word m bus source sink t bus' source' sink' (Ok told)
+  over_told told over =
+      let o = over_for (Ok tt) over in
+      let edge = o.edge in
+      record {
+        edge = record {
+          ok = edge.ok;
+          others = edge.others;
+          refusal = λ w e shows refused. absurd (let is = edge.refusal w e shows refused in cc);
+          err = tt;
+          state = tt;
+          stands = tt;
+        };
+        waits = o.waits;
+      }
 
-pub waits_for : {K : Type 0} (word word' : ℕ) (m m' : Micro) → word' ≡ word → m' ≡ m → (left held : Option (List ℕ)) (bus : BusView) (sink sink' : K) →
-    LetsBytesWait mic2_meaning word' m' left held bus sink sink' → LetsBytesWait mic2_meaning word m left held bus sink sink'
-waits_for word word' m m' same stays left held bus sink sink' lets =
-    subst (λ (w : ℕ). LetsBytesWait mic2_meaning w m left held bus sink sink') same
-    (subst (λ (n : Micro). LetsBytesWait mic2_meaning word' n left held bus sink sink') stays lets)
-
--- the fault of an edge is the one that its cycle returns
-pub fails_for : {T : Type 0} (word word' : ℕ) (m m' : Micro) → word' ≡ word → m' ≡ m →
-    (left held : Option (List ℕ)) (bus : BusView) (t : Micro) (left' held' : Option (List ℕ)) (bus' : BusView) (e : BusFault) (r : Result T BusFault) →
-    IsErrAnd r (λ f. f ≡ e) → IsEdge mic2_meaning word' m' left held bus {T = ⊤} t left' held' bus' (Err e) →
-    IsEdge mic2_meaning word m left held bus {T = T} t left' held' bus' r
-fails_for {T} word word' m m' same stays left held bus t left' held' bus' e r hands edge =
-    subst (λ (x : Result T BusFault). IsEdge mic2_meaning word m left held bus {T = T} t left' held' bus' x) (handed_on r e hands)
-    (fails_so word m left held bus {T = T} e t left' held' bus' (edge_for word word' m m' same stays left held bus t left' held' bus' (Err e) edge))
+  pub over_failed : {T : Type 0} (e : BusFault) (r : Result T BusFault) → IsErrAnd r (λ f. f ≡ e) →
+      IsEdgeOver mic2_meaning left held {T = ⊤} word' m' bus source sink t bus' source' sink' (Err e) →
+      IsEdgeOver mic2_meaning left held {T = T} word m bus source sink t bus' source' sink' r
+  over_failed {T} e r hands over =
+      let o = over_for (Err e) over in
+      let edge = o.edge in
+      subst (λ (x : Result T BusFault). IsEdgeOver mic2_meaning left held {T = T} word m bus source sink t bus' source' sink' x) (handed_on r e hands)
+      (record {
+        edge = record {
+          ok = tt;
+          others = tt;
+          refusal = λ w f shows refused. let is = edge.refusal w f shows refused in let same : e ≡ f = cc in cc;
+          err = edge.err;
+          state = edge.state;
+          stands = edge.stands;
+        };
+        waits = o.waits;
+      })

@@ -1,11 +1,11 @@
-use Rattle.std.proofs.Common.{◌≡◌, ℕ, Bool, sym, ap, subst, ◌∙◌, Ok}
+use Rattle.std.proofs.Common.{◌≡◌, ℕ, Bool, sym, ap, subst, ◌∙◌}
 use Rattle.mic_words.specs.declared.machine.Machine.TheVariants as machines
 use Rattle.micro_word.specs.Coding.{statement_of}
 use Rattle.mic2_datapath.specs.Micro.{Micro}
 use Rattle.mic2_datapath.specs.Mic2.{computed, driven, flagged, stalled_value}
 use Rattle.mic2_datapath.specs.Latches.{HasComputed, micro_in}
 use Rattle.mic2_datapath.proofs.Buses.{computed_there, flagged_on, has_computed, nothing_on, nothing_on_b}
-use Rattle.mic2_datapath.proofs.Steps.{edge_for, fails_for, tells, waits_for}
+use Rattle.mic2_datapath.proofs.Steps.{over_failed, over_told}
 use Rattle.mic2_datapath.proofs.mic2.Mic2Clocked.clock.Goals as goal
 
 -- a cycle that stalls
@@ -31,27 +31,13 @@ returns-then-drive-clause-seen g c =
 
 pub returns-then-drive-clause-edge : goal.returns-then-drive-clause-edge
 returns-then-drive-clause-edge g c =
-    record {
-      edge =
-          tells _ _ _ _ c.args.bus.now _ (micro_in c.edge.new.self) _ _ c.edge.new.bus
-          (edge_for _ _ _ _ c.of-control.ensures c.drive-drive.ensures.micro
-          _ _ c.args.bus.now (micro_in c.edge.new.self) _ _ c.edge.new.bus (Ok tt) c.in_ok-edge.ensures.edge.edge);
-      waits =
-          waits_for _ _ _ _ c.of-control.ensures c.drive-drive.ensures.micro
-          _ _ c.args.bus.now c.args.sink.now c.edge.new.sink c.in_ok-edge.ensures.edge.waits;
-    }
+    over_told g.S.Source.left g.K.Sink.held _ _ _ _ c.of-control.ensures c.drive-drive.ensures.micro c.args.bus.now c.args.source.now c.args.sink.now
+    (micro_in c.edge.new.self) c.edge.new.bus c.edge.new.source c.edge.new.sink _ c.in_ok-edge.ensures.edge
 
 pub returns-in_err-edge-clause-edge : goal.returns-in_err-edge-clause-edge
 returns-in_err-edge-clause-edge g c =
-    record {
-      edge =
-          fails_for _ _ _ _ c.of-control.ensures c.drive-drive.ensures.micro
-          _ _ c.args.bus.now (micro_in c.edge.new.self) _ _ c.edge.new.bus c.in_err-edge.field-0.0 _
-          c.from_residual.ensures.1 c.in_err-edge.ensures.edge.edge;
-      waits =
-          waits_for _ _ _ _ c.of-control.ensures c.drive-drive.ensures.micro
-          _ _ c.args.bus.now c.args.sink.now c.edge.new.sink c.in_err-edge.ensures.edge.waits;
-    }
+    over_failed g.S.Source.left g.K.Sink.held _ _ _ _ c.of-control.ensures c.drive-drive.ensures.micro c.args.bus.now c.args.source.now c.args.sink.now
+    (micro_in c.edge.new.self) c.edge.new.bus c.edge.new.source c.edge.new.sink c.in_err-edge.field-0.0 _ c.from_residual.ensures.1 c.in_err-edge.ensures.edge
 
 -- any other
 
@@ -81,24 +67,11 @@ returns-clause-seen g c =
 
 pub returns-clause-edge : goal.returns-clause-edge
 returns-clause-edge g c =
-    record {
-      edge =
-          tells _ _ _ _ c.args.bus.now _ (micro_in c.edge-2.new.self) _ _ c.edge-2.new.bus
-          (edge_for _ _ _ _ c.of-control.ensures c.drive-drive.ensures.micro
-          _ _ c.args.bus.now (micro_in c.edge-2.new.self) _ _ c.edge-2.new.bus (Ok tt) c.in_ok-edge-2.ensures.edge.edge);
-      waits =
-          waits_for _ _ _ _ c.of-control.ensures c.drive-drive.ensures.micro
-          _ _ c.args.bus.now c.args.sink.now c.edge-2.new.sink c.in_ok-edge-2.ensures.edge.waits;
-    }
+    over_told g.S.Source.left g.K.Sink.held _ _ _ _ c.of-control.ensures c.drive-drive.ensures.micro c.args.bus.now c.args.source.now c.args.sink.now
+    (micro_in c.edge-2.new.self) c.edge-2.new.bus c.edge-2.new.source c.edge-2.new.sink _ c.in_ok-edge-2.ensures.edge
 
 pub returns-in_err-edge-2-clause-edge : goal.returns-in_err-edge-2-clause-edge
 returns-in_err-edge-2-clause-edge g c =
-    record {
-      edge =
-          fails_for _ _ _ _ c.of-control.ensures c.drive-drive.ensures.micro
-          _ _ c.args.bus.now (micro_in c.edge-2.new.self) _ _ c.edge-2.new.bus c.in_err-edge-2.field-0.0 _
-          c.from_residual-in_err-edge-2.ensures.1 c.in_err-edge-2.ensures.edge.edge;
-      waits =
-          waits_for _ _ _ _ c.of-control.ensures c.drive-drive.ensures.micro
-          _ _ c.args.bus.now c.args.sink.now c.edge-2.new.sink c.in_err-edge-2.ensures.edge.waits;
-    }
+    over_failed g.S.Source.left g.K.Sink.held _ _ _ _ c.of-control.ensures c.drive-drive.ensures.micro c.args.bus.now c.args.source.now c.args.sink.now
+    (micro_in c.edge-2.new.self) c.edge-2.new.bus c.edge-2.new.source c.edge-2.new.sink c.in_err-edge-2.field-0.0 _
+    c.from_residual-in_err-edge-2.ensures.1 c.in_err-edge-2.ensures.edge
