@@ -23,9 +23,7 @@ returns-then-stalled-clause-edge g c =
     }
 
 pub returns-then-stalled-clause-streams : goal.returns-then-stalled-clause-streams
-returns-then-stalled-clause-streams g c =
-    streams_stay g.S.Source.left g.S.Source.faults g.K.Sink.held g.K.Sink.passed g.K.Sink.faults c.args.source.now c.args.sink.now c.args.bus.now c.args.bus.now
-    refl _ _ c.stall.ensures.err
+returns-then-stalled-clause-streams g c = streams_stay _ _ _ _ _ _ _ _ _ refl _ _ c.stall.ensures.err
 
 -- any other
 

@@ -40,9 +40,7 @@ returns-then-is_quiet-clause-edge g c =
     }
 
 pub returns-then-is_quiet-clause-streams : goal.returns-then-is_quiet-clause-streams
-returns-then-is_quiet-clause-streams g c =
-    streams_stay g.S.Source.left g.S.Source.faults g.K.Sink.held g.K.Sink.passed g.K.Sink.faults c.args.source.now c.args.sink.now c.args.bus.now c.args.bus.now
-    refl _ _ c.advance.ensures.err
+returns-then-is_quiet-clause-streams g c = streams_stay _ _ _ _ _ _ _ _ _ refl _ _ c.advance.ensures.err
 
 -- a cycle that reads or writes what is in memory; what the unit samples is tested before a write, so that a word was read where it is refused
 
@@ -82,9 +80,7 @@ returns-in-Some-clause-edge g c =
     }
 
 pub returns-in-Some-clause-streams : goal.returns-in-Some-clause-streams
-returns-in-Some-clause-streams g c =
-    streams_stay g.S.Source.left g.S.Source.faults g.K.Sink.held g.K.Sink.passed g.K.Sink.faults c.args.source.now c.args.sink.now
-    c.args.bus.now c.access_inside.new.bus c.access_inside.ensures.console _ _ c.advance-in-Some.ensures.err
+returns-in-Some-clause-streams g c = streams_stay _ _ _ _ _ _ _ _ _ c.access_inside.ensures.console _ _ c.advance-in-Some.ensures.err
 
 -- a cycle that stalls, accesses something else, or is refused
 
