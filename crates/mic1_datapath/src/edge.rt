@@ -14,8 +14,7 @@ use crate::latches::Latches;
 use console_port::{Bus, BusFault};
 use mic_base::{Sink, Source};
 use mic_datapath::{
-    Sampled, access, access_memory, console_law, fetch_alone, is_in_memory, read_alone,
-    write_alone,
+    Sampled, access, access_memory, console_law, fetch_alone, is_in_memory, read_alone, write_alone,
 };
 use micro_word::{Lines, Machine, Mem, bits};
 
