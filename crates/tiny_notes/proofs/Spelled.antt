@@ -197,7 +197,6 @@ module _ (f : Frame) where
 
 -- ---- items in a list
 
--- an instruction has at least one byte
 -- items stand with their notes where their code stands
 pub stands_at : (image : ImageView) (whole pre xs post : List Item) (i : Instr) (m : Note) (at : ℕ) → whole ≡ pre ++ (xs ++ (Code i m ∷ post))
     → at ≡ items_size pre
