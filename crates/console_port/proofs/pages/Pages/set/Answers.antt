@@ -3,6 +3,7 @@ use Rattle.std.proofs.lemmas.List.{with_items_is}
 use Rattle.console_port.specs.Pages.{ArePaged, HasRoom, place_in_frames, words_of}
 use Rattle.console_port.proofs.Paging.{length-words_of, place_within, paged_write, words_write}
 use Rattle.console_port.proofs.pages.Pages.set.Goals as goal
+use Rattle.console_port.proofs.pages.Pages.set.Goals.{After-frame_of-start}
 
 pub frame_of-start-requires-clause-page : goal.frame_of-start-requires-clause-page
 frame_of-start-requires-clause-page c =
@@ -36,11 +37,14 @@ within c = place_within c.frame_of-start.new.table c.frame_of-start.new.frames.i
 
 pub overflow_add-start : goal.overflow_add-start
 overflow_add-start c =
+    let made = (goal.at.overflow_add-start c).After-frame_of-start in
     let frames = c.frame_of-start.new.frames in
-    omega (arith, within c, c.frame_of-start.ensures.frame, frames.ok.0, frames.ok.1, frames.small)
+    omega (arith, within made, c.frame_of-start.ensures.frame, frames.ok.0, frames.ok.1, frames.small)
 
 pub index_mut-requires : goal.index_mut-requires
-index_mut-requires c = omega (arith, within c, c.frame_of-start.ensures.frame, c.frame_of-start.new.frames.ok.0)
+index_mut-requires c =
+    let made = (goal.at.index_mut-requires c).After-frame_of-start in
+    omega (arith, within made, c.frame_of-start.ensures.frame, c.frame_of-start.new.frames.ok.0)
 
 pub invariant_of-self : goal.invariant_of-self
 invariant_of-self c =
