@@ -103,6 +103,11 @@ impl Ord for Name {
     ghost matches_eq = { texts_ties };
 
     fn cmp(&self, other: &Name) -> Ordering {
+        // The first letters decide most comparisons, without a call.
+        let (first, its) = (self.bytes[0], other.bytes[0]);
+        if first != its {
+            return first.cmp(&its);
+        }
         self.text_bytes().cmp(other.text_bytes())
     }
 }
