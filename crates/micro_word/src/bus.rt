@@ -1,38 +1,12 @@
 //! The codes of what drives a bus.
-ghost use Rattle.std.specs.Prelude.{◌≡◌, ◌==◌, find};
+ghost use Rattle.std.specs.Prelude.{◌≡◌};
 ghost use Rattle.mic_words.specs.declared.machine.Machine.TheVariants.{Mic1, Mic2};
-ghost use Rattle.micro_word.specs.Coding.{source_code, is_code, bus_code, idle_code, source_of, a_code, a_of};
+ghost use Rattle.micro_word.specs.Coding.{source_code, bus_code, idle_code, source_of, a_code, a_of};
 
 use crate::statement::{AluOp, BusSource};
 use mic_words::Machine;
 
-fn first_with_code(sources: &[BusSource], machine: Machine, code: u8) -> Option<BusSource>
-    ensures { result ≡ find (λ source. is_code code (source_code machine source)) sources.now }
-{
-    sources
-        .iter()
-        .copied()
-        .find(|source| source.has_code(machine, code))
-}
-
 impl BusSource {
-    const ALL: [BusSource; 14] = [
-        BusSource::Mdr,
-        BusSource::Pc,
-        BusSource::Mbr,
-        BusSource::Mbru,
-        BusSource::Sp,
-        BusSource::Lv,
-        BusSource::Cpp,
-        BusSource::Tos,
-        BusSource::Opc,
-        BusSource::Mbr1,
-        BusSource::Mbr1u,
-        BusSource::Mbr2,
-        BusSource::Mbr2u,
-        BusSource::H,
-    ];
-
     /// The code on the B bus of Mic-1.
     fn code1(self) -> Option<u8>
         ensures { result ≡ source_code Mic1 self }
@@ -82,12 +56,42 @@ impl BusSource {
         }
     }
 
-    fn has_code(self, machine: Machine, code: u8) -> bool
-        ensures { result ≡ is_code code (source_code machine self) }
+    /// The source of a code on the B bus of Mic-1.
+    fn of_code1(code: u8) -> Option<BusSource>
+        ensures { result ≡ source_of Mic1 code }
     {
-        match self.code(machine) {
-            None => false,
-            Some(other) => code == other,
+        match code {
+            0 => Some(BusSource::Mdr),
+            1 => Some(BusSource::Pc),
+            2 => Some(BusSource::Mbr),
+            3 => Some(BusSource::Mbru),
+            4 => Some(BusSource::Sp),
+            5 => Some(BusSource::Lv),
+            6 => Some(BusSource::Cpp),
+            7 => Some(BusSource::Tos),
+            8 => Some(BusSource::Opc),
+            _ => None,
+        }
+    }
+
+    /// The source of a code on either bus of Mic-2.
+    fn of_code2(code: u8) -> Option<BusSource>
+        ensures { result ≡ source_of Mic2 code }
+    {
+        match code {
+            0 => Some(BusSource::Mdr),
+            1 => Some(BusSource::Pc),
+            2 => Some(BusSource::Mbr1),
+            3 => Some(BusSource::Mbr1u),
+            4 => Some(BusSource::Sp),
+            5 => Some(BusSource::Lv),
+            6 => Some(BusSource::Cpp),
+            7 => Some(BusSource::Tos),
+            8 => Some(BusSource::Opc),
+            9 => Some(BusSource::Mbr2),
+            10 => Some(BusSource::Mbr2u),
+            11 => Some(BusSource::H),
+            _ => None,
         }
     }
 
@@ -95,7 +99,10 @@ impl BusSource {
     pub fn of_code(machine: Machine, code: u8) -> Option<BusSource>
         ensures { result ≡ source_of machine code }
     {
-        first_with_code(&BusSource::ALL, machine, code)
+        match machine {
+            Machine::Mic1 => BusSource::of_code1(code),
+            Machine::Mic2 => BusSource::of_code2(code),
+        }
     }
 }
 

@@ -1,5 +1,5 @@
 //! The ALU's operations, each with its gates and the sides that it uses.
-ghost use Rattle.std.specs.Prelude.{◌≡◌, ◌==◌, find};
+ghost use Rattle.std.specs.Prelude.{◌≡◌};
 ghost use Rattle.micro_word.specs.Coding.{row, operation_of_gates, op_of};
 
 use crate::statement::AluOp;
@@ -23,33 +23,7 @@ const fn entry(gates: u8, uses_a: bool, uses_b: bool) -> OperationRow
     }
 }
 
-fn first_with_gates(ops: &[AluOp], gates: u8) -> Option<AluOp>
-    ensures { result ≡ find (λ op. gates == (row op).gates) ops.now }
-{
-    ops.iter().copied().find(|op| gates == op.row().gates)
-}
-
 impl AluOp {
-    /// Every operation, in the table's order.
-    const ALL: [AluOp; 16] = [
-        AluOp::A,
-        AluOp::B,
-        AluOp::NotA,
-        AluOp::NotB,
-        AluOp::Sum,
-        AluOp::SumInc,
-        AluOp::IncA,
-        AluOp::IncB,
-        AluOp::Sub,
-        AluOp::DecB,
-        AluOp::NegA,
-        AluOp::And,
-        AluOp::Or,
-        AluOp::Zero,
-        AluOp::One,
-        AluOp::MinusOne,
-    ];
-
     /// The table of operations: the gates, whether it uses side A and side B, and as a comment what it gives.
     pub fn row(self) -> OperationRow
         ensures { result ≡ row self }
@@ -79,7 +53,25 @@ impl AluOp {
     pub(crate) fn with_gates(gates: u8) -> Option<AluOp>
         ensures { result ≡ operation_of_gates gates }
     {
-        first_with_gates(&AluOp::ALL, gates)
+        match gates {
+            0b011000 => Some(AluOp::A),
+            0b010100 => Some(AluOp::B),
+            0b011010 => Some(AluOp::NotA),
+            0b101100 => Some(AluOp::NotB),
+            0b111100 => Some(AluOp::Sum),
+            0b111101 => Some(AluOp::SumInc),
+            0b111001 => Some(AluOp::IncA),
+            0b110101 => Some(AluOp::IncB),
+            0b111111 => Some(AluOp::Sub),
+            0b110110 => Some(AluOp::DecB),
+            0b111011 => Some(AluOp::NegA),
+            0b001100 => Some(AluOp::And),
+            0b011100 => Some(AluOp::Or),
+            0b010000 => Some(AluOp::Zero),
+            0b110001 => Some(AluOp::One),
+            0b110010 => Some(AluOp::MinusOne),
+            _ => None,
+        }
     }
 
     /// The operation of six bits that are a row of the table.
