@@ -1,11 +1,10 @@
 -- What is spelled as a token is read as that token, and what is read as one is spelled so.
-use Rattle.std.proofs.Common.{◌≡◌, ℕ, zero, suc, ◌+◌, ◌<◌, ◌≤◌, Bool, true, false, inl, inr, subst, List, [], ◌∷◌, ◌++◌, Option, Some, None, drop, take, length, refl, sym, ap, arith}
-use Rattle.std.specs.Prelude.{Ok, Err, Result, ℤ, not, ◌==◌, ◌||◌, ◌&&◌, codes, cond, nat_le, is_some}
+use Rattle.std.proofs.Common.{◌≡◌, ℕ, zero, suc, ◌+◌, ◌<◌, Bool, true, false, inl, inr, subst, List, [], ◌∷◌, ◌++◌, Option, Some, None, drop, take, length, refl, sym, ap, ◌∙◌, eq-eqb, arith}
+use Rattle.std.specs.Prelude.{Ok, Err, Result, ℤ, ◌==◌, ◌||◌, ◌&&◌, codes, cond, find, is_some}
 use Rattle.std.proofs.lemmas.Slice.Eq.{bytes_eq-Decides}
-use Rattle.std.specs.List.{list_all}
+use Rattle.std.specs.List.{filter, list_all}
 use Rattle.std.specs.Str.{bytes_eq}
-use Rattle.std.proofs.lemmas.Bool.Decides.{nat_tests}
-use Rattle.std.proofs.lemmas.Bool.{and_parts, eqb-true}
+use Rattle.std.proofs.lemmas.Bool.{eqb-true}
 use Rattle.mic_base.specs.Name.{begins_digit, is_name, is_name_byte}
 use Rattle.mic_base.specs.Number.{number_of}
 use Rattle.mic_base.specs.declared.number.NumberError.{NumberError}
@@ -21,7 +20,7 @@ use Rattle.mal_tokens.specs.declared.sign.Sign.{Sign}
 use Rattle.mal_tokens.specs.declared.sign.Sign.TheVariants as signs
 use Rattle.mal_tokens.specs.declared.token.Token.{Token}
 use Rattle.mal_tokens.specs.declared.token.Token.TheVariants as tokens
-use Rattle.mal_tokens.specs.Words.{word_text, sign_text, begins_small, find_among, find_word, find_sign, all_words, all_signs, is_reserved}
+use Rattle.mal_tokens.specs.Words.{word_text, sign_text, find_among, find_word, find_sign, all_words, all_signs, is_reserved}
 use Rattle.mal_tokens.specs.Tokens.{IsLexeme, EndsLexeme, mal}
 use Rattle.mal_tokens.specs.Reading.{begins, extent, lexer, number_token, sign_or, token_of, word_or_name}
 
@@ -64,60 +63,41 @@ found_word text w h = sym ((bytes_eq-Decides (word_text w) text).0 (find_passes 
 found_sign : (text : List ℕ) (s : Sign) → find_sign text ≡ Some s → text ≡ sign_text s
 found_sign text s h = sym ((bytes_eq-Decides (sign_text s) text).0 (find_passes (λ s. bytes_eq (sign_text s) text) all_signs s h))
 
--- none of the words has this spelling, where all of them pass a test that the text does not
-none_among : (t : List ℕ → Bool) (text : List ℕ) → t text ≡ false → (ws : List Word) → list_all (λ w. t (word_text w)) ws ≡ true → find_among ws text ≡ None
-none_among t text h [] all = refl
-none_among t text h (w ∷ ws) all = go (bytes_eq (word_text w) text) refl (none_among t text h ws (and_parts (t (word_text w)) (list_all (λ w. t (word_text w)) ws) all).1)
+-- where what passes p passes q, p finds the same among what passes q
+find_among_passed : {X : Type 0} (p q : X → Bool) → ((x : X) → p x ≡ true → q x ≡ true) → (xs : List X) → find p (filter q xs) ≡ find p xs
+find_among_passed p q h [] = refl
+find_among_passed p q h (x ∷ xs) = go (q x) refl (find_among_passed p q h xs)
   where
-    go : (b : Bool) → bytes_eq (word_text w) text ≡ b → find_among ws text ≡ None → cond b (Some w) (find_among ws text) ≡ None
-    go false e rec = rec
-    go true e rec =
-        let same : word_text w ≡ text = (bytes_eq-Decides (word_text w) text).0 e in
-        let passes : t (word_text w) ≡ true = (and_parts (t (word_text w)) (list_all (λ w. t (word_text w)) ws) all).0 in
-        let k : t (word_text w) ≡ t text = ap t same in
-        absurd (cc)
+    failed : (b : Bool) → p x ≡ b → q x ≡ false → b ≡ false
+    failed true e f = absurd (let g = h x e in cc)
+    failed false e f = refl
 
-behind_front : (text : List ℕ) (front behind : List Word) → find_among front text ≡ None → find_among (front ++ behind) text ≡ find_among behind text
-behind_front text [] behind h = refl
-behind_front text (w ∷ ws) behind h = go (bytes_eq (word_text w) text) h (behind_front text ws behind)
+    go : (c : Bool) → q x ≡ c → find p (filter q xs) ≡ find p xs → find p (cond c (x ∷ filter q xs) (filter q xs)) ≡ cond (p x) (Some x) (find p xs)
+    go true e rec = ap (cond (p x) (Some x)) rec
+    go false e rec = rec ∙ sym (ap (λ b. cond b (Some x) (find p xs)) (failed (p x) refl e))
+
+-- a word is found among the words of its length
+pub found_by_len : (text : List ℕ) (n : ℕ) → length text ≡ n → find_among (filter (λ w. length (word_text w) == n) all_words) text ≡ find_word text
+found_by_len text n e = find_among_passed (λ w. bytes_eq (word_text w) text) (λ w. length (word_text w) == n) same all_words
   where
-    go : (b : Bool) → cond b (Some w) (find_among ws text) ≡ None → (find_among ws text ≡ None → find_among (ws ++ behind) text ≡ find_among behind text)
-        → cond b (Some w) (find_among (ws ++ behind) text) ≡ find_among behind text
-    go true h rec = absurd (cc)
-    go false h rec = rec h
+    same : (w : Word) → bytes_eq (word_text w) text ≡ true → (length (word_text w) == n) ≡ true
+    same w h = let k : word_text w ≡ text = (bytes_eq-Decides (word_text w) text).0 h in eq-eqb (length (word_text w)) n (ap length k ∙ e)
 
-in_front : (text : List ℕ) (front behind : List Word) → find_among behind text ≡ None → find_among (front ++ behind) text ≡ find_among front text
-in_front text [] behind h = h
-in_front text (w ∷ ws) behind h = ap (cond (bytes_eq (word_text w) text) (Some w)) (in_front text ws behind h)
-
-abbrev pub capital_words : List Word
-capital_words = words.Mar ∷ words.Mdr ∷ words.Pc ∷ words.Sp ∷ words.Lv ∷ words.Cpp ∷ words.Tos ∷ words.Opc ∷ words.H ∷ words.Mbr ∷ words.Mbru ∷ words.Mbr1 ∷ words.Mbr1u ∷ words.Mbr2 ∷ words.Mbr2u ∷ words.N ∷ words.Z ∷ words.And ∷ words.Or ∷ words.Not ∷ []
-
-abbrev pub small_words : List Word
-small_words = words.Rd ∷ words.Wr ∷ words.Fetch ∷ words.Goto ∷ words.If ∷ words.Else ∷ []
-
-pub found_small : (text : List ℕ) → begins_small text ≡ true → find_among small_words text ≡ find_word text
-found_small text h = sym (behind_front text capital_words small_words (none_among (λ x. not (begins_small x)) text (ap not h) capital_words refl))
-
-pub found_capital : (text : List ℕ) → begins_small text ≡ false → find_among capital_words text ≡ find_word text
-found_capital text h = sym (in_front text capital_words small_words (none_among begins_small text h small_words refl))
-
--- a reserved word has at most five bytes
-word_short : (w : Word) → nat_le (length (word_text w)) 5 ≡ true
-word_short w = elim w as (λ w. nat_le (length (word_text w)) 5 ≡ true) [
-  | words.Mar ↦ refl
-  | _ ↦ refl
+word_len : (w : Word) → (0 < length (word_text w)) × (length (word_text w) < 6)
+word_len w = elim w as (λ w. (0 < length (word_text w)) × (length (word_text w) < 6)) [
+  | words.Mar ↦ (omega arith, omega arith)
+  | _ ↦ (omega arith, omega arith)
 ]
 
-pub no_long_word : (text : List ℕ) → 5 < length text → find_word text ≡ None
-no_long_word text h = go (find_word text) refl
+pub no_word_by_len : (text : List ℕ) → (0 < length text → length text < 6 → ⊥) → find_word text ≡ None
+no_word_by_len text h = go (find_word text) refl
   where
     go : (r : Option Word) → find_word text ≡ r → r ≡ None
     go None e = refl
     go (Some w) e =
         let same : length text ≡ length (word_text w) = ap length (found_word text w e) in
-        let short : length (word_text w) ≤ 5 = grind (arith, nat_tests, word_short w) in
-        absurd (omega arith)
+        let l = word_len w in
+        absurd (h (omega arith) (omega arith))
 
 -- no sign begins with a byte of a name
 no_sign : (text : List ℕ) → begins_with is_name_byte text ≡ true → find_sign text ≡ None

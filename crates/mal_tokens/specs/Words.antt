@@ -1,5 +1,5 @@
 -- The reserved words, the signs and the dotted words, and how each is spelled.
-use Rattle.std.specs.Prelude.{◌≡◌, ℕ, Bool, true, false, List, [], ◌∷◌, Option, codes, find, is_some, nat_le}
+use Rattle.std.specs.Prelude.{◌≡◌, ℕ, Bool, true, false, List, [], ◌∷◌, Option, codes, find, is_some}
 use Rattle.std.specs.Str.{bytes_eq}
 use Rattle.mic_base.specs.Name.{is_name}
 use Rattle.mal_tokens.specs.declared.word.Word.{Word}
@@ -74,8 +74,3 @@ IsLabelText label = (is_name label ≡ true) × (is_reserved label ≡ false)
 -- the one of these words with this spelling
 abbrev pub find_among : List Word → List ℕ → Option Word
 find_among ws text = find (λ w. bytes_eq (word_text w) text) ws
-
--- the first byte is `a` or one after it, as that of a word in small letters
-abbrev pub begins_small : List ℕ → Bool
-begins_small [] = false
-begins_small (b ∷ rest) = nat_le 97 b

@@ -1,7 +1,7 @@
 //! The reserved words of the microassembly language, each with its spelling.
 
 ghost use Rattle.std.specs.Prelude.{◌≡◌};
-ghost use Rattle.mal_tokens.specs.Words.{begins_small, find_among, find_word, word_text};
+ghost use Rattle.mal_tokens.specs.Words.{find_among, find_word, word_text};
 
 /// A reserved word of the microassembly language, which cannot be a label.
 #[derive(Clone, Copy, Debug, PartialEq, Eq)]
@@ -34,41 +34,33 @@ pub enum Word {
     Else,
 }
 
-/// The length of the longest reserved word.
-const LONGEST: usize = 5;
+// The reserved words of each length.
+const OF_1: [Word; 3] = [Word::H, Word::N, Word::Z];
 
-/// The reserved words that begin with a capital.
-const CAPITAL: [Word; 20] = [
-    Word::Mar,
-    Word::Mdr,
+const OF_2: [Word; 7] = [
     Word::Pc,
     Word::Sp,
     Word::Lv,
+    Word::Or,
+    Word::Rd,
+    Word::Wr,
+    Word::If,
+];
+
+const OF_3: [Word; 8] = [
+    Word::Mar,
+    Word::Mdr,
     Word::Cpp,
     Word::Tos,
     Word::Opc,
-    Word::H,
     Word::Mbr,
-    Word::Mbru,
-    Word::Mbr1,
-    Word::Mbr1u,
-    Word::Mbr2,
-    Word::Mbr2u,
-    Word::N,
-    Word::Z,
     Word::And,
-    Word::Or,
     Word::Not,
 ];
 
-const SMALL: [Word; 6] = [
-    Word::Rd,
-    Word::Wr,
-    Word::Fetch,
-    Word::Goto,
-    Word::If,
-    Word::Else,
-];
+const OF_4: [Word; 5] = [Word::Mbru, Word::Mbr1, Word::Mbr2, Word::Goto, Word::Else];
+
+const OF_5: [Word; 3] = [Word::Mbr1u, Word::Mbr2u, Word::Fetch];
 
 impl Word {
     pub fn text(self) -> &'static str
@@ -108,22 +100,14 @@ impl Word {
     pub fn find(text: &[u8]) -> Option<Word>
         ensures { result ≡ find_word text.now }
     {
-        if text.len() > LONGEST {
-            return None;
+        match text.len() {
+            1 => find_among(&OF_1, text),
+            2 => find_among(&OF_2, text),
+            3 => find_among(&OF_3, text),
+            4 => find_among(&OF_4, text),
+            5 => find_among(&OF_5, text),
+            _ => None,
         }
-        if begins_small(text) {
-            return find_among(&SMALL, text);
-        }
-        find_among(&CAPITAL, text)
-    }
-}
-
-fn begins_small(text: &[u8]) -> bool
-    ensures { result ≡ begins_small text.now }
-{
-    match text {
-        [] => false,
-        [first, ..] => b'a' <= *first,
     }
 }
 

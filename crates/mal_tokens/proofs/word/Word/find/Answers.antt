@@ -1,19 +1,21 @@
-use Rattle.std.proofs.Common.{◌≡◌, ◌<◌, ◌∙◌, true, false, length, sym, arith}
-use Rattle.mal_tokens.specs.Words.{begins_small}
-use Rattle.mal_tokens.proofs.Lexemes.{found_capital, found_small, no_long_word}
+use Rattle.std.proofs.Common.{◌∙◌, sym, arith}
+use Rattle.mal_tokens.proofs.Lexemes.{found_by_len, no_word_by_len}
 use Rattle.mal_tokens.proofs.word.Word.find.Goals as goal
 
-pub returns-then-text-gt-LONGEST : goal.returns-then-text-gt-LONGEST
-returns-then-text-gt-LONGEST c =
-    let long : 5 < length c.args.text.now = omega arith in
-    sym (no_long_word c.args.text.now long)
+pub returns-in-1 : goal.returns-in-1
+returns-in-1 c = c.find_among.ensures ∙ found_by_len c.args.text.now 1 c.in-1.is
 
-pub returns-then-begins_small : goal.returns-then-begins_small
-returns-then-begins_small c =
-    let small : begins_small c.args.text.now ≡ true = sym c.begins_small.ensures ∙ c.if-begins_small.true in
-    c.find_among.ensures ∙ found_small c.args.text.now small
+pub returns-in-2 : goal.returns-in-2
+returns-in-2 c = c.find_among-in-2.ensures ∙ found_by_len c.args.text.now 2 c.in-2.is
 
-pub returns : goal.returns
-returns c =
-    let capital : begins_small c.args.text.now ≡ false = sym c.begins_small.ensures ∙ c.if-begins_small.false in
-    c.find_among-2.ensures ∙ found_capital c.args.text.now capital
+pub returns-in-3 : goal.returns-in-3
+returns-in-3 c = c.find_among-in-3.ensures ∙ found_by_len c.args.text.now 3 c.in-3.is
+
+pub returns-in-4 : goal.returns-in-4
+returns-in-4 c = c.find_among-in-4.ensures ∙ found_by_len c.args.text.now 4 c.in-4.is
+
+pub returns-in-5 : goal.returns-in-5
+returns-in-5 c = c.find_among-in-5.ensures ∙ found_by_len c.args.text.now 5 c.in-5.is
+
+pub returns-in_default : goal.returns-in_default
+returns-in_default c = sym (no_word_by_len c.args.text.now (λ some few. omega arith))
