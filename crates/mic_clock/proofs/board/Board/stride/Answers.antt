@@ -7,6 +7,7 @@ use Rattle.mic_clock.proofs.Reach.{IsLedTo-map, Leads-start, Leads-turn, bound-c
 use Rattle.mic_clock.proofs.Strides.{stride-run, stride-read, stride-write}
 use Rattle.mic_clock.proofs.board.Board.stride.Given.{Over}
 use Rattle.mic_clock.proofs.board.Board.stride.Goals as goal
+use Rattle.mic_clock.proofs.board.Board.stride.Goals.{After-instruction}
 
 -- the bound ends the board
 

@@ -8,6 +8,7 @@ use Rattle.mic_clock.proofs.InTime.{InTime-step}
 use Rattle.mic_clock.proofs.Reach.{IsLedTo-map, Leads-start, Leads-read, bound-cut, cycle-cut, IsTurned-bounded, unstopped}
 use Rattle.mic_clock.proofs.board.Board.turn.Given.{Over}
 use Rattle.mic_clock.proofs.board.Board.turn.Goals as goal
+use Rattle.mic_clock.proofs.board.Board.turn.Goals.{After-cycle}
 
 pub returns-in-Some-clause-write : goal.returns-in-Some-clause-write
 returns-in-Some-clause-write g c = λ not_ended p.
@@ -41,17 +42,19 @@ shows g c =
 
 pub returns-clause-turn : goal.returns-clause-turn
 returns-clause-turn g c =
+    let cycled = (goal.at.returns-clause-turn g c).After-cycle in
     let state = g.M.Clocked.state in
     let m = g.M.Clocked.meaning in
     let left = g.S.Source.left c.args.source.now in
     let left' = g.S.Source.left c.cycle.new.source in
     let held' = g.K.Sink.held c.cycle.new.sink in
     let new = c.cycle.new.self in
-    IsTurned-bounded state m c.args.bound left _ c.args.self.now left' held' new (shows g c)
-    (here g c (λ b h. IsTurned state m left h b left' held' new None) c.cycle.ensures.turn)
+    IsTurned-bounded state m c.args.bound left _ c.args.self.now left' held' new (shows g cycled)
+    (here g cycled (λ b h. IsTurned state m left h b left' held' new None) c.cycle.ensures.turn)
 
 pub returns-clause-read : goal.returns-clause-read
 returns-clause-read g c = λ not_ended p.
+    let cycled = (goal.at.returns-clause-read g c).After-cycle in
     let state = g.M.Clocked.state in
     let m = g.M.Clocked.meaning in
     let board = c.args.self.now in
@@ -60,22 +63,23 @@ returns-clause-read g c = λ not_ended p.
     let left' = g.S.Source.left c.cycle.new.source in
     let held' = g.K.Sink.held c.cycle.new.sink in
     let new = c.cycle.new.self in
-    let cut = here g c (λ b h. IsCutByFault state m left h b left' held' new) c.cycle.ensures.cut faults.ReadFault not_ended tt p in
+    let cut = here g cycled (λ b h. IsCutByFault state m left h b left' held' new) c.cycle.ensures.cut faults.ReadFault not_ended tt p in
     let Along : ℕ → MicroRun g.M.Clocked.State → Type 0 = λ n r. Unit {0} in
     IsLedTo-map state left held board left' new _ _ (λ r rest at. (at.0, at.2))
     (Leads-read state m board.store.words (Some c.args.bound) left held board Along left held board left' held' new refl (Leads-start state m c.args.bound left held board)
-    not_ended cut (λ r s. (shows g c left r s).its_end ∙ not_ended))
+    not_ended cut (λ r s. (shows g cycled left r s).its_end ∙ not_ended))
 
 pub returns-clause-write : goal.returns-clause-write
 returns-clause-write g c = λ not_ended p.
+    let cycled = (goal.at.returns-clause-write g c).After-cycle in
     let state = g.M.Clocked.state in
     let m = g.M.Clocked.meaning in
     let left = g.S.Source.left c.args.source.now in
     let left' = g.S.Source.left c.cycle.new.source in
     let held' = g.K.Sink.held c.cycle.new.sink in
     let new = c.cycle.new.self in
-    let cut = here g c (λ b h. IsCutByFault state m left h b left' held' new) c.cycle.ensures.cut faults.WriteFault not_ended tt p in
-    cycle-cut state m c.args.bound left _ c.args.self.now left' held' new not_ended p (shows g c) cut
+    let cut = here g cycled (λ b h. IsCutByFault state m left h b left' held' new) c.cycle.ensures.cut faults.WriteFault not_ended tt p in
+    cycle-cut state m c.args.bound left _ c.args.self.now left' held' new not_ended p (shows g cycled) cut
 
 pub returns-clause-in_time : goal.returns-clause-in_time
 returns-clause-in_time g c = λ top le not_ended t.
