@@ -1,20 +1,25 @@
-use Rattle.std.proofs.Common.{◌≡◌, ◌∙◌, [], Option, None, Some, Err, ap, refl, sym, subst, rules}
+use Rattle.std.proofs.Common.{◌≡◌, ◌∙◌, [], Option, None, Some, ap, refl, sym, subst, rules}
 use Rattle.std.proofs.lemmas.Result.{err_from_is_err_and}
 use Rattle.console_port.specs.declared.fault.BusFault.TheVariants as faults
 use Rattle.mic_clock.specs.declared.end.End.{End}
 use Rattle.mic_clock.specs.declared.end.End.TheVariants as ends
 use Rattle.mic_clock.specs.View.{BoardView}
 use Rattle.mic_clock.specs.Board.{NoFault}
-use Rattle.mic_watched.specs.Watched.{IsWatched, ShowsCycles}
+use Rattle.mic_watched.specs.Watched.{ShowsCycles}
 use Rattle.mic_watched.proofs.Shown.{flush-done, flush-lost, no_fault}
 use Rattle.mic_watched.proofs.GoesOn.{cause-flushed, cause-lost, goes-flushed, goes-until}
 use Rattle.mic_watched.proofs.run.run_watched.Goals as goal
 
 pub returns-in_err-watch_turns-clause-watched : goal.returns-in_err-watch_turns-clause-watched
 returns-in_err-watch_turns-clause-watched g c =
+    let w = c.in_err-watch_turns.ensures.watched in
     let p = err_from_is_err_and c.from_residual.result c.from_residual.ensures.1 in
-    rw (p.1, p.2)
-    (subst (λ (e : Option End). IsWatched _ _ _ _ _ _ _ _ _ _ _ _ _ _ _ e (Err _)) c.in_err-watch_turns.ensures.not_ended c.in_err-watch_turns.ensures.watched)
+    rw (p.1, p.2) (record {
+      cycles = w.cycles;
+      run = subst (λ (e : Option End). ShowsCycles g.M.Clocked.state g.M.Clocked.meaning c.args.bound (g.S.Source.left c.args.source.now) (g.K.Sink.held c.args.sink.now) c.args.board.now
+          (g.S.Source.left c.watch_turns.new.source) (g.K.Sink.held c.watch_turns.new.sink) c.watch_turns.new.board w.cycles e) c.in_err-watch_turns.ensures.not_ended w.run;
+      saw = w.saw;
+    })
 
 pub returns-in_err-watch_turns-clause-goes_on : goal.returns-in_err-watch_turns-clause-goes_on
 returns-in_err-watch_turns-clause-goes_on g c =

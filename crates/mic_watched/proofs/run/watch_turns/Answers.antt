@@ -10,6 +10,7 @@ use Rattle.mic_watched.proofs.Saying.{saw-nothing, saw-then, cause-then}
 use Rattle.mic_watched.proofs.GoesOn.{goes-nowhere, goes-then}
 use Rattle.mic_watched.proofs.run.watch_turns.Given.{Over}
 use Rattle.mic_watched.proofs.run.watch_turns.Goals as goal
+use Rattle.mic_watched.proofs.run.watch_turns.Goals.{After-turn}
 
 pub turns-init : goal.turns-init
 turns-init g c =
@@ -33,10 +34,10 @@ turns-init g c =
     }
 
 -- the cycle that the last turn shows, and the run with it
-abbrev last : (g : Over) → goal.After-turn g → List Cycle
+abbrev last : (g : Over) → After-turn g → List Cycle
 last g c = shown_on g.M.Clocked.state g.M.Clocked.meaning c.mpc-mpc.result c.turn.new.self
 
-shows : (g : Over) → (c : goal.After-turn g) →
+shows : (g : Over) → (c : After-turn g) →
     ShowsCycles g.M.Clocked.state g.M.Clocked.meaning c.args.bound (g.S.Source.left c.args.source.now) (g.K.Sink.held c.args.sink.now) c.args.board.now
     (g.S.Source.left c.turn.new.source) (g.K.Sink.held c.turn.new.sink) c.turn.new.self (c.turns.invariant.watched.cycles ++ last g c) c.turn.new.self.end
 shows g c =
