@@ -7,6 +7,7 @@ use Rattle.mic_rewind.proofs.Zipping.{is_there, kept-length}
 use Rattle.mic_rewind.proofs.Keeping.{emptied}
 use Rattle.mic_rewind.proofs.Placed.{placed_back, goes_back}
 use Rattle.mic_rewind.proofs.history.History.back.Goals as goal
+use Rattle.mic_rewind.proofs.history.History.back.Goals.{After-undo}
 
 pub overflow_sub-kept : goal.overflow_sub-kept
 overflow_sub-kept c =
@@ -36,25 +37,27 @@ unwrap-cycle-requires c =
     search rules
 
 -- the kept cycle before the cursor
-got : (c : goal.After-undo) →
+got : (c : After-undo) →
     slice_get c.self.inside.cycles.items (length c.self.inside.cycles.items - c.self.inside.behind - 1) ≡ Some c.unwrap-cycle.result.now
 got c =
     subst (λ (n : ℕ). slice_get c.self.inside.cycles.items (n - c.self.inside.behind - 1) ≡ Some c.unwrap-cycle.result.now) c.len.ensures.len
     (sym c.get.ensures ∙ ap option_copied c.unwrap-cycle.ensures)
 
-some : (c : goal.After-undo) → 0 < length c.self.inside.cycles.items - c.self.inside.behind
+some : (c : After-undo) → 0 < length c.self.inside.cycles.items - c.self.inside.behind
 some c = let len = c.len.ensures.len in omega arith
 
 pub invariant_of-self : goal.invariant_of-self
 invariant_of-self c =
+    let made = (goal.at.invariant_of-self c).After-undo in
     let h = c.self.inside in
     subst (λ (ws : List ℕ). AreKept h.first h.cycles (h.behind + 1) ws) (sym c.undo.ensures)
-    (placed_back h.first h.cycles h.behind h.memory.items c.unwrap-cycle.result.now c.self.invariant (some c) (got c))
+    (placed_back h.first h.cycles h.behind h.memory.items c.unwrap-cycle.result.now c.self.invariant (some made) (got made))
 
 pub returns-clause-went : goal.returns-clause-went
 returns-clause-went c =
+    let made = (goal.at.returns-clause-went c).After-undo in
     let h = c.self.inside in
-    let went = goes_back h.first h.cycles h.behind h.memory.items c.unwrap-cycle.result.now c.self.invariant (some c) (got c) in
+    let went = goes_back h.first h.cycles h.behind h.memory.items c.unwrap-cycle.result.now c.self.invariant (some made) (got made) in
     λ e.
     subst (λ (v : HistoryView). GoesBack v (view_from h.first h.cycles (h.behind + 1) c.undo.new.memory.items)) c.self.view_is
     (subst (λ (ws : List ℕ). GoesBack (view_from h.first h.cycles h.behind h.memory.items) (view_from h.first h.cycles (h.behind + 1) ws)) (sym c.undo.ensures) went)

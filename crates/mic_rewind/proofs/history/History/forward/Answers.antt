@@ -7,6 +7,7 @@ use Rattle.mic_rewind.proofs.Begun.{begun-length}
 use Rattle.mic_rewind.proofs.Zipping.{behind-length, is_there}
 use Rattle.mic_rewind.proofs.Placed.{placed_on, goes_on, tick_on}
 use Rattle.mic_rewind.proofs.history.History.forward.Goals as goal
+use Rattle.mic_rewind.proofs.history.History.forward.Goals.{After-redo}
 
 pub overflow_sub-len : goal.overflow_sub-len
 overflow_sub-len c =
@@ -30,13 +31,13 @@ unwrap-cycle-requires c =
     search rules
 
 -- the kept cycle after the cursor
-got : (c : goal.After-redo) →
+got : (c : After-redo) →
     slice_get c.self.inside.cycles.items (length c.self.inside.cycles.items - c.self.inside.behind) ≡ Some c.unwrap-cycle.result.now
 got c =
     subst (λ (n : ℕ). slice_get c.self.inside.cycles.items (n - c.self.inside.behind) ≡ Some c.unwrap-cycle.result.now) c.len.ensures.len
     (sym c.get.ensures ∙ ap option_copied c.unwrap-cycle.ensures)
 
-some : (c : goal.After-redo) → 0 < c.self.inside.behind
+some : (c : After-redo) → 0 < c.self.inside.behind
 some c =
     let h = c.self.inside in
     let was : 0 < length (view_from h.first h.cycles h.behind h.memory.items).after = subst (λ (v : HistoryView). 0 < length v.after) (sym c.self.view_is) c.requires in
@@ -45,19 +46,22 @@ some c =
 
 pub invariant_of-self : goal.invariant_of-self
 invariant_of-self c =
+    let made = (goal.at.invariant_of-self c).After-redo in
     let h = c.self.inside in
     subst (λ (ws : List ℕ). AreKept h.first h.cycles (h.behind - 1) ws) (sym c.redo.ensures)
-    (placed_on h.first h.cycles h.behind h.memory.items c.unwrap-cycle.result.now c.self.invariant (some c) (got c))
+    (placed_on h.first h.cycles h.behind h.memory.items c.unwrap-cycle.result.now c.self.invariant (some made) (got made))
 
 pub returns-clause-went : goal.returns-clause-went
 returns-clause-went c =
+    let made = (goal.at.returns-clause-went c).After-redo in
     let h = c.self.inside in
-    let went = goes_on h.first h.cycles h.behind h.memory.items c.unwrap-cycle.result.now c.self.invariant (some c) (got c) in
+    let went = goes_on h.first h.cycles h.behind h.memory.items c.unwrap-cycle.result.now c.self.invariant (some made) (got made) in
     subst (λ (v : HistoryView). GoesBack (view_from h.first h.cycles (h.behind - 1) c.redo.new.memory.items) v) c.self.view_is
     (subst (λ (ws : List ℕ). GoesBack (view_from h.first h.cycles (h.behind - 1) ws) (view_from h.first h.cycles h.behind h.memory.items)) (sym c.redo.ensures) went)
 
 pub returns-clause-tick : goal.returns-clause-tick
 returns-clause-tick c =
+    let made = (goal.at.returns-clause-tick c).After-redo in
     let h = c.self.inside in
-    tick_on h.first h.cycles h.behind h.memory.items c.unwrap-cycle.result.now c.self.invariant (some c) (got c)
+    tick_on h.first h.cycles h.behind h.memory.items c.unwrap-cycle.result.now c.self.invariant (some made) (got made)
     ∙ ap (λ (v : HistoryView). tick_of v.here.moment.counts (moment_at h.first h.cycles.items (h.behind - 1)).counts None) c.self.view_is
