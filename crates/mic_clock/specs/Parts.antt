@@ -7,6 +7,7 @@ use Rattle.mic_clock.specs.declared.running.Running.{Running}
 use Rattle.mic_clock.specs.declared.running.Tally.{Tally}
 use Rattle.mic_clock.specs.Meaning.{Meaning, Phase, AtRest}
 use Rattle.mic_clock.specs.Rule.{CountsCycle}
+use Rattle.mic_clock.specs.Run.{Buses}
 use Rattle.mic_clock.specs.View.{BoardView}
 use Rattle.mic_clock.specs.Board.{AreCounts, IsLimit, EndsInTime, IsCountedTurn, ChangesAtMar, EndsUnwritten}
 
@@ -15,16 +16,16 @@ abbrev pub counts_of : Running → Tally → Counts
 counts_of running tally =
     record { cycles = running.cycles; instructions = tally.instructions; stalls = tally.stalls; boundary = tally.boundary }
 
--- the board that these parts are
-abbrev pub board_of : {M : Type 0} → M → ControlStore → BusView → Running → Tally → BoardView M
-board_of machine store bus running tally =
+-- the board that these parts are, where this is what was on its machine's buses
+abbrev pub board_of : {M : Type 0} → (M → Buses) → M → ControlStore → BusView → Running → Tally → BoardView M
+board_of seen machine store bus running tally =
     record {
       machine = machine;
       store = store;
       bus = bus;
       counts = counts_of running tally;
       end = running.end;
-      buses = record { drive = tally.drive; computed = tally.computed };
+      buses = seen machine;
     }
 
 -- a clocked cycle that comes to this state counts in the parts

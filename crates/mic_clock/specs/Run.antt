@@ -120,10 +120,6 @@ module _ {State : Type 0} (m : Meaning State) (words : List ℕ) where
   abbrev pub word_at : State → ℕ
   word_at s = slice_index words (m.registers s).mpc
 
-  -- what is on the buses in the microstep from this state
-  abbrev pub SeesBuses : State → Drive → Computed → Type 0
-  SeesBuses s drive computed = (drive ≡ m.drives (word_at s) s) × (computed ≡ m.computes (word_at s) s)
-
   -- the run after its microstep
   abbrev pub after_step : MicroRun State → Outcome State → MicroRun State
   after_step r (Done s w) = record { state = s; world = w; counts = counts_after m r.counts (m.drives (word_at r.state) r.state).stalled s; end = None }

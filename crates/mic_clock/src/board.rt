@@ -40,7 +40,7 @@ impl<M: Clocked> Model for Board<M> {
 
     ghost Value = { BoardView M };
 
-    ghost view = { λ b. board_of b.machine b.store b.bus b.running b.tally };
+    ghost view = { λ b. board_of M.seen b.machine b.store b.bus b.running b.tally };
 
     ghost invariant = { λ b. AreParts M.phase M.meaning b.machine b.store b.running b.tally };
 }
@@ -324,13 +324,13 @@ impl<M: Clocked> Board<M> {
     pub fn last_drive(&self) -> Drive
         ensures { result ≡ self.now.buses.drive }
     {
-        self.tally.drive
+        self.machine.last_drive()
     }
 
     /// What the ALU and the shifter gave in the last clocked cycle.
     pub fn last_computed(&self) -> Computed
         ensures { result ≡ self.now.buses.computed }
     {
-        self.tally.computed
+        self.machine.last_computed()
     }
 }

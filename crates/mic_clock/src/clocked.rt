@@ -1,10 +1,10 @@
 //! What a board asks of a machine.
 
-ghost use Rattle.std.specs.Prelude.{◌≡◌, IfOk, ◌<◌, ℕ, List, slice_index};
+ghost use Rattle.std.specs.Prelude.{◌≡◌, None, IfOk, OnOk, OnErr, ◌<◌, ℕ, List, slice_index};
 ghost use Rattle.console_port.specs.Streams.{StreamsGoOn};
 ghost use Rattle.mic_clock.specs.Edge.{IsEdgeOver};
 ghost use Rattle.mic_clock.specs.Meaning.{Meaning, Phase, AtRest, SetUp, Driven, AtEdge};
-ghost use Rattle.mic_clock.specs.Run.{SeesBuses, word_at};
+ghost use Rattle.mic_clock.specs.Run.{Buses, buses_of, start_buses, word_at};
 
 use crate::buses::{Computed, Drive};
 use crate::registers::{Registers, Start};
@@ -35,13 +35,17 @@ pub trait Clocked {
     /// The word that was set up last.
     ghost word: { Self → ℕ };
 
+    /// What was on the buses in the cycle that `clock` did last. The four calls do not keep it.
+    ghost seen: { Self → Buses };
+
     fn machine(&self) -> Machine
         ensures { result ≡ meaning.machine };
 
     fn reset(&mut self, start: &Start)
         requires { start.now.entry < 512 }
         ensures state { state self.new ≡ meaning.initial start.now }
-        ensures phase { phase self.new ≡ AtRest };
+        ensures phase { phase self.new ≡ AtRest }
+        ensures seen { seen self.new ≡ start_buses };
 
     /// Takes over the word at MPC.
     fn setup(&mut self, store: &Store)
@@ -81,30 +85,32 @@ pub trait Clocked {
         ensures streams { StreamsGoOn S.left S.faults K.held K.passed K.faults bus.old source.old sink.old
             bus.new source.new sink.new result };
 
-    /// The four calls of a cycle in one, which a machine may do faster.
-    #[inline(always)]
+    /// The four calls of a cycle in one. Returns whether the cycle was a stall.
     fn clock<S: Source, K: Sink>(
         &mut self,
         store: &Store,
         bus: &mut Bus,
         source: &mut S,
         sink: &mut K,
-    ) -> Result<(Drive, Computed), BusFault>
+    ) -> Result<bool, BusFault>
         requires phase { phase self.old ≡ AtRest }
         requires machine { store.now.machine ≡ meaning.machine }
         ensures phase { phase self.new ≡ AtRest }
-        ensures seen { IfOk result (λ seen. SeesBuses meaning store.now.words (state self.old) seen.0 seen.1) }
+        ensures stalled { IfOk result (λ s. s ≡ (meaning.drives (word_at meaning store.now.words (state self.old)) (state self.old)).stalled) }
+        ensures seen { OnOk result (seen self.new ≡ buses_of meaning store.now.words (state self.old) (seen self.old) None) }
+        ensures kept { OnErr result (seen self.new ≡ seen self.old) }
         ensures edge { IsEdgeOver meaning S.left K.held (word_at meaning store.now.words (state self.old))
             (state self.old) bus.old source.old sink.old (state self.new) bus.new source.new sink.new result }
         ensures streams { StreamsGoOn S.left S.faults K.held K.passed K.faults bus.old source.old sink.old
-            bus.new source.new sink.new result }
-    {
-        self.setup(store);
-        let drive = self.drive();
-        let computed = self.compute();
-        self.edge(bus, source, sink)?;
-        Ok((drive, computed))
-    }
+            bus.new source.new sink.new result };
+
+    /// What drove the operand buses in the cycle that `clock` did last.
+    fn last_drive(&self) -> Drive
+        ensures { result ≡ (seen self.now).drive };
+
+    /// What the ALU and the shifter gave in the cycle that `clock` did last.
+    fn last_computed(&self) -> Computed
+        ensures { result ≡ (seen self.now).computed };
 
     fn registers(&self) -> Registers
         ensures value { result ≡ meaning.registers (state self.now) }
@@ -124,6 +130,20 @@ pub trait Clocked {
         ensures small { result < 512 }
     {
         self.registers().mpc
+    }
+
+    /// The SP of `registers`, without the other registers.
+    fn sp(&self) -> u32
+        ensures { result ≡ (meaning.registers (state self.now)).sp }
+    {
+        self.registers().sp
+    }
+
+    /// The LV of `registers`, without the other registers.
+    fn lv(&self) -> u32
+        ensures { result ≡ (meaning.registers (state self.now)).lv }
+    {
+        self.registers().lv
     }
 
     ghost its_words: { Self.Word.machine ≡ meaning.machine };

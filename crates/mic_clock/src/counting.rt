@@ -60,7 +60,6 @@ pub fn end_here(running: &mut Running, tally: &mut Tally, end: End)
     ensures counts { CountsEnd (counts_of running.old tally.old) end (counts_of running.new tally.new) }
     ensures end { running.new.end ≡ Some end }
     ensures limit { tally.new.limit ≡ tally.old.limit }
-    ensures buses { (tally.new.drive ≡ tally.old.drive) × (tally.new.computed ≡ tally.old.computed) }
 {
     if matches!(end, End::Halt | End::Err) && tally.boundary.is_some() {
         tally.instructions += 1;
@@ -78,7 +77,6 @@ pub fn count<M: Clocked>(running: &mut Running, tally: &mut Tally, stalled: bool
     ensures counts { CountsOn M.meaning running.old tally.old stalled (M.state machine.now) running.new tally.new }
     ensures limit { IsLimit (counts_of running.new tally.new) tally.new.limit }
     ensures end { running.new.end ≡ running.old.end }
-    ensures buses { (tally.new.drive ≡ tally.old.drive) × (tally.new.computed ≡ tally.old.computed) }
 {
     running.cycles += 1;
     if stalled {
@@ -88,12 +86,11 @@ pub fn count<M: Clocked>(running: &mut Running, tally: &mut Tally, stalled: bool
         if tally.boundary.is_some() {
             tally.instructions += 1;
         }
-        let registers = machine.registers();
         tally.boundary = Some(Boundary {
             cycles: running.cycles,
             at: machine.instruction_address(),
-            sp: registers.sp,
-            lv: registers.lv,
+            sp: machine.sp(),
+            lv: machine.lv(),
         });
         tally.limit = running.cycles + DRIFT;
     }

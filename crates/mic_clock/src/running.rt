@@ -3,7 +3,6 @@
 ghost use Rattle.std.specs.Prelude.{◌≡◌};
 ghost use Rattle.mic_clock.specs.Parts.{counts_of};
 
-use crate::buses::{Computed, Drive};
 use crate::counting::DRIFT;
 use crate::counts::{Boundary, Counts};
 use crate::end::End;
@@ -16,7 +15,7 @@ pub struct Running {
     pub end: Option<End>,
 }
 
-/// What else is counted, and the bus values of the last clocked cycle.
+/// What else is counted.
 #[derive(Clone, Copy)]
 pub struct Tally {
     /// The cycles at which the run is adrift, if it comes to no boundary before.
@@ -24,8 +23,6 @@ pub struct Tally {
     pub instructions: u64,
     pub stalls: u64,
     pub boundary: Option<Boundary>,
-    pub drive: Drive,
-    pub computed: Computed,
 }
 
 impl Running {
@@ -43,8 +40,6 @@ impl Tally {
         instructions: 0,
         stalls: 0,
         boundary: None,
-        drive: Drive::ZERO,
-        computed: Computed::ZERO,
     };
 }
 

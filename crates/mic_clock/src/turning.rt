@@ -6,7 +6,6 @@ ghost use Rattle.mic_clock.specs.Edge.{LetsBytesWait};
 ghost use Rattle.mic_clock.specs.Parts.{counts_of, board_of, AreParts, ChangesByTurn};
 ghost use Rattle.mic_clock.specs.Run.{word_at};
 
-use crate::buses::{Computed, Drive};
 use crate::clocked::Clocked;
 use crate::counting::{count, end_before, end_here, fault_end};
 use crate::end::Tick;
@@ -14,32 +13,6 @@ use crate::running::{Running, Tally};
 use console_port::Bus;
 use mic_base::{Sink, Source};
 use micro_word::Store;
-
-/// Keeps the bus values of a clocked cycle, each in a store of its own.
-#[inline(always)]
-fn keep_buses(tally: &mut Tally, drive: Drive, computed: Computed)
-    ensures { tally.new ≡ record tally.old { drive = drive; computed = computed } }
-{
-    tally.drive.a = drive.a;
-    tally.drive.b = drive.b;
-    tally.drive.stalled = drive.stalled;
-    tally.computed.alu.value = computed.alu.value;
-    tally.computed.alu.n = computed.alu.n;
-    tally.computed.alu.z = computed.alu.z;
-    tally.computed.c = computed.c;
-}
-
-/// What a clocked cycle did.
-#[inline(always)]
-fn ticked(stalled: bool) -> Tick
-    ensures { result ≡ (if stalled then Tick.Stalled else Tick.Clocked) }
-{
-    if stalled {
-        Tick::Stalled
-    } else {
-        Tick::Clocked
-    }
-}
 
 /// One turn without the test of the bound: an end that comes before a cycle, or a cycle.
 #[inline(always)]
@@ -56,15 +29,15 @@ pub fn turn_once<M: Clocked, S: Source, K: Sink>(
     requires parts { AreParts M.phase M.meaning machine.old store.now running.old tally.old }
     requires cycles { running.old.cycles ≤ 2 ^ 62 + 4096 }
     ensures parts { AreParts M.phase M.meaning machine.new store.now running.new tally.new }
-    ensures turn { IsTurned M.state M.meaning (S.left source.old) (K.held sink.old) (board_of machine.old store.now bus.old running.old tally.old)
-        (S.left source.new) (K.held sink.new) (board_of machine.new store.now bus.new running.new tally.new) None }
-    ensures cut { IsCutByFault M.state M.meaning (S.left source.old) (K.held sink.old) (board_of machine.old store.now bus.old running.old tally.old)
-        (S.left source.new) (K.held sink.new) (board_of machine.new store.now bus.new running.new tally.new) }
+    ensures turn { IsTurned M.state M.meaning (S.left source.old) (K.held sink.old) (board_of M.seen machine.old store.now bus.old running.old tally.old)
+        (S.left source.new) (K.held sink.new) (board_of M.seen machine.new store.now bus.new running.new tally.new) None }
+    ensures cut { IsCutByFault M.state M.meaning (S.left source.old) (K.held sink.old) (board_of M.seen machine.old store.now bus.old running.old tally.old)
+        (S.left source.new) (K.held sink.new) (board_of M.seen machine.new store.now bus.new running.new tally.new) }
     ensures tick { result ≡ tick_of (counts_of running.old tally.old) (counts_of running.new tally.new) running.new.end }
-    ensures goes_on { GoesOn S.left S.faults K.held K.passed K.faults source.old sink.old (board_of machine.old store.now bus.old running.old tally.old)
-        source.new sink.new (board_of machine.new store.now bus.new running.new tally.new) }
-    ensures changes { ChangesByTurn M.state M.meaning (board_of machine.old store.now bus.old running.old tally.old)
-        (board_of machine.new store.now bus.new running.new tally.new) }
+    ensures goes_on { GoesOn S.left S.faults K.held K.passed K.faults source.old sink.old (board_of M.seen machine.old store.now bus.old running.old tally.old)
+        source.new sink.new (board_of M.seen machine.new store.now bus.new running.new tally.new) }
+    ensures changes { ChangesByTurn M.state M.meaning (board_of M.seen machine.old store.now bus.old running.old tally.old)
+        (board_of M.seen machine.new store.now bus.new running.new tally.new) }
     ensures waits { LetsBytesWait M.meaning (word_at M.meaning store.now.words (M.state machine.old)) (M.state machine.old)
         (S.left source.old) (K.held sink.old) bus.old sink.old sink.new }
 {
@@ -76,11 +49,13 @@ pub fn turn_once<M: Clocked, S: Source, K: Sink>(
         return Tick::Ended(end);
     }
     match machine.clock(store, bus, source, sink) {
-        Ok((drive, computed)) => {
-            keep_buses(tally, drive, computed);
-            // After the stores, so that a run tests once whether it is at a boundary.
-            count(running, tally, drive.stalled, machine);
-            ticked(drive.stalled)
+        Ok(stalled) => {
+            count(running, tally, stalled, machine);
+            if stalled {
+                Tick::Stalled
+            } else {
+                Tick::Clocked
+            }
         }
         Err(fault) => {
             let end = fault_end(fault);
@@ -104,17 +79,17 @@ pub fn turn_to_boundary<M: Clocked, S: Source, K: Sink>(
     requires parts { AreParts M.phase M.meaning machine.old store.now running.old tally.old }
     requires ready { (running.old.end ≡ None) × (running.old.cycles ≤ 2 ^ 62 + 2048) }
     ensures parts { AreParts M.phase M.meaning machine.new store.now running.new tally.new }
-    ensures run { IsLegRun M.state M.meaning (S.left source.old) (K.held sink.old) (board_of machine.old store.now bus.old running.old tally.old)
-        (S.left source.new) (K.held sink.new) (board_of machine.new store.now bus.new running.new tally.new) }
-    ensures read { LegIsCutByRead M.state M.meaning (S.left source.old) (K.held sink.old) (board_of machine.old store.now bus.old running.old tally.old)
-        (S.left source.new) (K.held sink.new) (board_of machine.new store.now bus.new running.new tally.new) }
-    ensures write { LegIsCutByWrite M.state M.meaning (S.left source.old) (K.held sink.old) (board_of machine.old store.now bus.old running.old tally.old)
-        (S.left source.new) (K.held sink.new) (board_of machine.new store.now bus.new running.new tally.new) }
+    ensures run { IsLegRun M.state M.meaning (S.left source.old) (K.held sink.old) (board_of M.seen machine.old store.now bus.old running.old tally.old)
+        (S.left source.new) (K.held sink.new) (board_of M.seen machine.new store.now bus.new running.new tally.new) }
+    ensures read { LegIsCutByRead M.state M.meaning (S.left source.old) (K.held sink.old) (board_of M.seen machine.old store.now bus.old running.old tally.old)
+        (S.left source.new) (K.held sink.new) (board_of M.seen machine.new store.now bus.new running.new tally.new) }
+    ensures write { LegIsCutByWrite M.state M.meaning (S.left source.old) (K.held sink.old) (board_of M.seen machine.old store.now bus.old running.old tally.old)
+        (S.left source.new) (K.held sink.new) (board_of M.seen machine.new store.now bus.new running.new tally.new) }
     ensures growth { running.new.cycles ≤ running.old.cycles + 1024 }
-    ensures goes_on { GoesOn S.left S.faults K.held K.passed K.faults source.old sink.old (board_of machine.old store.now bus.old running.old tally.old)
-        source.new sink.new (board_of machine.new store.now bus.new running.new tally.new) }
-    ensures in_time { ComesInTime M.state M.meaning (board_of machine.old store.now bus.old running.old tally.old)
-        (board_of machine.new store.now bus.new running.new tally.new) }
+    ensures goes_on { GoesOn S.left S.faults K.held K.passed K.faults source.old sink.old (board_of M.seen machine.old store.now bus.old running.old tally.old)
+        source.new sink.new (board_of M.seen machine.new store.now bus.new running.new tally.new) }
+    ensures in_time { ComesInTime M.state M.meaning (board_of M.seen machine.old store.now bus.old running.old tally.old)
+        (board_of M.seen machine.new store.now bus.new running.new tally.new) }
 {
     let mut here = Running {
         cycles: running.cycles,
