@@ -14,6 +14,18 @@ use console_port::Bus;
 use mic_base::{Sink, Source};
 use micro_word::Store;
 
+/// What a clocked cycle did.
+#[inline(always)]
+fn ticked(stalled: bool) -> Tick
+    ensures { result ≡ (if stalled then Tick.Stalled else Tick.Clocked) }
+{
+    if stalled {
+        Tick::Stalled
+    } else {
+        Tick::Clocked
+    }
+}
+
 /// One turn without the test of the bound: an end that comes before a cycle, or a cycle.
 #[inline(always)]
 #[tactic(auto, using(crate::proofs::Rules::ends_as_ruled, crate::proofs::Rules::ended_as_ruled, crate::proofs::Rules::counted_as_ruled))]
@@ -51,11 +63,7 @@ pub fn turn_once<M: Clocked, S: Source, K: Sink>(
     match machine.clock(store, bus, source, sink) {
         Ok(stalled) => {
             count(running, tally, stalled, machine);
-            if stalled {
-                Tick::Stalled
-            } else {
-                Tick::Clocked
-            }
+            ticked(stalled)
         }
         Err(fault) => {
             let end = fault_end(fault);

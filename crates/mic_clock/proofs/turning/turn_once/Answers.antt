@@ -1,10 +1,9 @@
-use Rattle.std.proofs.Common.{◌≡◌, None, Some, Option, sym, ap, ◌∙◌, subst, rules}
+use Rattle.std.proofs.Common.{◌≡◌, Bool, None, Some, Option, sym, ap, ◌∙◌, subst, rules}
 use Rattle.console_port.specs.World.{World}
 use Rattle.console_port.specs.Bus.{Shows}
 use Rattle.mic_clock.specs.declared.end.End.{End}
 use Rattle.mic_clock.specs.Meaning.{refusal_in}
 use Rattle.mic_clock.specs.Run.{end_before, counts_after, word_at}
-use Rattle.mic_clock.specs.declared.buses.Drive.{Drive}
 use Rattle.mic_clock.specs.Rule.{EndsBefore}
 use Rattle.mic_clock.specs.Board.{NoFault, tick_of}
 use Rattle.mic_clock.specs.Parts.{board_of, counts_of}
@@ -16,7 +15,7 @@ pub returns-in-Some-end_before-clause-turn : goal.returns-in-Some-end_before-cla
 returns-in-Some-end_before-clause-turn g c =
     let state = g.M.Clocked.state in
     let m = g.M.Clocked.meaning in
-    let board = board_of c.args.machine.now c.args.store.now c.args.bus.now c.args.running.now c.args.tally.now in
+    let board = board_of g.M.Clocked.seen c.args.machine.now c.args.store.now c.args.bus.now c.args.running.now c.args.tally.now in
     let rule : EndsBefore (m.registers (state board.machine)).mpc board.counts (Some c.in-Some-end_before.end) = search rules in
     let ends : Some c.in-Some-end_before.end ≡ end_before m (state board.machine) board.counts = ends_as_ruled m _ _ _ rule in
     let counts = ended_as_ruled _ _ _ c.end_here.ensures.counts in
@@ -27,7 +26,7 @@ returns-in-Err-clause-turn g c =
     let edge = c.in-Err.ensures.edge.edge in
     let state = g.M.Clocked.state in
     let m = g.M.Clocked.meaning in
-    let board = board_of c.args.machine.now c.args.store.now c.args.bus.now c.args.running.now c.args.tally.now in
+    let board = board_of g.M.Clocked.seen c.args.machine.now c.args.store.now c.args.bus.now c.args.running.now c.args.tally.now in
     let not_ended : board.end ≡ None = search rules in
     let no_end : end_before m (state board.machine) board.counts ≡ None = search rules in
     λ q.
@@ -41,18 +40,17 @@ pub returns-in-Ok-clause-turn : goal.returns-in-Ok-clause-turn
 returns-in-Ok-clause-turn g c =
     let state = g.M.Clocked.state in
     let m = g.M.Clocked.meaning in
-    let board = board_of c.args.machine.now c.args.store.now c.args.bus.now c.args.running.now c.args.tally.now in
+    let board = board_of g.M.Clocked.seen c.args.machine.now c.args.store.now c.args.bus.now c.args.running.now c.args.tally.now in
     let rule : EndsBefore (m.registers (state board.machine)).mpc board.counts None = search rules in
     let no_end : end_before m (state board.machine) board.counts ≡ None = sym (ends_as_ruled m _ _ _ rule) in
     let not_ended : board.end ≡ None = search rules in
-    let counted = counted_as_ruled m _ _ _ _ (rw c.keep_buses.ensures at c.count.ensures.counts) in
+    let counted = counted_as_ruled m _ _ _ _ c.count.ensures.counts in
     (λ q. led-done state m _ _ _ _ _ _ not_ended no_end c.in-Ok.ensures.edge.edge.ok
-    (counted ∙ ap (λ (d : Drive). counts_after m board.counts d.stalled (state c.clock.new.self)) c.in-Ok.ensures.seen.0) (search rules))
+    (counted ∙ ap (λ (b : Bool). counts_after m board.counts b (state c.clock.new.self)) c.in-Ok.ensures.stalled) (search rules))
 
 pub returns-in-Ok-clause-tick : goal.returns-in-Ok-clause-tick
 returns-in-Ok-clause-tick g c =
     let old = counts_of c.args.running.now c.args.tally.now in
     let new = counts_of c.count.new.running c.count.new.tally in
     let none : c.count.new.running.end ≡ None = search rules in
-    let counts = rw c.keep_buses.ensures at c.count.ensures.counts in
-    c.ticked.ensures ∙ (sym (tick_counted old new _ counts.stalls) ∙ ap (λ (e : Option End). tick_of old new e) (sym none))
+    c.ticked.ensures ∙ (sym (tick_counted old new _ c.count.ensures.counts.stalls) ∙ ap (λ (e : Option End). tick_of old new e) (sym none))

@@ -16,8 +16,8 @@ pub inside-init : goal.inside-init
 inside-init g c =
     let state = g.M.Clocked.state in
     let m = g.M.Clocked.meaning in
-    let first = board_of c.args.machine.now c.args.store.now c.args.bus.now c.args.running.now c.args.tally.now in
-    let new = board_of c.turn_once.new.machine c.args.store.now c.turn_once.new.bus c.turn_once.new.running c.turn_once.new.tally in
+    let first = board_of g.M.Clocked.seen c.args.machine.now c.args.store.now c.args.bus.now c.args.running.now c.args.tally.now in
+    let new = board_of g.M.Clocked.seen c.turn_once.new.machine c.args.store.now c.turn_once.new.bus c.turn_once.new.running c.turn_once.new.tally in
     let words = first.store.words in
     let left0 = g.S.Source.left c.args.source.now in
     let held0 = g.K.Sink.held c.args.sink.now in
@@ -28,7 +28,7 @@ inside-init g c =
     let cycles = c.args.running.now.cycles in
     let at : (P : Running → Type 0) → P (record { cycles = cycles; end = None }) → P c.args.running.now =
     λ P p. subst P (λ i. record { cycles = cycles; end = sym not_ended i }) p in
-    let from : Running → BoardView g.row.M.Denot = λ r. board_of c.args.machine.now c.args.store.now c.args.bus.now r c.args.tally.now in
+    let from : Running → BoardView g.row.M.Denot = λ r. board_of g.M.Clocked.seen c.args.machine.now c.args.store.now c.args.bus.now r c.args.tally.now in
     let turned = at (λ r. IsTurned state m left0 held0 (from r) left' held' new None) c.turn_once.ensures.turn in
     let cut = at (λ r. IsCutByFault state m left0 held0 (from r) left' held' new) c.turn_once.ensures.cut in
     let changes = at (λ r. ChangesByTurn state m (from r) new) c.turn_once.ensures.changes in
@@ -61,9 +61,9 @@ pub inside-preserved : goal.inside-preserved
 inside-preserved g c =
     let state = g.M.Clocked.state in
     let m = g.M.Clocked.meaning in
-    let first = board_of c.args.machine.now c.args.store.now c.args.bus.now c.args.running.now c.args.tally.now in
-    let old = board_of c.inside.machine c.args.store.now c.inside.bus c.inside.here c.inside.tally in
-    let new = board_of c.turn_once-in-inside.new.machine c.args.store.now c.turn_once-in-inside.new.bus c.turn_once-in-inside.new.running c.turn_once-in-inside.new.tally in
+    let first = board_of g.M.Clocked.seen c.args.machine.now c.args.store.now c.args.bus.now c.args.running.now c.args.tally.now in
+    let old = board_of g.M.Clocked.seen c.inside.machine c.args.store.now c.inside.bus c.inside.here c.inside.tally in
+    let new = board_of g.M.Clocked.seen c.turn_once-in-inside.new.machine c.args.store.now c.turn_once-in-inside.new.bus c.turn_once-in-inside.new.running c.turn_once-in-inside.new.tally in
     let words = first.store.words in
     let left0 = g.S.Source.left c.args.source.now in
     let held0 = g.K.Sink.held c.args.sink.now in

@@ -13,8 +13,8 @@ invariant-inside g l =
     let m = g.M.Clocked.meaning in
     let left = g.S.Source.left l.source in
     let held = g.K.Sink.held l.sink in
-    let board = board_of l.machine l.store l.bus l.here l.tally in
-    let first = board_of l.fn.machine l.fn.store l.fn.bus l.fn.running l.fn.tally in
+    let board = board_of g.M.Clocked.seen l.machine l.store l.bus l.here l.tally in
+    let first = board_of g.M.Clocked.seen l.fn.machine l.fn.store l.fn.bus l.fn.running l.fn.tally in
     let words = first.store.words in
     record {
       parts : AreParts g.M.Clocked.phase m l.machine l.store l.here l.tally;
