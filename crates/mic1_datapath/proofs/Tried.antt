@@ -10,7 +10,7 @@ use Rattle.micro_word.specs.declared.statement.Mem.{Mem}
 use Rattle.mic_datapath.specs.Access.{IsAccess}
 use Rattle.mic_datapath.specs.Memory.{access_refusal}
 use Rattle.mic_datapath.specs.declared.ports.Ports.{Ports}
-use Rattle.mic1_datapath.specs.Cycle.{IsAtEdge, IsTried, moved_on}
+use Rattle.mic1_datapath.specs.Cycle.{IsAtEdge, IsLast, IsTried, moved_on}
 use Rattle.mic1_datapath.specs.Latches.{AreLatches, micro_in}
 use Rattle.mic1_datapath.specs.Microstep.{assigned, ports_of, settled, next_micro}
 use Rattle.mic1_datapath.specs.declared.latches.Latches.{Latches}
@@ -22,8 +22,8 @@ pub tried : (word value c dests : ℕ) (lines : Lines) (l l' : Latches) (bus bus
     access_refusal (length bus.words) mem fetch ports ≡ None →
     ((left held : Option (List ℕ)) → IsLed left held bus left held bus' (λ w v. IsAccess (length bus.words) mem fetch ports w read byte v)) →
     ChangesOnly ports.mar bus.words bus'.words → bus'.console ≡ bus.console →
-    AreLatches l' → micro_in l' ≡ moved_on word value (micro_in l) read byte → IsTried word l bus l' bus' true
-tried word value c dests lines l l' bus bus' ports mem fetch read byte at dests_are ports_are mem_is fetch_is clear led others console latches moves =
+    AreLatches l' → micro_in l' ≡ moved_on word value (micro_in l) read byte → IsLast word l' → IsTried word l bus l' bus' true
+tried word value c dests lines l l' bus bus' ports mem fetch read byte at dests_are ports_are mem_is fetch_is clear led others console latches moves last =
     let s = statement_of machines.Mic1 word in
     let m = micro_in l in
     let asked : Asked = record { ports = ports; mem = mem; fetch = fetch } in
@@ -33,6 +33,7 @@ tried word value c dests lines l l' bus bus' ports mem fetch read byte at dests_
       edge = λ done left held.
           edge_done word m asked is left held bus left held bus' read byte clear (led left held) others _
           (moves ∙ ap (λ (x : ℕ). next_micro s.next x (settled s.part m) read byte) at.computed.value_is);
+      last = λ done. last;
       console = console;
       none = λ no. absurd (cc);
     }

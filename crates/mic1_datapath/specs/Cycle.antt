@@ -36,6 +36,10 @@ pub record IsAtEdge (l : Latches) (word : ℕ) (lines : Lines) (value c : ℕ) :
 abbrev pub moved_on : ℕ → ℕ → Micro → Option ℕ → Option ℕ → Micro
 moved_on word value m read byte = next_micro (statement_of machines.Mic1 word).next value (settled (statement_of machines.Mic1 word).part m) read byte
 
+-- the latches after a clocked word, which they keep
+abbrev pub IsLast : ℕ → Latches → Type 0
+IsLast word l = (l.before ≡ word) × (l.clocked ≡ true)
+
 -- a word that accesses nothing
 abbrev pub IsQuiet : ℕ → Type 0
 IsQuiet word = (mem_of (fields_of machines.Mic1 word).mem ≡ mems.None) × (fetches word ≡ false)
@@ -49,5 +53,6 @@ IsEdgeInside word l bus l' bus' =
 pub record IsTried (word : ℕ) (l : Latches) (bus : BusView) (l' : Latches) (bus' : BusView) (done : Bool) : Type 0 where
   pub latches : AreLatches l'
   pub edge : done ≡ true → IsEdgeInside word l bus l' bus'
+  pub last : done ≡ true → IsLast word l'
   pub console : bus'.console ≡ bus.console
   pub none : done ≡ false → (l' ≡ l) × (bus' ≡ bus)

@@ -1,8 +1,9 @@
 -- What the latches of Mic-1 mean: the microstep's state.
-use Rattle.std.specs.Prelude.{◌≡◌, ℕ, ◌<◌, ◌==◌, Bool, if◌then◌else◌, List, Option, Some, None, slice_index}
+use Rattle.std.specs.Prelude.{◌≡◌, ℕ, ◌<◌, ◌==◌, Bool, if◌then◌else◌, List, IsTrue, Option, Some, None, slice_index}
 use Rattle.mic_words.specs.Arithmetic.{signed_byte}
 use Rattle.mic_words.specs.declared.machine.Machine.TheVariants as machines
 use Rattle.micro_word.specs.Layout.{fields_of}
+use Rattle.micro_word.specs.Words.{is_canonical}
 use Rattle.micro_word.specs.declared.lines.TheConstants.{NOTHING}
 use Rattle.mic1_datapath.specs.Micro.{Micro}
 use Rattle.mic1_datapath.specs.declared.latches.Latches.{Latches}
@@ -47,3 +48,4 @@ pub record AreLatches (l : Latches) : Type 0 where
   pub mbr : slice_index l.places 10 < 256
   pub signed : HasSignedMbr l.places
   pub nothing : slice_index l.places NOTHING ≡ 0
+  pub before : IsTrue (is_canonical machines.Mic1 l.before)

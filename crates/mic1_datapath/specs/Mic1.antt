@@ -6,7 +6,7 @@ use Rattle.mic_words.specs.declared.machine.Machine.TheVariants as machines
 use Rattle.micro_word.specs.Coding.{microword_of, statement_of}
 use Rattle.micro_word.specs.Words.{is_valid}
 use Rattle.mic_words.specs.Arithmetic.{is_negative}
-use Rattle.micro_word.specs.Operation.{shifted}
+use Rattle.micro_word.specs.Operation.{alu, shifted}
 use Rattle.mic_clock.specs.declared.buses.Drive.{Drive}
 use Rattle.mic_clock.specs.declared.buses.Computed.{Computed}
 use Rattle.mic_clock.specs.declared.registers.Registers.{Registers}
@@ -14,7 +14,7 @@ use Rattle.mic_clock.specs.declared.registers.Start.{Start}
 use Rattle.mic_clock.specs.declared.registers.Tail.TheVariants.{Mbr}
 use Rattle.mic_clock.specs.Meaning.{Meaning, Outcome}
 use Rattle.mic_datapath.specs.Memory.{outcome}
-use Rattle.mic1_datapath.specs.Microstep.{source, result_of, clock, world_after, refusal}
+use Rattle.mic1_datapath.specs.Microstep.{source, clock, world_after, refusal}
 use Rattle.mic1_datapath.specs.Micro.{Micro}
 
 abbrev pub microstep : Placed → Micro → World → Outcome Micro
@@ -59,11 +59,15 @@ registers_of m =
 unfoldable pub driven : ℕ → Micro → Drive
 driven word m = record { a = m.h; b = source (statement_of machines.Mic1 word).part.b m; stalled = false }
 
--- the result with N and Z, and the shifted result
+-- for these operands, the result with N and Z, and the shifted result
+abbrev pub computed_on : ℕ → ℕ → ℕ → Computed
+computed_on word a b =
+    let part = (statement_of machines.Mic1 word).part in
+    let x = alu part.op a b in
+    record { alu = record { value = x; n = is_negative x; z = x == 0 }; c = shifted part.shift x }
+
 unfoldable pub computed : ℕ → Micro → Computed
-computed word m =
-    let x = result_of (statement_of machines.Mic1 word).part m in
-    record { alu = record { value = x; n = is_negative x; z = x == 0 }; c = shifted (statement_of machines.Mic1 word).part.shift x }
+computed word m = computed_on word m.h (source (statement_of machines.Mic1 word).part.b m)
 
 -- After a first cycle an instruction begins where MPC is the address of Main1, and PC is its address.
 abbrev pub mic1_meaning : Meaning Micro

@@ -1,19 +1,20 @@
 //! What is on the buses in a cycle of a word.
 
-ghost use Rattle.std.specs.Prelude.{◌≡◌};
+ghost use Rattle.std.specs.Prelude.{◌≡◌, IsTrue};
 ghost use Rattle.mic_words.specs.declared.machine.Machine.TheVariants.{Mic1};
 ghost use Rattle.micro_word.specs.Coding.{shift_of, statement_of};
 ghost use Rattle.micro_word.specs.Layout.{fields_of};
 ghost use Rattle.micro_word.specs.Operation.{shifted};
+ghost use Rattle.micro_word.specs.Words.{is_canonical};
 ghost use Rattle.mic1_datapath.specs.Cycle.{HasComputed, IsDecoded};
 ghost use Rattle.mic1_datapath.specs.Latches.{AreLatches, micro_in};
-ghost use Rattle.mic1_datapath.specs.Mic1.{computed, driven};
+ghost use Rattle.mic1_datapath.specs.Mic1.{computed, computed_on, driven};
 ghost use Rattle.mic1_datapath.specs.Microstep.{source};
 
 use crate::latches::Latches;
 use mic_clock::{Computed, Drive};
 use mic_datapath::{operate, shift_by, side_law};
-use mic1_alu::AluOut;
+use mic1_alu::{AluOut, Controls, alu, each_row_computes};
 use micro_word::{Lines, Machine, bits, statement_law, word_law};
 
 pub const H: usize = 8;
@@ -32,6 +33,21 @@ fn shift_for(word: u64, value: u32) -> u32
         return value;
     }
     shift_by(bits::shift(Machine::Mic1, word), value)
+}
+
+/// What the ALU and the shifter give for these operands of a word.
+pub fn computed_of(word: u64, a: u32, b: u32) -> Computed
+    requires { IsTrue (is_canonical Mic1 word) }
+    ensures { result ≡ computed_on word a b }
+{
+    word_law(Machine::Mic1);
+    each_row_computes();
+    let controls = Controls::from_bits(bits::gates(Machine::Mic1, word));
+    let alu = alu(controls, a, b);
+    Computed {
+        alu,
+        c: shift_for(word, alu.value),
+    }
 }
 
 /// What drives the operand buses.

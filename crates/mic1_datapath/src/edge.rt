@@ -1,12 +1,12 @@
 //! The clock edge of a cycle, after what the cycle computed.
 
-ghost use Rattle.std.specs.Prelude.{◌≡◌, true};
+ghost use Rattle.std.specs.Prelude.{◌≡◌, true, OnOk, OnErr};
 ghost use Rattle.console_port.specs.Streams.{StreamsGoOn};
 ghost use Rattle.mic_words.specs.declared.machine.Machine.TheVariants.{Mic1};
 ghost use Rattle.micro_word.specs.Coding.{mem_of};
 ghost use Rattle.micro_word.specs.Layout.{fields_of};
 ghost use Rattle.mic_clock.specs.Edge.{IsEdgeOver};
-ghost use Rattle.mic1_datapath.specs.Cycle.{IsAtEdge, IsQuiet, IsTried};
+ghost use Rattle.mic1_datapath.specs.Cycle.{IsAtEdge, IsLast, IsQuiet, IsTried};
 ghost use Rattle.mic1_datapath.specs.Latches.{AreLatches, micro_in};
 ghost use Rattle.mic1_datapath.specs.Mic1.{mic1_meaning};
 
@@ -148,6 +148,8 @@ fn any_edge<S: Source, K: Sink>(
         (micro_in latches.new) bus.new source.new sink.new result }
     ensures streams { StreamsGoOn S.left S.faults K.held K.passed K.faults bus.old source.old sink.old
         bus.new source.new sink.new result }
+    ensures last { OnOk result (IsLast word latches.new) }
+    ensures stays { OnErr result (latches.new ≡ latches.old) }
 {
     console_law();
     let mem = Mem::of_bits(bits::mem(Machine::Mic1, word));
@@ -176,12 +178,14 @@ fn edge_outside<S: Source, K: Sink>(
         (micro_in latches.new) bus.new source.new sink.new result }
     ensures streams { StreamsGoOn S.left S.faults K.held K.passed K.faults bus.old source.old sink.old
         bus.new source.new sink.new result }
+    ensures last { OnOk result (IsLast word latches.new) }
+    ensures stays { OnErr result (latches.new ≡ latches.old) }
 {
     any_edge(latches, word, lines, value, c, bus, source, sink)?;
     Ok(())
 }
 
-/// The clock edge. After an Err the latches mean what they meant before.
+/// The clock edge. An Err leaves the latches as they were.
 #[inline(always)]
 pub fn edge<S: Source, K: Sink>(
     latches: &mut Latches,
@@ -199,6 +203,8 @@ pub fn edge<S: Source, K: Sink>(
         (micro_in latches.new) bus.new source.new sink.new result }
     ensures streams { StreamsGoOn S.left S.faults K.held K.passed K.faults bus.old source.old sink.old
         bus.new source.new sink.new result }
+    ensures last { OnOk result (IsLast word latches.new) }
+    ensures stays { OnErr result (latches.new ≡ latches.old) }
 {
     if edge_inside(latches, word, lines, value, c, bus) {
         return Ok(());

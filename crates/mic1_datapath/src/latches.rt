@@ -10,7 +10,7 @@ ghost use Rattle.micro_word.specs.Operation.{shifted};
 ghost use Rattle.mic_datapath.specs.Next.{GoesTo};
 ghost use Rattle.mic_datapath.specs.Registers.{arrived as arrived_of};
 ghost use Rattle.mic1_datapath.specs.Mic1.{initial as initial_of};
-ghost use Rattle.mic1_datapath.specs.Cycle.{moved_on};
+ghost use Rattle.mic1_datapath.specs.Cycle.{IsLast, moved_on};
 ghost use Rattle.mic1_datapath.specs.Microstep.{assigned, ports_of, result_of};
 ghost use Rattle.mic1_datapath.specs.Latches.{AreLatches, HasSignedMbr, micro_in, reads, fetches, under_way};
 
@@ -136,7 +136,7 @@ fn goes_on(word: u64, addr: u16, value: u32, byte: u8) -> u16
 
 impl Latches {
     /// As a reset leaves them.
-    #[tactic(auto, unfolding(mic_words::specs::Arithmetic::signed_byte))]
+    #[tactic(auto, unfolding(mic_words::specs::Arithmetic::signed_byte, micro_word::specs::Words::is_canonical, micro_word::specs::Coding::statement_of))]
     pub fn initial(start: &Start) -> Latches
         requires { start.now.entry < 512 }
         ensures micro { micro_in result ≡ initial_of start.now }
@@ -221,6 +221,7 @@ impl Latches {
         requires byte_sampled { is_some sampled.byte ≡ fetches word }
         ensures latches { AreLatches self.new }
         ensures micro { micro_in self.new ≡ moved_on word value (micro_in self.old) sampled.word sampled.byte }
+        ensures last { IsLast word self.new }
     {
         word_law(Machine::Mic1);
         statement_law(Machine::Mic1);

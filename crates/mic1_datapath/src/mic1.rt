@@ -9,7 +9,7 @@ ghost use Rattle.mic1_datapath.specs.Cycle.{HasComputed, IsDecoded};
 ghost use Rattle.mic1_datapath.specs.Microstep.{source};
 ghost use Rattle.mic1_datapath.specs.Latches.{AreLatches, micro_in};
 
-use crate::buses::{H, computed_by, driven_by};
+use crate::buses::{H, computed_by, computed_of, driven_by};
 use crate::edge::edge;
 use crate::latches::{IDLE, Latches};
 use console_port::{Bus, BusFault};
@@ -34,6 +34,9 @@ pub struct Mic1 {
     value: u32,
     /// What is on the C bus.
     c: u32,
+    /// The operands of the word that `clock` clocked last. The latches keep the word.
+    last_a: u32,
+    last_b: u32,
     ghost kept: { AreLatches latches },
     ghost decoded: { IsDecoded word lines },
     ghost drove: { phase_of stage ≡ Driven → b ≡ source (statement_of Mic1Machine word).part.b (micro_in latches) },
@@ -62,6 +65,8 @@ impl Mic1 {
             b: 0,
             value: 0,
             c: 0,
+            last_a: 0,
+            last_b: 0,
         }
     }
 }
@@ -69,7 +74,7 @@ impl Mic1 {
 impl Clocked for Mic1 {
     ghost use Rattle.mic1_datapath.specs.Micro.{Micro};
     ghost use Rattle.mic1_datapath.specs.Mic1.{mic1_meaning, IsReady as IsReadyAt};
-    ghost use Rattle.mic1_datapath.specs.View.{micro_of, phase, microinstruction_of};
+    ghost use Rattle.mic1_datapath.specs.View.{micro_of, phase, microinstruction_of, seen};
 
     type Word = Word1;
 
@@ -84,6 +89,8 @@ impl Clocked for Mic1 {
     ghost phase = { phase };
 
     ghost word = { microinstruction_of };
+
+    ghost seen = { seen };
 
     fn machine(&self) -> Machine {
         Machine::Mic1
@@ -143,7 +150,7 @@ impl Clocked for Mic1 {
         bus: &mut Bus,
         source: &mut S,
         sink: &mut K,
-    ) -> Result<(Drive, Computed), BusFault> {
+    ) -> Result<bool, BusFault> {
         let mpc = self.latches.mpc;
         let word = store.word(mpc);
         let lines = store.lines_at(mpc);
@@ -159,7 +166,27 @@ impl Clocked for Mic1 {
             source,
             sink,
         )?;
-        Ok((drive, computed))
+        self.last_a = drive.a;
+        self.last_b = drive.b;
+        Ok(false)
+    }
+
+    fn last_drive(&self) -> Drive {
+        if !self.latches.clocked {
+            return Drive::ZERO;
+        }
+        Drive {
+            a: self.last_a,
+            b: self.last_b,
+            stalled: false,
+        }
+    }
+
+    fn last_computed(&self) -> Computed {
+        if !self.latches.clocked {
+            return Computed::ZERO;
+        }
+        computed_of(self.latches.before, self.last_a, self.last_b)
     }
 
     fn registers(&self) -> Registers {
@@ -190,6 +217,14 @@ impl Clocked for Mic1 {
 
     fn mpc(&self) -> u16 {
         self.latches.mpc
+    }
+
+    fn sp(&self) -> u32 {
+        self.latches.places[3]
+    }
+
+    fn lv(&self) -> u32 {
+        self.latches.places[4]
     }
 
     ghost its_words = { refl };

@@ -30,4 +30,4 @@ returns c =
     (subst (λ (x : Latches). IsAtEdge x word c.args.lines.now c.args.value c.args.c) (sym same.0) c.requires)
     c.destinations.ensures.value c.ports-ports.ensures (c.of_bits-mem.ensures ∙ ap mem_of c.mem.ensures) c.fetch-fetch.ensures does.clear
     (λ left held. led_inside left held bus bus' does.console _ (λ w shows. does.access w shows.words)) does.others does.console
-    c.advance.ensures.latches c.advance.ensures.micro))
+    c.advance.ensures.latches c.advance.ensures.micro c.advance.ensures.last))

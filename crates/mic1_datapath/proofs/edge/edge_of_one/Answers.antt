@@ -19,7 +19,7 @@ returns-then-is_quiet c =
     tried c.args.word c.args.value c.args.c dests c.args.lines.now c.args.latches.now c.advance.new.self bus bus
     (ports_of (assigned dests c.args.c (micro_in c.args.latches.now))) mems.None false None None c.requires refl refl (sym quiet.0) (sym quiet.1) refl
     (λ left held. led_same left held bus _ (λ w shows. record { its_word = refl; its_byte = refl; after = refl })) (refl, λ a other. refl) refl
-    c.advance.ensures.latches c.advance.ensures.micro
+    c.advance.ensures.latches c.advance.ensures.micro c.advance.ensures.last
 
 -- a word that fetches a byte of the memory, and accesses nothing else
 
@@ -33,7 +33,7 @@ returns-then-has c =
     ports mems.None true does.result.word does.result.byte c.requires c.destinations-destinations.ensures.value refl
     (sym (c.transfers_nothing.ensures c.if-transfers_nothing.true)) (sym c.if-fetch.true ∙ c.fetch-fetch.ensures) (does.ensures.clear ports here)
     (λ left held. led_same left held bus _ (λ w shows. does.ensures.access ports here w shows.words)) (refl, λ a other. refl) refl
-    c.advance-then-has.ensures.latches c.advance-then-has.ensures.micro
+    c.advance-then-has.ensures.latches c.advance-then-has.ensures.micro c.advance-then-has.ensures.last
 
 -- a word that reads a word of the memory, and accesses nothing else
 
@@ -47,7 +47,7 @@ returns-then-is_read c =
     ports mems.Read false does.result.word does.result.byte c.requires c.destinations-destinations.ensures.value refl
     (sym (c.is_read.ensures c.if-is_read.true)) (sym c.if-fetch-2.false ∙ c.fetch-fetch.ensures) (does.ensures.clear ports here)
     (λ left held. led_same left held bus _ (λ w shows. does.ensures.access ports here w shows.words)) (refl, λ a other. refl) refl
-    c.advance-then-is_read.ensures.latches c.advance-then-is_read.ensures.micro
+    c.advance-then-is_read.ensures.latches c.advance-then-is_read.ensures.micro c.advance-then-is_read.ensures.last
 
 -- a word that writes a word of the memory, and accesses nothing else
 
@@ -63,4 +63,4 @@ returns c =
     (sym (c.is_write.ensures c.if-not-is_write.false)) (sym c.if-fetch-2.false ∙ c.fetch-fetch.ensures) (does.clear ports here)
     (λ left held. led_inside left held bus bus' does.console _ (λ w shows. does.access ports here (sym c.mdr_port-mdr.ensures) w shows.words))
     (subst (λ (a : ℕ). ChangesOnly a bus.words bus'.words) (sym here) does.others) does.console
-    c.advance-2.ensures.latches c.advance-2.ensures.micro
+    c.advance-2.ensures.latches c.advance-2.ensures.micro c.advance-2.ensures.last

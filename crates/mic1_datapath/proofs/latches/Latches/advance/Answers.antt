@@ -55,4 +55,5 @@ returns-clause-latches c =
       mbr = c.arrive_behind.ensures.byte (subst (λ (x : ℕ). x < 256) (sym mbr) old.mbr);
       signed = c.arrive_behind.ensures.mbr (was 9 (omega arith) (omega arith) ∙ old.signed ∙ ap signed_byte (sym mbr));
       nothing = c.arrive_behind.ensures.others 13 (omega arith) (omega arith) (omega arith) ∙ was 13 (omega arith) (omega arith) ∙ old.nothing;
+      before = c.requires.word;
     }
