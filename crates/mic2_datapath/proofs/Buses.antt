@@ -1,16 +1,19 @@
 -- What is on the buses, by the word that was set up.
-use Rattle.std.proofs.Common.{◌≡◌, ℕ, Bool, true, false, if◌then◌else◌, Option, None, refl, sym, ap, ◌∙◌}
+use Rattle.std.proofs.Common.{◌≡◌, ℕ, Bool, true, false, if◌then◌else◌, Option, None, refl, sym, ap, subst, ◌∙◌}
 use Rattle.mic_words.specs.declared.machine.Machine.TheVariants as machines
 use Rattle.micro_word.specs.Coding.{statement_of}
 use Rattle.micro_word.specs.Operation.{alu, shifted}
 use Rattle.micro_word.specs.declared.statement.BusSource.{BusSource}
 use Rattle.micro_word.specs.declared.statement.Placed.{Placed}
+use Rattle.mic_clock.specs.Run.{Buses}
 use Rattle.mic_clock.specs.declared.buses.Drive.{Drive}
 use Rattle.mic_clock.specs.declared.buses.Computed.{Computed}
 use Rattle.mic2_datapath.specs.Micro.{Micro}
 use Rattle.mic2_datapath.specs.Microstep.{is_stalled, result_of, source}
 use Rattle.mic2_datapath.specs.Mic2.{computed, computed_on, driven, flagged, stalled_drive, stalled_value, value_of}
 use Rattle.mic2_datapath.specs.Latches.{HasComputed}
+use Rattle.mic2_datapath.specs.View.{buses_by}
+use Rattle.mic2_datapath.specs.declared.mic2.Past.TheVariants as pasts
 
 module _ (s : Placed) (m : Micro) where
   -- both buses, in a stall or not
@@ -68,3 +71,45 @@ module _ (word : ℕ) (m : Micro) (d : Drive) (is : d ≡ driven word m) where
         alu = λ not. ap (λ (x : Computed). x.alu.value) (goes not);
         shifter = λ not. ap (λ (x : Computed). x.c) (goes not) ∙ sym (ap (λ (x : Computed). shifted s.part.shift x.alu.value) (goes not));
       }
+
+-- what is on the buses in a cycle of a word
+abbrev pub buses_there : ℕ → Micro → Buses
+buses_there word m = record { drive = driven word m; computed = computed word m }
+
+-- a cycle that stalls
+module _ (word : ℕ) (m : Micro) (waits : is_stalled (statement_of machines.Mic2 word) m ≡ true) where
+  pub at_stall : HasComputed (statement_of machines.Mic2 word) m true 0 0
+  at_stall = record { waits = sym waits; alu = λ is. absurd (cc); shifter = λ is. absurd (cc) }
+
+  pub buses_stalled : (word' : ℕ) → word ≡ word' → buses_by pasts.Stalled word 0 0 ≡ buses_there word' m
+  unfolding driven computed
+  buses_stalled word' same =
+      let s = statement_of machines.Mic2 word in
+      sym (ap (λ (b : Bool). record { drive = drive_if s m b; computed = value_if s m b }) waits) ∙ ap (λ (w : ℕ). buses_there w m) same
+
+-- any other, with this on its sides
+module _ (word : ℕ) (m : Micro) (a b : ℕ) (goes : is_stalled (statement_of machines.Mic2 word) m ≡ false)
+    (a_is : a ≡ source (statement_of machines.Mic2 word).part.a m) (b_is : b ≡ source (statement_of machines.Mic2 word).part.b m) where
+  abbrev the_statement : Placed
+  the_statement = statement_of machines.Mic2 word
+
+  pub nothing_on_side : the_statement.part.b ≡ None → b ≡ 0
+  nothing_on_side none = b_is ∙ ap (λ (o : Option BusSource). source o m) none
+
+  pub at_edge : (m' : Micro) → m' ≡ m → (value c : ℕ) → value ≡ alu the_statement.part.op a b → c ≡ shifted the_statement.part.shift value →
+      HasComputed the_statement m' false value c
+  at_edge m' stays value c value_is c_is =
+      subst (λ (n : Micro). HasComputed the_statement n false value c) (sym stays)
+      (record {
+        waits = sym goes;
+        alu = λ is. value_is ∙ (λ i. alu the_statement.part.op (a_is i) (b_is i));
+        shifter = λ is. c_is;
+      })
+
+  pub buses_clocked : (word' : ℕ) → word ≡ word' → buses_by pasts.Clocked word a b ≡ buses_there word' m
+  unfolding driven computed
+  buses_clocked word' same =
+      let s = the_statement in
+      (λ i. buses_by pasts.Clocked word (a_is i) (b_is i))
+      ∙ sym (ap (λ (x : Bool). record { drive = drive_if s m x; computed = value_if s m x }) goes)
+      ∙ ap (λ (w : ℕ). buses_there w m) same

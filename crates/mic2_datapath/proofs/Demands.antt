@@ -1,12 +1,14 @@
 -- The bytes that a statement demands, by what stands in its word.
-use Rattle.std.proofs.Common.{◌≡◌, ℕ, zero, suc, ◌+◌, ◌-◌, ◌/◌, ◌≤◌, ◌<◌, ◌^◌, ◌%◌, ◌==◌, ◌||◌, ◌&&◌, ◌≢◌, Bool, true, false, IsTrue, List, Option, Some, None, if◌then◌else◌, refl, ap, ◌∙◌, arith}
+use Rattle.std.proofs.Common.{◌≡◌, ℕ, zero, suc, ◌+◌, ◌-◌, ◌/◌, ◌≤◌, ◌<◌, ◌^◌, ◌%◌, ◌==◌, ◌||◌, ◌&&◌, ◌≢◌, Bool, true, false, IsTrue, List, Option, Some, None, if◌then◌else◌, refl, sym, ap, ◌∙◌, arith}
 use Rattle.std.specs.Prelude.{nat_lt}
 use Rattle.std.proofs.lemmas.Bool.Decides.{nat_tests}
 use Rattle.mic_words.specs.Arithmetic.{wrap}
 use Rattle.mic_words.specs.declared.machine.Machine.TheVariants.{Mic2}
 use Rattle.micro_word.specs.Words.{Valid, fits_side, is_byte, is_pair, may_be_b}
-use Rattle.micro_word.specs.Coding.{jam_bits, row}
+use Rattle.micro_word.specs.Coding.{jam_bits, mem_bits, row}
 use Rattle.micro_word.specs.Lines.{bytes_shown, bytes_taken, place_on_bus}
+use Rattle.micro_word.specs.declared.statement.Mem.{Mem}
+use Rattle.micro_word.specs.declared.statement.Mem.TheVariants as mems
 use Rattle.micro_word.specs.declared.statement.BusSource.{BusSource}
 use Rattle.micro_word.specs.declared.statement.BusSource.TheVariants as sources
 use Rattle.micro_word.specs.declared.statement.PlacedNext.{PlacedNext}
@@ -14,6 +16,7 @@ use Rattle.micro_word.specs.declared.statement.PlacedNext.TheVariants as nexts
 use Rattle.micro_word.specs.declared.statement.Test.TheVariants as tests
 use Rattle.mic_datapath.specs.Next.{next_address}
 use Rattle.micro_word.specs.declared.statement.Placed.{Placed}
+use Rattle.mic2_datapath.specs.Latches.{access_by}
 use Rattle.mic2_datapath.specs.Microstep.{advanced, demand, dispatch_bytes, unit_after, unit_samples}
 use Rattle.mic2_fetch_unit.specs.FetchUnit.{Prefetch, jump}
 
@@ -146,3 +149,9 @@ same_sample false pc pc' taken u h = refl
 pub same_unit : (jumps : Bool) (words : List ℕ) (pc pc' taken : ℕ) (u : Prefetch) → (jumps ≡ true → pc ≡ pc') → unit_after jumps words pc taken u ≡ unit_after jumps words pc' taken u
 same_unit true words pc pc' taken u h = ap (λ (x : ℕ). jump words x) (h refl)
 same_unit false words pc pc' taken u h = refl
+
+-- a canonical word that accesses memory reads, or else writes
+pub reads_or_writes : (m : Mem) (bits : ℕ) → bits ≡ mem_bits m → bits ≢ 0 → (reads : Bool) → reads ≡ (bits % 2 == 1) → m ≡ access_by reads
+reads_or_writes mems.None bits is some reads its = absurd (some is)
+reads_or_writes mems.Read bits is some reads its = sym (ap access_by (its ∙ ap (λ (x : ℕ). x % 2 == 1) is))
+reads_or_writes mems.Write bits is some reads its = sym (ap access_by (its ∙ ap (λ (x : ℕ). x % 2 == 1) is))

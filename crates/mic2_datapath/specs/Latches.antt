@@ -1,12 +1,14 @@
 -- What the latches of Mic-2 mean: the microstep's state, and what its buses carry between its calls.
-use Rattle.std.specs.Prelude.{◌≡◌, ℕ, ◌*◌, ◌+◌, ◌<◌, ◌≤◌, Bool, true, false, length, slice_index, Option, None, is_some}
+use Rattle.std.specs.Prelude.{◌≡◌, ℕ, ◌*◌, ◌+◌, ◌<◌, ◌≤◌, Bool, true, false, IsTrue, length, slice_index, Option, None, is_some}
 use Rattle.console_port.specs.View.{BusView}
 use Rattle.mic_words.specs.Arithmetic.{signed_byte, signed_pair}
 use Rattle.mic_words.specs.declared.machine.Machine.TheVariants.{Mic2}
-use Rattle.micro_word.specs.Coding.{mem_of}
+use Rattle.micro_word.specs.Coding.{mem_of, statement_of}
 use Rattle.micro_word.specs.Layout.{fields_of}
-use Rattle.micro_word.specs.Lines.{names}
+use Rattle.micro_word.specs.Lines.{AreLines, names}
 use Rattle.micro_word.specs.Operation.{shifted}
+use Rattle.micro_word.specs.Words.{is_canonical}
+use Rattle.micro_word.specs.declared.lines.Lines.{Lines}
 use Rattle.micro_word.specs.declared.lines.TheConstants.{NOTHING}
 use Rattle.micro_word.specs.declared.statement.Mem.{Mem}
 use Rattle.micro_word.specs.declared.statement.Mem.TheVariants as mems
@@ -18,7 +20,7 @@ use Rattle.mic_datapath.specs.Registers.{NineRegisters, loaded}
 use Rattle.mic_datapath.specs.declared.ports.Ports.{Ports}
 use Rattle.mic2_fetch_unit.specs.FetchUnit.{sample_refusal}
 use Rattle.mic2_datapath.specs.Micro.{Micro}
-use Rattle.mic2_datapath.specs.Microstep.{is_stalled, result_of, unit_samples}
+use Rattle.mic2_datapath.specs.Microstep.{demand, is_stalled, result_of, unit_samples}
 use Rattle.mic2_datapath.specs.declared.latches.Latches.{Latches}
 
 abbrev pub micro_in : Latches → Micro
@@ -43,6 +45,12 @@ micro_in l =
 pub record AreLatches (l : Latches) : Type 0 where
   pub mpc : l.mpc < 512
   pub nothing : slice_index l.places NOTHING ≡ 0
+
+-- a canonical word, with its control lines, which have the number of bytes of the queue that it demands
+pub record IsDecoded (word : ℕ) (lines : Lines) : Type 0 where
+  pub canonical : IsTrue (is_canonical Mic2 word)
+  pub decoded : AreLines Mic2 (fields_of Mic2 word) lines
+  pub demands : lines.takes ≡ demand (statement_of Mic2 word)
 
 -- the front of the queue stands on its places, as far as this many bytes of it are named
 pub record HasFront (operands : ℕ) (l : Latches) : Type 0 where

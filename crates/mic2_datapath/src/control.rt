@@ -1,19 +1,20 @@
 //! The word that is clocked.
 
-ghost use Rattle.std.specs.Prelude.{◌≡◌, ◌<◌, IsTrue, None, slice_index, true};
+ghost use Rattle.std.specs.Prelude.{◌≡◌, ◌≢◌, ◌<◌, IsTrue, None, slice_index, true, false};
 ghost use Rattle.mic_words.specs.declared.machine.Machine.TheVariants.{Mic2};
 ghost use Rattle.micro_word.specs.Words.{is_canonical};
-ghost use Rattle.micro_word.specs.Coding.{addr_bits, jam_bits, mem_of, shift_of, statement_of};
+ghost use Rattle.micro_word.specs.Coding.{addr_bits, jam_bits, mem_of, statement_of};
 ghost use Rattle.micro_word.specs.Layout.{fields_of};
 ghost use Rattle.micro_word.specs.Lines.{AreLines, AreSlots};
 ghost use Rattle.micro_word.specs.Operation.{alu, shifted};
 ghost use Rattle.mic_datapath.specs.Next.{next_address};
-ghost use Rattle.mic2_datapath.specs.Mic2.{computed_on, flagged};
+ghost use Rattle.mic2_datapath.specs.Latches.{IsDecoded, access_by};
+ghost use Rattle.mic2_datapath.specs.Mic2.{computed_on, flagged, value_of};
 ghost use Rattle.mic2_datapath.specs.Microstep.{demand};
 
 use mic_clock::{Computed, Drive};
 use mic_datapath::{next_address, operate, shift_by, side_law};
-use mic1_alu::AluOut;
+use mic1_alu::{AluOut, Controls, alu, each_row_computes};
 use micro_word::{Lines, Machine, Mem, Store, bits, fields2, statement_law, word_law};
 
 /// JMPC.
@@ -35,10 +36,39 @@ pub struct Control {
 /// The lower bit of the field SLL8 SRA1.
 const SHIFT: u64 = 0x200_0000;
 
+/// The word at an address, with its control lines.
+#[inline(always)]
+pub fn decoded_at(store: &Store, address: u16) -> (u64, &Lines)
+    requires machine { store.now.machine ≡ Mic2 }
+    requires address { address < 512 }
+    ensures word { result.0 ≡ slice_index store.now.words address }
+    ensures decoded { IsDecoded result.0 result.1.now }
+{
+    word_law(Machine::Mic2);
+    statement_law(Machine::Mic2);
+    let word = store.word(address);
+    let lines = store.lines_at(address);
+    (word, lines)
+}
+
+/// What leaves the ALU for the words on both sides.
+#[inline(always)]
+pub fn operate_for(word: u64, lines: &Lines, a: u32, b: u32) -> u32
+    requires decoded { IsDecoded word lines.now }
+    requires b { (statement_of Mic2 word).part.b ≡ None → b ≡ 0 }
+    ensures { result ≡ alu (statement_of Mic2 word).part.op a b }
+{
+    word_law(Machine::Mic2);
+    statement_law(Machine::Mic2);
+    side_law();
+    operate(bits::gates(Machine::Mic2, word), lines, a, b)
+}
+
 /// What the shifter puts on the C bus for a word.
 #[inline(always)]
+#[tactic(auto, unfolding(micro_word::specs::Coding::statement_of))]
 pub fn shift_for(word: u64, value: u32) -> u32
-    ensures { result ≡ shifted (shift_of (fields_of Mic2 word).shift) value }
+    ensures { result ≡ shifted (statement_of Mic2 word).part.shift value }
 {
     // Most words do not shift. The word itself shows it faster than its field does.
     let still = word / SHIFT % 4 == 0;
@@ -59,25 +89,43 @@ pub fn values_of(value: u32, c: u32) -> Computed
     Computed { alu, c }
 }
 
+/// A word's access of memory.
+#[inline(always)]
+#[tactic(auto, unfolding(micro_word::specs::Coding::statement_of))]
+pub fn mem_for(word: u64) -> Mem
+    ensures { result ≡ (statement_of Mic2 word).part.mem }
+{
+    Mem::of_bits(bits::mem(Machine::Mic2, word))
+}
+
 /// Whether a word accesses nothing.
 pub fn is_quiet(word: u64) -> bool
-    ensures { result ≡ true → mem_of (fields_of Mic2 word).mem ≡ Mem.None }
+    ensures quiet { result ≡ true → mem_of (fields_of Mic2 word).mem ≡ Mem.None }
+    ensures accesses { result ≡ false → (fields_of Mic2 word).mem ≢ 0 }
 {
     bits::mem(Machine::Mic2, word) == 0
 }
 
-/// Whether a word reads.
-pub fn is_read(word: u64) -> bool
-    ensures { result ≡ true → mem_of (fields_of Mic2 word).mem ≡ Mem.Read }
+/// Whether a word that accesses memory reads. Any other writes.
+pub fn reads(word: u64) -> bool
+    requires canonical { IsTrue (is_canonical Mic2 word) }
+    requires accesses { (fields_of Mic2 word).mem ≢ 0 }
+    ensures { mem_of (fields_of Mic2 word).mem ≡ access_by result }
 {
-    bits::mem(Machine::Mic2, word) == 1
+    word_law(Machine::Mic2);
+    bits::mem(Machine::Mic2, word) % 2 == 1
 }
 
-/// Whether a word writes.
-pub fn is_write(word: u64) -> bool
-    ensures { result ≡ true → mem_of (fields_of Mic2 word).mem ≡ Mem.Write }
+/// What left the ALU and the shifter for a word with this on its sides.
+pub fn computed_of(word: u64, a: u32, b: u32) -> Computed
+    requires { IsTrue (is_canonical Mic2 word) }
+    ensures { result ≡ value_of (statement_of Mic2 word) (alu (statement_of Mic2 word).part.op a b) }
 {
-    bits::mem(Machine::Mic2, word) == 2
+    word_law(Machine::Mic2);
+    each_row_computes();
+    let controls = Controls::from_bits(bits::gates(Machine::Mic2, word));
+    let value = alu(controls, a, b).value;
+    values_of(value, shift_for(word, value))
 }
 
 impl Control {
@@ -87,12 +135,17 @@ impl Control {
         requires address { address < 512 }
         ensures { result.word ≡ slice_index store.now.words address }
     {
-        word_law(Machine::Mic2);
-        statement_law(Machine::Mic2);
-        let word = store.word(address);
-        let lines = store.lines(address);
-        Control { word, lines }
+        let (word, lines) = decoded_at(store, address);
+        Control {
+            word,
+            lines: *lines,
+        }
     }
+
+    /// Its word, with its control lines.
+    pub fn is_decoded(&self)
+        ensures { IsDecoded self.now.word self.now.lines }
+    {}
 
     /// What leaves the ALU for the words on both sides.
     #[inline(always)]
@@ -100,15 +153,12 @@ impl Control {
         requires { (statement_of Mic2 self.now.word).part.b ≡ None → b ≡ 0 }
         ensures { result ≡ alu (statement_of Mic2 self.now.word).part.op a b }
     {
-        word_law(Machine::Mic2);
-        statement_law(Machine::Mic2);
-        side_law();
-        operate(bits::gates(Machine::Mic2, self.word), &self.lines, a, b)
+        self.is_decoded();
+        operate_for(self.word, &self.lines, a, b)
     }
 
     /// What the shifter puts on the C bus.
     #[inline(always)]
-    #[tactic(auto, unfolding(micro_word::specs::Coding::statement_of))]
     pub fn shift(&self, value: u32) -> u32
         ensures { result ≡ shifted (statement_of Mic2 self.now.word).part.shift value }
     {
@@ -141,11 +191,10 @@ impl Control {
 
     /// Its access of memory.
     #[inline(always)]
-    #[tactic(auto, unfolding(micro_word::specs::Coding::statement_of))]
     pub fn mem(&self) -> Mem
         ensures { result ≡ (statement_of Mic2 self.now.word).part.mem }
     {
-        Mem::of_bits(bits::mem(Machine::Mic2, self.word))
+        mem_for(self.word)
     }
 
     /// JMPC JAMN JAMZ

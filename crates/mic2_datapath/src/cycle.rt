@@ -1,39 +1,51 @@
 //! A cycle over the latches and what is on the buses.
 
-ghost use Rattle.std.specs.Prelude.{◌≡◌};
+ghost use Rattle.std.specs.Prelude.{◌≡◌, ◌≤◌, false, length};
 ghost use Rattle.console_port.specs.Streams.{StreamsGoOn};
+ghost use Rattle.mic_words.specs.declared.machine.Machine.TheVariants.{Mic2};
+ghost use Rattle.micro_word.specs.Coding.{statement_of};
 ghost use Rattle.mic_clock.specs.Edge.{IsEdgeOver};
-ghost use Rattle.mic2_datapath.specs.Latches.{AreLatches, HasComputed, micro_in};
+ghost use Rattle.mic2_datapath.specs.Latches.{AreLatches, HasComputed, IsDecoded, micro_in};
 ghost use Rattle.mic2_datapath.specs.Mic2.{driven, mic2_meaning};
-ghost use Rattle.mic2_datapath.specs.Spelled.{spelled};
+ghost use Rattle.mic2_datapath.specs.Microstep.{is_stalled};
 
 use crate::accesses::access;
-use crate::control::{Control, is_quiet};
+use crate::control::{is_quiet, mem_for};
 use crate::latches::{Latches, Operands, PC};
 use console_port::{Bus, BusFault};
 use mic_base::{Sink, Source};
 use mic_clock::Drive;
 use mic_datapath::console_law;
-use micro_word::is_named;
+use micro_word::{Lines, Machine, bits, is_named};
 
 impl Latches {
+    /// Whether too few bytes are available for a word.
+    #[inline(always)]
+    pub fn waits(&self, _word: u64, lines: &Lines) -> bool
+        requires { IsDecoded _word lines.now }
+        ensures stalled { result ≡ is_stalled (statement_of Mic2 _word) (micro_in self.now) }
+        ensures there { result ≡ false → lines.now.takes ≤ length self.now.unit.bytes }
+    {
+        self.unit.have() < lines.takes
+    }
+
     /// Drives the operand buses for a word, unless too few bytes are available for it.
     #[inline(always)]
-    pub fn drive(&mut self, control: &Control) -> Drive
-        requires { AreLatches self.old }
+    pub fn drive(&mut self, word: u64, lines: &Lines) -> Drive
+        requires latches { AreLatches self.old }
+        requires decoded { IsDecoded word lines.now }
         ensures latches { AreLatches self.new }
         ensures micro { micro_in self.new ≡ micro_in self.old }
-        ensures value { result ≡ driven control.now.word (micro_in self.old) }
+        ensures value { result ≡ driven word (micro_in self.old) }
     {
-        let stalled = self.unit.have() < control.lines.takes;
-        if stalled {
+        if self.waits(word, lines) {
             return Drive {
                 a: 0,
                 b: 0,
                 stalled: true,
             };
         }
-        let Operands { a, b } = self.operands(control);
+        let Operands { a, b } = self.operands(word, lines);
         Drive {
             a,
             b,
@@ -45,7 +57,8 @@ impl Latches {
     #[cold]
     fn any_edge<S: Source, K: Sink>(
         &mut self,
-        control: &Control,
+        word: u64,
+        lines: &Lines,
         stalled: bool,
         value: u32,
         c: u32,
@@ -54,9 +67,10 @@ impl Latches {
         sink: &mut K,
     ) -> Result<(), BusFault>
         requires latches { AreLatches self.old }
-        requires computed { HasComputed (spelled control.now) (micro_in self.old) stalled value c }
+        requires decoded { IsDecoded word lines.now }
+        requires computed { HasComputed (statement_of Mic2 word) (micro_in self.old) stalled value c }
         ensures latches { AreLatches self.new }
-        ensures edge { IsEdgeOver mic2_meaning S.left K.held control.now.word (micro_in self.old)
+        ensures edge { IsEdgeOver mic2_meaning S.left K.held word (micro_in self.old)
             bus.old source.old sink.old (micro_in self.new) bus.new source.new sink.new result }
         ensures streams { StreamsGoOn S.left S.faults K.held K.passed K.faults bus.old source.old sink.old
             bus.new source.new sink.new result }
@@ -65,13 +79,13 @@ impl Latches {
         if stalled {
             return self.stall(bus);
         }
-        let takes = control.lines.takes;
-        let destinations = control.destinations();
+        let takes = lines.takes;
+        let destinations = bits::destinations(Machine::Mic2, word);
         let ports = self.ports(destinations, c, takes);
         let at = self.will_fetch(is_named(destinations, PC), ports.pc, takes);
-        let sampled = access(control.mem(), at, &ports, bus, source, sink)?;
+        let sampled = access(mem_for(word), at, &ports, bus, source, sink)?;
         // What the fetch unit samples was tested before the access.
-        let _ = self.advance(control, value, c, sampled, bus);
+        let _ = self.advance(word, lines, value, c, sampled, bus);
         Ok(())
     }
 
@@ -79,7 +93,8 @@ impl Latches {
     #[inline(always)]
     fn rare_edge<S: Source, K: Sink>(
         &mut self,
-        control: &Control,
+        word: u64,
+        lines: &Lines,
         stalled: bool,
         value: u32,
         c: u32,
@@ -88,14 +103,15 @@ impl Latches {
         sink: &mut K,
     ) -> Result<(), BusFault>
         requires latches { AreLatches self.old }
-        requires computed { HasComputed (spelled control.now) (micro_in self.old) stalled value c }
+        requires decoded { IsDecoded word lines.now }
+        requires computed { HasComputed (statement_of Mic2 word) (micro_in self.old) stalled value c }
         ensures latches { AreLatches self.new }
-        ensures edge { IsEdgeOver mic2_meaning S.left K.held control.now.word (micro_in self.old)
+        ensures edge { IsEdgeOver mic2_meaning S.left K.held word (micro_in self.old)
             bus.old source.old sink.old (micro_in self.new) bus.new source.new sink.new result }
         ensures streams { StreamsGoOn S.left S.faults K.held K.passed K.faults bus.old source.old sink.old
             bus.new source.new sink.new result }
     {
-        self.any_edge(control, stalled, value, c, bus, source, sink)?;
+        self.any_edge(word, lines, stalled, value, c, bus, source, sink)?;
         Ok(())
     }
 
@@ -103,7 +119,8 @@ impl Latches {
     #[inline(always)]
     pub fn edge<S: Source, K: Sink>(
         &mut self,
-        control: &Control,
+        word: u64,
+        lines: &Lines,
         stalled: bool,
         value: u32,
         c: u32,
@@ -112,22 +129,23 @@ impl Latches {
         sink: &mut K,
     ) -> Result<(), BusFault>
         requires latches { AreLatches self.old }
-        requires computed { HasComputed (spelled control.now) (micro_in self.old) stalled value c }
+        requires decoded { IsDecoded word lines.now }
+        requires computed { HasComputed (statement_of Mic2 word) (micro_in self.old) stalled value c }
         ensures latches { AreLatches self.new }
-        ensures edge { IsEdgeOver mic2_meaning S.left K.held control.now.word (micro_in self.old)
+        ensures edge { IsEdgeOver mic2_meaning S.left K.held word (micro_in self.old)
             bus.old source.old sink.old (micro_in self.new) bus.new source.new sink.new result }
         ensures streams { StreamsGoOn S.left S.faults K.held K.passed K.faults bus.old source.old sink.old
             bus.new source.new sink.new result }
     {
         if !stalled {
             // Most words access nothing, and most others what is in memory.
-            if is_quiet(control.word) {
-                return self.advance(control, value, c, None, bus);
+            if is_quiet(word) {
+                return self.advance(word, lines, value, c, None, bus);
             }
-            if let Some(sampled) = self.access_inside(control.word, c, control.lines.takes, bus) {
-                return self.advance(control, value, c, sampled, bus);
+            if let Some(sampled) = self.access_inside(word, c, lines.takes, bus) {
+                return self.advance(word, lines, value, c, sampled, bus);
             }
         }
-        self.rare_edge(control, stalled, value, c, bus, source, sink)
+        self.rare_edge(word, lines, stalled, value, c, bus, source, sink)
     }
 }

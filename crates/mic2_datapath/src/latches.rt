@@ -2,9 +2,11 @@
 
 ghost use Rattle.std.specs.Prelude.{◌≡◌, ◌≢◌, ◌≤◌, ◌<◌, ◌*◌, ◌+◌, ℕ, None, OnOk, OnErr, IfNone, IfSome, IsTrue, length, slice_index, true};
 ghost use Rattle.mic_words.specs.Arithmetic.{signed_byte, signed_pair};
+ghost use Rattle.mic_words.specs.declared.machine.Machine.TheVariants.{Mic2};
 ghost use Rattle.micro_word.specs.declared.statement.PlacedNext.{PlacedNext};
-ghost use Rattle.micro_word.specs.Coding.{addr_bits, jam_bits};
-ghost use Rattle.micro_word.specs.Words.{is_next};
+ghost use Rattle.micro_word.specs.Coding.{addr_bits, jam_bits, statement_of};
+ghost use Rattle.micro_word.specs.Layout.{fields_of};
+ghost use Rattle.micro_word.specs.Words.{is_canonical, is_next};
 ghost use Rattle.micro_word.specs.Lines.{AreSlots};
 ghost use Rattle.micro_word.specs.Operation.{shifted};
 ghost use Rattle.console_port.specs.Bus.{ChangesOnly, FailsAsRefused};
@@ -14,11 +16,10 @@ ghost use Rattle.mic_datapath.specs.Registers.{loaded, ports_given};
 ghost use Rattle.mic2_fetch_unit.specs.FetchUnit.{edge_refusal, sample_refusal};
 ghost use Rattle.mic2_datapath.specs.Mic2.{initial as initial_of};
 ghost use Rattle.mic2_datapath.specs.Microstep.{HasUnitEdge, advanced, byte_at, dispatch_bytes, is_to_instruction, moved_on, past, result_of, source, stalled, unit_refusal, unit_refused, unit_samples};
-ghost use Rattle.mic2_datapath.specs.Latches.{AreLatches, HasFront, IsInside, loaded_in, micro_in};
-ghost use Rattle.mic2_datapath.specs.Spelled.{spelled};
+ghost use Rattle.mic2_datapath.specs.Latches.{AreLatches, HasFront, IsDecoded, IsInside, loaded_in, micro_in};
 
 use crate::accesses::is_there;
-use crate::control::{Control, JMPC, is_read, is_write};
+use crate::control::{JMPC, reads};
 use console_port::{Bus, BusFault};
 use mic_clock::Start;
 use mic_datapath::{
@@ -201,20 +202,21 @@ impl Latches {
 
     /// What is on both sides of a word that finds the bytes that it takes.
     #[inline(always)]
-    pub fn operands(&mut self, control: &Control) -> Operands
+    pub fn operands(&mut self, _word: u64, lines: &Lines) -> Operands
         requires latches { AreLatches self.old }
-        requires there { control.now.lines.takes ≤ length self.old.unit.bytes }
+        requires decoded { IsDecoded _word lines.now }
+        requires there { lines.now.takes ≤ length self.old.unit.bytes }
         ensures latches { AreLatches self.new }
         ensures micro { micro_in self.new ≡ micro_in self.old }
-        ensures a { result.a ≡ source (spelled control.now).part.a (micro_in self.old) }
-        ensures b { result.b ≡ source (spelled control.now).part.b (micro_in self.old) }
+        ensures a { result.a ≡ source (statement_of Mic2 _word).part.a (micro_in self.old) }
+        ensures b { result.b ≡ source (statement_of Mic2 _word).part.b (micro_in self.old) }
     {
         word_law(Machine::Mic2);
         statement_law(Machine::Mic2);
-        self.show_front(control.lines.takes);
+        self.show_front(lines.takes);
         Operands {
-            a: self.places[control.lines.a as usize],
-            b: self.places[control.lines.b as usize],
+            a: self.places[lines.a as usize],
+            b: self.places[lines.b as usize],
         }
     }
 
@@ -274,10 +276,12 @@ impl Latches {
         self.unit.is_full(taken) || is_there(self.unit.will_fetch(taken), bus)
     }
 
-    /// The read or the write of a word where it reaches only memory, and what a read samples; else nothing is done.
+    /// The access of a word that has one, where it reaches only memory, and what a read samples; else nothing is done.
     #[inline(always)]
     pub fn access_inside(&self, word: u64, c: u32, taken: u8, bus: &mut Bus) -> Option<Option<u32>>
-        requires { taken ≤ length self.now.unit.bytes }
+        requires canonical { IsTrue (is_canonical Mic2 word) }
+        requires accesses { (fields_of Mic2 word).mem ≢ 0 }
+        requires there { taken ≤ length self.now.unit.bytes }
         ensures inside { IfSome result (IsInside word c taken self.now bus.old bus.new) }
         ensures none { IfNone result (bus.new ≡ bus.old) }
         ensures others { ChangesOnly (loaded_in word c self.now).mar bus.old.words bus.new.words }
@@ -288,13 +292,12 @@ impl Latches {
         if !bus.has(mar) {
             return None;
         }
-        if is_read(word) {
+        if reads(word) {
             let sampled = read_alone(mar, bus);
             return Some(sampled.word);
         }
         let jumps = is_named(destinations, PC);
-        let inside = is_write(word) && self.samples_memory(jumps, c, taken, bus);
-        if !inside {
+        if !self.samples_memory(jumps, c, taken, bus) {
             return None;
         }
         let mdr = self.mdr_port(destinations, c);
@@ -342,43 +345,39 @@ impl Latches {
         straight_on(jam, addr, value)
     }
 
-    /// The edge of a cycle that does not stall, after its accesses, with this word under way. An Err leaves all as is.
+    /// The edge of a cycle that does not stall, after its accesses, with what they read under way. An Err leaves all as is.
     #[inline(always)]
     pub fn advance(
         &mut self,
-        control: &Control,
+        word: u64,
+        lines: &Lines,
         value: u32,
         c: u32,
-        word: Option<u32>,
+        sampled: Option<u32>,
         bus: &Bus,
     ) -> Result<(), BusFault>
         requires latches { AreLatches self.old }
-        requires there { control.now.lines.takes ≤ length self.old.unit.bytes }
-        requires value { value ≡ result_of (spelled control.now).part (micro_in self.old) }
-        requires c { c ≡ shifted (spelled control.now).part.shift value }
+        requires decoded { IsDecoded word lines.now }
+        requires there { lines.now.takes ≤ length self.old.unit.bytes }
+        requires value { value ≡ result_of (statement_of Mic2 word).part (micro_in self.old) }
+        requires c { c ≡ shifted (statement_of Mic2 word).part.shift value }
         ensures latches { AreLatches self.new }
-        ensures ok { OnOk result (micro_in self.new ≡ moved_on (spelled control.now) (micro_in self.old) value bus.now.words word) }
-        ensures allowed { OnOk result (unit_refused (length bus.now.words) (spelled control.now) (micro_in self.old) ≡ None) }
-        ensures err { FailsAsRefused (unit_refused (length bus.now.words) (spelled control.now) (micro_in self.old)) result }
+        ensures ok { OnOk result (micro_in self.new ≡ moved_on (statement_of Mic2 word) (micro_in self.old) value bus.now.words sampled) }
+        ensures allowed { OnOk result (unit_refused (length bus.now.words) (statement_of Mic2 word) (micro_in self.old) ≡ None) }
+        ensures err { FailsAsRefused (unit_refused (length bus.now.words) (statement_of Mic2 word) (micro_in self.old)) result }
         ensures state { OnErr result (micro_in self.new ≡ micro_in self.old) }
     {
         word_law(Machine::Mic2);
         statement_law(Machine::Mic2);
-        let destinations = bits::destinations(Machine::Mic2, control.word);
-        let jam = bits::jam(Machine::Mic2, control.word);
-        let next = self.goes_on(jam, control.lines.addr, control.lines.takes, value);
+        let destinations = bits::destinations(Machine::Mic2, word);
+        let jam = bits::jam(Machine::Mic2, word);
+        let takes = lines.takes;
+        let next = self.goes_on(jam, lines.addr, takes, value);
         let jumps = is_named(destinations, PC);
-        go(jumps, c, control.lines.takes, bus, &mut self.unit)?;
-        load(
-            destinations,
-            &control.lines,
-            c,
-            control.lines.takes,
-            self.word,
-            &mut self.places,
-        );
+        go(jumps, c, takes, bus, &mut self.unit)?;
+        load(destinations, lines, c, takes, self.word, &mut self.places);
         self.mpc = next.mpc;
-        self.word = word;
+        self.word = sampled;
         self.begins = next.begins;
         Ok(())
     }

@@ -1,19 +1,31 @@
 //! The machine: its four calls, which are the book's subcycles.
 
-ghost use Rattle.std.specs.Prelude.{◌≡◌, refl};
+ghost use Rattle.std.specs.Prelude.{◌≡◌, IsTrue, refl};
+ghost use Rattle.mic_words.specs.declared.machine.Machine.TheVariants.{Mic2 as Mic2Machine};
+ghost use Rattle.micro_word.specs.Words.{is_canonical};
 ghost use Rattle.mic_clock.specs.Meaning.{Driven, AtEdge};
 ghost use Rattle.mic_datapath.specs.Stage.{phase_of};
 ghost use Rattle.mic2_datapath.specs.Latches.{AreLatches, HasComputed, micro_in};
 ghost use Rattle.mic2_datapath.specs.Mic2.{driven};
 ghost use Rattle.mic2_datapath.specs.Spelled.{spelled};
+ghost use Rattle.mic2_datapath.specs.declared.mic2.Past.TheVariants.{Clocked as WasClocked};
 
-use crate::control::{Control, values_of};
-use crate::latches::Latches;
+use crate::control::{Control, computed_of, decoded_at, operate_for, shift_for};
+use crate::latches::{Latches, Operands};
 use console_port::{Bus, BusFault};
 use mic_base::{Sink, Source};
 use mic_clock::{Clocked, Computed, Drive, Registers, Start, Tail};
 use mic_datapath::Stage;
 use micro_word::{Machine, Store, Word2};
+
+/// What the cycle that `clock` did last was.
+#[derive(Clone, Copy, Debug, PartialEq, Eq)]
+enum Past {
+    /// There was none since the reset.
+    Nothing,
+    Stalled,
+    Clocked,
+}
 
 /// Mic-2.
 #[derive(Drop)]
@@ -26,10 +38,16 @@ pub struct Mic2 {
     /// What leaves the ALU and the shifter.
     values: Computed,
     latches: Latches,
+    past: Past,
+    /// The word of the last clocked cycle that did not stall, and what was on its sides.
+    last_word: u64,
+    last_a: u32,
+    last_b: u32,
     ghost kept: { AreLatches latches },
     ghost drove: { phase_of stage ≡ Driven → buses ≡ driven control.word (micro_in latches) },
     ghost computed: { phase_of stage ≡ AtEdge →
         HasComputed (spelled control) (micro_in latches) buses.stalled values.alu.value values.c },
+    ghost last: { past ≡ WasClocked → IsTrue (is_canonical Mic2Machine last_word) },
 }
 
 impl Mic2 {
@@ -52,6 +70,10 @@ impl Mic2 {
             control: Control::idle(),
             buses: Drive::ZERO,
             values: Computed::ZERO,
+            past: Past::Nothing,
+            last_word: 0,
+            last_a: 0,
+            last_b: 0,
         }
     }
 }
@@ -59,7 +81,7 @@ impl Mic2 {
 impl Clocked for Mic2 {
     ghost use Rattle.mic2_datapath.specs.Micro.{Micro};
     ghost use Rattle.mic2_datapath.specs.Mic2.{mic2_meaning, IsReady as IsReadyAt};
-    ghost use Rattle.mic2_datapath.specs.View.{micro_of, phase, microinstruction_of};
+    ghost use Rattle.mic2_datapath.specs.View.{micro_of, phase, microinstruction_of, seen};
 
     type Word = Word2;
 
@@ -75,6 +97,8 @@ impl Clocked for Mic2 {
 
     ghost word = { microinstruction_of };
 
+    ghost seen = { seen };
+
     fn machine(&self) -> Machine {
         Machine::Mic2
     }
@@ -82,6 +106,7 @@ impl Clocked for Mic2 {
     fn reset(&mut self, start: &Start) {
         self.stage = Stage::Setup;
         self.latches = Latches::initial(start);
+        self.past = Past::Nothing;
     }
 
     #[inline(always)]
@@ -92,7 +117,8 @@ impl Clocked for Mic2 {
 
     #[inline(always)]
     fn drive(&mut self) -> Drive {
-        let buses = self.latches.drive(&self.control);
+        self.control.is_decoded();
+        let buses = self.latches.drive(self.control.word, &self.control.lines);
         self.buses = buses;
         self.stage = Stage::Compute;
         buses
@@ -114,8 +140,10 @@ impl Clocked for Mic2 {
         sink: &mut K,
     ) -> Result<(), BusFault> {
         self.stage = Stage::Setup;
+        self.control.is_decoded();
         self.latches.edge(
-            &self.control,
+            self.control.word,
+            &self.control.lines,
             self.buses.stalled,
             self.values.alu.value,
             self.values.c,
@@ -132,19 +160,47 @@ impl Clocked for Mic2 {
         bus: &mut Bus,
         source: &mut S,
         sink: &mut K,
-    ) -> Result<(Drive, Computed), BusFault> {
-        let control = Control::of(store, self.latches.mpc);
-        let drive = self.latches.drive(&control);
-        if drive.stalled {
-            self.latches.edge(&control, true, 0, 0, bus, source, sink)?;
-            return Ok((drive, Computed::ZERO));
+    ) -> Result<bool, BusFault> {
+        let (word, lines) = decoded_at(store, self.latches.mpc);
+        if self.latches.waits(word, lines) {
+            self.latches
+                .edge(word, lines, true, 0, 0, bus, source, sink)?;
+            self.past = Past::Stalled;
+            return Ok(true);
         }
-        let value = control.operate(drive.a, drive.b);
-        let c = control.shift(value);
+        let Operands { a, b } = self.latches.operands(word, lines);
+        let value = operate_for(word, lines, a, b);
+        let c = shift_for(word, value);
         self.latches
-            .edge(&control, false, value, c, bus, source, sink)?;
-        // N and Z after the edge, so that nothing keeps them over it.
-        Ok((drive, values_of(value, c)))
+            .edge(word, lines, false, value, c, bus, source, sink)?;
+        self.past = Past::Clocked;
+        self.last_word = word;
+        self.last_a = a;
+        self.last_b = b;
+        Ok(false)
+    }
+
+    fn last_drive(&self) -> Drive {
+        match self.past {
+            Past::Nothing => Drive::ZERO,
+            Past::Stalled => Drive {
+                a: 0,
+                b: 0,
+                stalled: true,
+            },
+            Past::Clocked => Drive {
+                a: self.last_a,
+                b: self.last_b,
+                stalled: false,
+            },
+        }
+    }
+
+    fn last_computed(&self) -> Computed {
+        match self.past {
+            Past::Nothing | Past::Stalled => Computed::ZERO,
+            Past::Clocked => computed_of(self.last_word, self.last_a, self.last_b),
+        }
     }
 
     #[inline(always)]
@@ -178,6 +234,14 @@ impl Clocked for Mic2 {
 
     fn mpc(&self) -> u16 {
         self.latches.mpc
+    }
+
+    fn sp(&self) -> u32 {
+        self.latches.places[3]
+    }
+
+    fn lv(&self) -> u32 {
+        self.latches.places[4]
     }
 
     ghost its_words = { refl };

@@ -11,15 +11,15 @@ use Rattle.mic2_datapath.specs.Latches.{access_by}
 use Rattle.mic2_datapath.proofs.Inside.{first_clear}
 use Rattle.mic2_datapath.proofs.latches.Latches.access_inside.Goals as goal
 
-pub returns-then-is_read-clause-inside : goal.returns-then-is_read-clause-inside
-returns-then-is_read-clause-inside c =
+pub returns-then-reads-clause-inside : goal.returns-then-reads-clause-inside
+returns-then-reads-clause-inside c =
     let l = c.args.self.now in
     let bus = c.args.bus.now in
     let read = c.read_alone-sampled.result.word in
     let some : is_some read ≡ true = c.read_alone-sampled.ensures.word in
     let at = c.mar_port-mar.ensures ∙ ap (λ (d : ℕ). (loaded d c.args.c l.word (registers_at l.places)).mar) c.destinations-destinations.ensures.value in
     record {
-      accesses = c.is_read.ensures c.if-is_read.true ∙ sym (ap access_by some);
+      accesses = c.reads.ensures ∙ ap access_by (c.if-reads.true ∙ sym some);
       clear =
           (λ i. memory_refusal (length bus.words) (access_by (some i)) (sym at i))
           ∙ first_clear _ _ (c.read_alone-sampled.ensures.clear (ports_with c.mar_port-mar.result 0 0) refl);
@@ -39,7 +39,7 @@ returns-clause-inside c =
     let mar_is = c.mar_port-mar.ensures ∙ ap (λ (d : ℕ). (loaded d c.args.c l.word (registers_at l.places)).mar) c.destinations-destinations.ensures.value in
     let mdr_is = c.mdr_port-mdr.ensures ∙ ap (λ (d : ℕ). (loaded d c.args.c l.word (registers_at l.places)).mdr) c.destinations-destinations.ensures.value in
     record {
-      accesses = grind (arith, common_steps);
+      accesses = c.reads.ensures ∙ ap access_by c.if-reads.false;
       clear = (λ i. memory_refusal n mems.Write (sym mar_is i)) ∙ first_clear _ _ (c.write_alone.ensures.clear (ports_with c.mar_port-mar.result 0 0) refl);
       transfer = λ p mar mdr w words.
           let a = c.write_alone.ensures.access p (mar ∙ sym mar_is) (mdr ∙ sym mdr_is) w words in

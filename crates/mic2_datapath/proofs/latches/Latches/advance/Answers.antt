@@ -16,27 +16,25 @@ use Rattle.mic2_datapath.proofs.latches.Latches.advance.Goals as goal
 pub goes_on-next-requires-clause-some : goal.goes_on-next-requires-clause-some
 unfolding statement_of
 goes_on-next-requires-clause-some c =
-    let control = c.args.control.now in
-    let s = statement_of machines.Mic2 control.word in
-    let spelled = c.word_law.ensures.spells control.word control.canonical in
+    let s = statement_of machines.Mic2 c.args.word in
+    let spelled = c.word_law.ensures.spells c.args.word c.requires.decoded.canonical in
     let jam = c.jam-jam.ensures.value ∙ ap (λ (f : Fields). f.jam) spelled.fields in
-    λ is. subst (λ (n : ℕ). 1 ≤ n) (sym control.demands) (dispatch_takes s.next (operand_bytes s.part) (sym jam ∙ is))
+    λ is. subst (λ (n : ℕ). 1 ≤ n) (sym c.requires.decoded.demands) (dispatch_takes s.next (operand_bytes s.part) (sym jam ∙ is))
 
 pub returns-clause-ok : goal.returns-clause-ok
 unfolding statement_of
 returns-clause-ok c =
-    let control = c.args.control.now in
-    let s = statement_of machines.Mic2 control.word in
+    let s = statement_of machines.Mic2 c.args.word in
     let m = micro_in c.args.self.now in
-    let spelled = c.word_law.ensures.spells control.word control.canonical in
+    let spelled = c.word_law.ensures.spells c.args.word c.requires.decoded.canonical in
     let valid = c.statement_law.ensures.conditions s spelled.valid in
     let v : c.args.c ≡ shifted s.part.shift (result_of s.part m) = c.requires.c ∙ ap (λ (x : ℕ). shifted s.part.shift x) c.requires.value in
     let became : registers_at c.load.new.places ≡ settled s m =
     c.load.ensures.registers
-    ∙ (λ i. loaded (c.destinations-destinations.ensures.value i) (v i) m.word (record (registers_in m) { pc = advanced (control.demands i) m.pc })) in
+    ∙ (λ i. loaded (c.destinations-destinations.ensures.value i) (v i) m.word (record (registers_in m) { pc = advanced (c.requires.decoded.demands i) m.pc })) in
     let jump : c.is_named-jumps.result ≡ jumps s.part = c.is_named-jumps.ensures ∙ ap (λ (d : ℕ). names d 2) c.destinations-destinations.ensures.value in
-    let unit = c.in_ok-go.ensures.ok ∙ unit_there s m c.args.bus.now.words c.args.c control.lines.takes c.is_named-jumps.result jump control.demands v in
-    let addr = control.decoded.addr ∙ ap (λ (f : Fields). f.addr) spelled.fields in
+    let unit = c.in_ok-go.ensures.ok ∙ unit_there s m c.args.bus.now.words c.args.c c.args.lines.now.takes c.is_named-jumps.result jump c.requires.decoded.demands v in
+    let addr = c.requires.decoded.decoded.addr ∙ ap (λ (f : Fields). f.addr) spelled.fields in
     let jam = c.jam-jam.ensures.value ∙ ap (λ (f : Fields). f.jam) spelled.fields in
     λ i. record {
       mar = (became i).mar;
@@ -48,8 +46,8 @@ returns-clause-ok c =
       tos = (became i).tos;
       opc = (became i).opc;
       h = (became i).h;
-      mpc = c.goes_on-next.ensures.mpc s.next (operand_bytes s.part) valid.next addr jam control.demands i;
-      word = c.args.word;
+      mpc = c.goes_on-next.ensures.mpc s.next (operand_bytes s.part) valid.next addr jam c.requires.decoded.demands i;
+      word = c.args.sampled;
       unit = unit i;
       begins = c.goes_on-next.ensures.begins s.next jam addr i;
     }
@@ -57,10 +55,9 @@ returns-clause-ok c =
 pub returns-clause-allowed : goal.returns-clause-allowed
 unfolding statement_of
 returns-clause-allowed c =
-    let control = c.args.control.now in
-    let s = statement_of machines.Mic2 control.word in
+    let s = statement_of machines.Mic2 c.args.word in
     let m = micro_in c.args.self.now in
     let v : c.args.c ≡ shifted s.part.shift (result_of s.part m) = c.requires.c ∙ ap (λ (x : ℕ). shifted s.part.shift x) c.requires.value in
     let jump : c.is_named-jumps.result ≡ jumps s.part = c.is_named-jumps.ensures ∙ ap (λ (d : ℕ). names d 2) c.destinations-destinations.ensures.value in
-    let same = sampled_there s m c.args.c control.lines.takes c.is_named-jumps.result jump control.demands v in
+    let same = sampled_there s m c.args.c c.args.lines.now.takes c.is_named-jumps.result jump c.requires.decoded.demands v in
     ap (λ (at : Option ℕ). sample_refusal (length c.args.bus.now.words) at) (sym same) ∙ c.in_ok-go.ensures.allowed

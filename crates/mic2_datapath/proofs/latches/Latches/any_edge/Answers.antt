@@ -17,7 +17,7 @@ pub returns-then-stalled-clause-edge : goal.returns-then-stalled-clause-edge
 returns-then-stalled-clause-edge g c =
     record {
       edge =
-          stall_edge c.args.control.now.word (micro_in c.args.self.now) _ _ c.args.bus.now (sym c.requires.computed.waits ∙ c.if-stalled.true) _ _
+          stall_edge c.args.word (micro_in c.args.self.now) _ _ c.args.bus.now (sym c.requires.computed.waits ∙ c.if-stalled.true) _ _
           c.stall.ensures.ok c.stall.ensures.allowed c.stall.ensures.state c.stall.ensures.err;
       waits = λ room. inl refl;
     }
@@ -28,38 +28,36 @@ returns-then-stalled-clause-streams g c = streams_stay _ _ _ _ _ _ _ _ _ refl _ 
 -- any other
 
 pub will_fetch-at-requires : goal.will_fetch-at-requires
-will_fetch-at-requires g c = are_there _ _ _ (sym c.requires.computed.waits ∙ c.if-stalled.false) c.args.control.now.demands
+will_fetch-at-requires g c = are_there _ _ _ (sym c.requires.computed.waits ∙ c.if-stalled.false) c.requires.decoded.demands
 
 pub returns-clause-edge : goal.returns-clause-edge
 unfolding statement_of
 returns-clause-edge g c =
-    let control = c.args.control.now in
-    let s = statement_of machines.Mic2 control.word in
+    let s = statement_of machines.Mic2 c.args.word in
     let m = micro_in c.args.self.now in
-    let is = is_asked control.word m c.args.stalled c.args.value c.args.c _ _ _ _ _ _ c.requires.computed c.if-stalled.false
-    c.destinations-destinations.ensures.value control.demands c.is_named.ensures c.ports-ports.ensures c.mem.ensures
+    let is = is_asked c.args.word m c.args.stalled c.args.value c.args.c _ _ _ _ _ _ c.requires.computed c.if-stalled.false
+    c.destinations-destinations.ensures.value c.requires.decoded.demands c.is_named.ensures c.ports-ports.ensures c.mem_for.ensures
     c.will_fetch-at.ensures.refusal c.will_fetch-at.ensures.value in
     let a = c.in_ok-sampled.ensures.access in
     let moves = unrefused _ _ c.advance.ensures.err (samples_clear s m _ is _ _ a.others.0 a.allowed) c.advance.ensures.ok in
     record {
       edge =
-          edge_done control.word m _ _ c.args.bus.now _ is _ _ c.access.new.bus _ a.allowed a.ok a.others _
+          edge_done c.args.word m _ _ c.args.bus.now _ is _ _ c.access.new.bus _ a.allowed a.ok a.others _
           (moves ∙ ap (λ (x : ℕ). moved_on s m x c.access.new.bus.words c.in_ok-sampled.sampled) (c.requires.computed.alu c.if-stalled.false));
-      waits = edge_waits control.word m _ _ c.args.bus.now _ is c.console_law.ensures _ _ c.in_ok-sampled.ensures.waits;
+      waits = edge_waits c.args.word m _ _ c.args.bus.now _ is c.console_law.ensures _ _ c.in_ok-sampled.ensures.waits;
     }
 
 pub returns-in_err-sampled-clause-edge : goal.returns-in_err-sampled-clause-edge
 unfolding statement_of
 returns-in_err-sampled-clause-edge g c =
-    let control = c.args.control.now in
     let m = micro_in c.args.self.now in
-    let is = is_asked control.word m c.args.stalled c.args.value c.args.c _ _ _ _ _ _ c.requires.computed c.if-stalled.false
-    c.destinations-destinations.ensures.value control.demands c.is_named.ensures c.ports-ports.ensures c.mem.ensures
+    let is = is_asked c.args.word m c.args.stalled c.args.value c.args.c _ _ _ _ _ _ c.requires.computed c.if-stalled.false
+    c.destinations-destinations.ensures.value c.requires.decoded.demands c.is_named.ensures c.ports-ports.ensures c.mem_for.ensures
     c.will_fetch-at.ensures.refusal c.will_fetch-at.ensures.value in
-    let edge = edge_fails control.word m _ _ c.args.bus.now _ is c.console_law.ensures _ _ _ c.access.new.bus c.in_err-sampled.field-0.0 c.in_err-sampled.ensures.access in
+    let edge = edge_fails c.args.word m _ _ c.args.bus.now _ is c.console_law.ensures _ _ _ c.access.new.bus c.in_err-sampled.field-0.0 c.in_err-sampled.ensures.access in
     record {
       edge =
-          subst (λ (r : Result ⊤ BusFault). IsEdge mic2_meaning control.word m (g.S.Source.left c.args.source.now) (g.K.Sink.held c.args.sink.now)
+          subst (λ (r : Result ⊤ BusFault). IsEdge mic2_meaning c.args.word m (g.S.Source.left c.args.source.now) (g.K.Sink.held c.args.sink.now)
           c.args.bus.now {T = ⊤} m (g.S.Source.left c.access.new.source) (g.K.Sink.held c.access.new.sink) c.access.new.bus r) (handed_on _ _ c.from_residual.ensures.1) edge;
-      waits = edge_waits control.word m _ _ c.args.bus.now _ is c.console_law.ensures _ _ c.in_err-sampled.ensures.waits;
+      waits = edge_waits c.args.word m _ _ c.args.bus.now _ is c.console_law.ensures _ _ c.in_err-sampled.ensures.waits;
     }

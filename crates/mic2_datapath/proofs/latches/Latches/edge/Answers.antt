@@ -24,15 +24,14 @@ use Rattle.mic2_datapath.proofs.latches.Latches.edge.Goals.{then-not-stalled+els
 pub returns-then-is_quiet-clause-edge : goal.returns-then-is_quiet-clause-edge
 unfolding statement_of
 returns-then-is_quiet-clause-edge g c =
-    let control = c.args.control.now in
-    let s = statement_of machines.Mic2 control.word in
+    let s = statement_of machines.Mic2 c.args.word in
     let m = micro_in c.args.self.now in
     let bus = c.args.bus.now in
     let is : IsAsked s m (asked_for s m mems.None) =
-    is_for s m mems.None (sym c.requires.computed.waits ∙ c.if-not-stalled.true) (sym (c.is_quiet.ensures c.if-is_quiet.true)) in
+    is_for s m mems.None (sym c.requires.computed.waits ∙ c.if-not-stalled.true) (sym (c.is_quiet.ensures.quiet c.if-is_quiet.true)) in
     record {
       edge =
-          edge_either control.word m _ _ bus (asked_for s m mems.None) is bus None _ c.advance.result
+          edge_either c.args.word m _ _ bus (asked_for s m mems.None) is bus None _ c.advance.result
           (led_same _ _ bus _ (λ w shows. record { its_word = refl; after = refl; words = refl })) (refl, λ a other. refl) c.advance.ensures.allowed
           (subst (λ (x : ℕ). OnOk c.advance.result (micro_in c.advance.new.self ≡ moved_on s m x bus.words None)) (c.requires.computed.alu c.if-not-stalled.true) c.advance.ensures.ok)
           (on_each_err c.advance.result _ c.advance.ensures.err (λ e fails. refl)) c.advance.ensures.state c.advance.ensures.err;
@@ -47,8 +46,7 @@ returns-then-is_quiet-clause-streams g c = streams_stay _ _ _ _ _ _ _ _ _ refl _
 pub returns-in-Some-clause-edge : goal.returns-in-Some-clause-edge
 unfolding statement_of
 returns-in-Some-clause-edge g c =
-    let control = c.args.control.now in
-    let s = statement_of machines.Mic2 control.word in
+    let s = statement_of machines.Mic2 c.args.word in
     let m = micro_in c.args.self.now in
     let bus = c.args.bus.now in
     let bus' = c.access_inside.new.bus in
@@ -58,11 +56,11 @@ returns-in-Some-clause-edge g c =
     let sampled = c.in-Some.sampled in
     let asked = asked_for s m (access_by (is_some sampled)) in
     let is : IsAsked s m asked = is_for s m asked.mem (sym computed.waits ∙ goes) (sym c.in-Some.ensures.inside.accesses) in
-    let mar = mar_there control.word m c.args.stalled c.args.value c.args.c _ computed goes refl in
-    let mdr = sym (mdr_there control.word m c.args.stalled c.args.value c.args.c _ computed goes refl) in
+    let mar = mar_there c.args.word m c.args.stalled c.args.value c.args.c _ computed goes refl in
+    let mdr = sym (mdr_there c.args.word m c.args.stalled c.args.value c.args.c _ computed goes refl) in
     let clear = subst (λ (at : ℕ). memory_refusal n asked.mem at ≡ None) mar c.in-Some.ensures.inside.clear in
     let left = ap (λ (k : ℕ). sample_refusal k asked.at) c.access_inside.ensures.others.0 ∙ sym (refusal_left n asked clear) in
-    let there = sampled_there s m c.args.c control.lines.takes (jumps s.part) refl control.demands
+    let there = sampled_there s m c.args.c c.args.lines.now.takes (jumps s.part) refl c.requires.decoded.demands
     (computed.shifter goes ∙ ap (λ (x : ℕ). shifted s.part.shift x) (computed.alu goes)) in
     let r = c.advance-in-Some.result in
     let fails = subst (λ (why : Option Refusal). IfErr r (λ e. refused_by why ≡ Some e)) left c.advance-in-Some.ensures.err in
@@ -70,7 +68,7 @@ returns-in-Some-clause-edge g c =
     (λ no. ap (λ (at : Option ℕ). sample_refusal n at) (sym there) ∙ c.in-Some.ensures.inside.samples no) fail in
     record {
       edge =
-          edge_either control.word m _ _ bus asked is bus' sampled _ r
+          edge_either c.args.word m _ _ bus asked is bus' sampled _ r
           (led_inside _ _ bus bus' c.access_inside.ensures.console _ (λ w shows. c.in-Some.ensures.inside.transfer asked.ports (sym mar) mdr w shows.words))
           (subst (λ (at : ℕ). ChangesOnly at bus.words bus'.words) mar c.access_inside.ensures.others)
           (subst (λ (why : Option Refusal). OnOk r (why ≡ None)) left c.advance-in-Some.ensures.allowed)
@@ -90,6 +88,6 @@ returns-clause-edge g c =
     elim c.if-not-stalled.branch [ then-not-stalled+else-is_quiet+in_default w ↦ search rules | else-not-stalled w ↦ w.bus-is ] in
     subst
     (λ (b : BusView).
-    IsEdgeOver mic2_meaning g.S.Source.left g.K.Sink.held c.args.control.now.word (micro_in c.args.self.now) b c.args.source.now c.args.sink.now
+    IsEdgeOver mic2_meaning g.S.Source.left g.K.Sink.held c.args.word (micro_in c.args.self.now) b c.args.source.now c.args.sink.now
     (micro_in c.rare_edge.new.self) c.rare_edge.new.bus c.rare_edge.new.source c.rare_edge.new.sink c.rare_edge.result)
     same c.rare_edge.ensures.edge

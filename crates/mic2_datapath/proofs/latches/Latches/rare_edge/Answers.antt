@@ -11,6 +11,6 @@ pub returns-in_err-any_edge-clause-edge : goal.returns-in_err-any_edge-clause-ed
 returns-in_err-any_edge-clause-edge g c =
     subst
     (λ (r : Result ⊤ BusFault).
-    IsEdgeOver mic2_meaning g.S.Source.left g.K.Sink.held c.args.control.now.word (micro_in c.args.self.now) c.args.bus.now c.args.source.now c.args.sink.now
+    IsEdgeOver mic2_meaning g.S.Source.left g.K.Sink.held c.args.word (micro_in c.args.self.now) c.args.bus.now c.args.source.now c.args.sink.now
     (micro_in c.any_edge.new.self) c.any_edge.new.bus c.any_edge.new.source c.any_edge.new.sink r)
     (handed_on _ _ c.from_residual.ensures.1) c.in_err-any_edge.ensures.edge
