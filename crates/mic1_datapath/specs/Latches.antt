@@ -1,10 +1,12 @@
 -- What the latches of Mic-1 mean: the microstep's state.
-use Rattle.std.specs.Prelude.{◌≡◌, ℕ, ◌<◌, ◌==◌, Bool, if◌then◌else◌, List, IsTrue, Option, Some, None, slice_index}
+use Rattle.std.specs.Prelude.{◌≡◌, ℕ, ◌<◌, ◌==◌, Bool, true, false, if◌then◌else◌, List, IsTrue, Option, Some, None, slice_index}
 use Rattle.mic_words.specs.Arithmetic.{signed_byte}
 use Rattle.mic_words.specs.declared.machine.Machine.TheVariants as machines
 use Rattle.micro_word.specs.Layout.{fields_of}
 use Rattle.micro_word.specs.Words.{is_canonical}
 use Rattle.micro_word.specs.declared.lines.TheConstants.{NOTHING}
+use Rattle.micro_word.specs.declared.statement.Mem.{Mem}
+use Rattle.micro_word.specs.declared.statement.Mem.TheVariants as mems
 use Rattle.mic1_datapath.specs.Micro.{Micro}
 use Rattle.mic1_datapath.specs.declared.latches.Latches.{Latches}
 
@@ -14,6 +16,11 @@ reads word = (fields_of machines.Mic1 word).mem == 1
 
 abbrev pub fetches : ℕ → Bool
 fetches word = (fields_of machines.Mic1 word).fetch == 1
+
+-- what a word accesses that reads, or does not read and writes
+abbrev pub access_by : Bool → Mem
+access_by true = mems.Read
+access_by false = mems.Write
 
 abbrev pub under_way : Bool → ℕ → Option ℕ
 under_way is value = if is then Some value else None

@@ -1,6 +1,6 @@
 //! The clock edge of a cycle, after what the cycle computed.
 
-ghost use Rattle.std.specs.Prelude.{◌≡◌, true, OnOk, OnErr};
+ghost use Rattle.std.specs.Prelude.{◌≡◌, ◌≢◌, true, false, OnOk, OnErr};
 ghost use Rattle.console_port.specs.Streams.{StreamsGoOn};
 ghost use Rattle.mic_words.specs.declared.machine.Machine.TheVariants.{Mic1};
 ghost use Rattle.micro_word.specs.Coding.{mem_of};
@@ -10,7 +10,7 @@ ghost use Rattle.mic1_datapath.specs.Cycle.{IsAtEdge, IsLast, IsQuiet, IsTried};
 ghost use Rattle.mic1_datapath.specs.Latches.{AreLatches, micro_in};
 ghost use Rattle.mic1_datapath.specs.Mic1.{mic1_meaning};
 
-use crate::latches::Latches;
+use crate::latches::{Latches, is_read};
 use console_port::{Bus, BusFault};
 use mic_base::{Sink, Source};
 use mic_datapath::{
@@ -33,21 +33,10 @@ fn is_quiet(word: u64) -> bool
 
 /// Whether a word neither reads nor writes.
 fn transfers_nothing(word: u64) -> bool
-    ensures { result ≡ true → mem_of (fields_of Mic1 word).mem ≡ Mem.None }
+    ensures nothing { result ≡ true → mem_of (fields_of Mic1 word).mem ≡ Mem.None }
+    ensures something { result ≡ false → (fields_of Mic1 word).mem ≢ 0 }
 {
     bits::mem(Machine::Mic1, word) == 0
-}
-
-fn is_read(word: u64) -> bool
-    ensures { result ≡ true → mem_of (fields_of Mic1 word).mem ≡ Mem.Read }
-{
-    bits::mem(Machine::Mic1, word) == 1
-}
-
-fn is_write(word: u64) -> bool
-    ensures { result ≡ true → mem_of (fields_of Mic1 word).mem ≡ Mem.Write }
-{
-    bits::mem(Machine::Mic1, word) == 2
 }
 
 /// The edge of a word that accesses nothing, or one thing, which is in memory. For any other, nothing is done.
@@ -92,9 +81,6 @@ fn edge_of_one(
         let sampled = read_alone(mar, bus);
         latches.advance(word, lines, value, c, sampled);
         return true;
-    }
-    if !is_write(word) {
-        return false;
     }
     let mdr = latches.mdr_port(destinations, c);
     write_alone(mar, mdr, bus);

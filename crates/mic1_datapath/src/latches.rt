@@ -3,7 +3,7 @@
 ghost use Rattle.std.specs.Prelude.{◌≡◌, ◌≢◌, ◌<◌, ℕ, IsTrue, is_some, slice_index, unwrap_or, true, false};
 ghost use Rattle.mic_words.specs.declared.machine.Machine.TheVariants.{Mic1};
 ghost use Rattle.micro_word.specs.Words.{is_canonical};
-ghost use Rattle.micro_word.specs.Coding.{statement_of};
+ghost use Rattle.micro_word.specs.Coding.{mem_of, statement_of};
 ghost use Rattle.micro_word.specs.Layout.{fields_of};
 ghost use Rattle.micro_word.specs.Lines.{AreLines};
 ghost use Rattle.micro_word.specs.Operation.{shifted};
@@ -12,13 +12,13 @@ ghost use Rattle.mic_datapath.specs.Registers.{arrived as arrived_of};
 ghost use Rattle.mic1_datapath.specs.Mic1.{initial as initial_of};
 ghost use Rattle.mic1_datapath.specs.Cycle.{IsLast, moved_on};
 ghost use Rattle.mic1_datapath.specs.Microstep.{assigned, ports_of, result_of};
-ghost use Rattle.mic1_datapath.specs.Latches.{AreLatches, HasSignedMbr, micro_in, reads, fetches, under_way};
+ghost use Rattle.mic1_datapath.specs.Latches.{AreLatches, HasSignedMbr, access_by, micro_in, reads, fetches, under_way};
 
 use mic_clock::Start;
 use mic_datapath::{
     Places, Ports, Sampled, arrive, arrived, next_address, port, settle, sign_extended,
 };
-use micro_word::{Lines, Machine, bits, statement_law, word_law};
+use micro_word::{Lines, Machine, Mem, bits, statement_law, word_law};
 
 /// The word of `goto 0x000`, which reads and fetches nothing.
 pub const IDLE: u64 = 0x10_0009;
@@ -46,6 +46,16 @@ pub struct Latches {
     pub entry: u16,
     /// Whether a cycle was clocked since the reset.
     pub clocked: bool,
+}
+
+/// Whether a word reads. No canonical word reads and writes, so one bit decides.
+pub fn is_read(word: u64) -> bool
+    requires { IsTrue (is_canonical Mic1 word) }
+    ensures reads { result ≡ reads word }
+    ensures mem { (fields_of Mic1 word).mem ≢ 0 → mem_of (fields_of Mic1 word).mem ≡ access_by result }
+{
+    word_law(Machine::Mic1);
+    bits::mem(Machine::Mic1, word) % 2 == 1
 }
 
 fn taken(is: bool, word: u32) -> Option<u32>
@@ -100,6 +110,7 @@ fn brings_nothing(word: u64) -> bool
 /// What the word before brings becomes MDR, whatever the C bus put there, and MBR.
 #[inline(always)]
 fn arrive_behind(before: u64, word: u32, byte: u8, places: &mut Places)
+    requires { IsTrue (is_canonical Mic1 before) }
     ensures mdr { slice_index places.new 1 ≡ arrived_of (under_way (reads before) word) (slice_index places.old 1) }
     ensures mbru { slice_index places.new 10 ≡ arrived_of (under_way (fetches before) byte) (slice_index places.old 10) }
     ensures mbr { HasSignedMbr places.old → HasSignedMbr places.new }
@@ -110,8 +121,7 @@ fn arrive_behind(before: u64, word: u32, byte: u8, places: &mut Places)
     if brings_nothing(before) {
         return;
     }
-    let reads = bits::mem(Machine::Mic1, before) == 1;
-    arrive(taken(reads, word), places);
+    arrive(taken(is_read(before), word), places);
     let fetches = bits::fetch(Machine::Mic1, before);
     load_mbr(taken_byte(fetches, byte), places);
 }
@@ -172,13 +182,15 @@ impl Latches {
 
     /// The word that arrives at this edge.
     fn arriving(&self) -> Option<u32>
+        requires { AreLatches self.now }
         ensures { result ≡ under_way (reads self.now.before) self.now.word }
     {
-        taken(bits::mem(Machine::Mic1, self.before) == 1, self.word)
+        taken(is_read(self.before), self.word)
     }
 
     /// What the memory's ports are given: their registers as they become.
     pub fn ports(&self, c: u16, value: u32) -> Ports
+        requires { AreLatches self.now }
         ensures { result ≡ ports_of (assigned c value (micro_in self.now)) }
     {
         let mar = self.mar_port(c, value);
@@ -196,6 +208,7 @@ impl Latches {
 
     /// The word that the word port is given.
     pub fn mdr_port(&self, c: u16, value: u32) -> u32
+        requires { AreLatches self.now }
         ensures { result ≡ (ports_of (assigned c value (micro_in self.now))).mdr }
     {
         let there = port(c, MDR, value, &self.places);
@@ -237,6 +250,15 @@ impl Latches {
         take(sampled.word, &mut self.word);
         take_byte(sampled.byte, &mut self.byte);
         self.before = word;
+        self.clocked = true;
+    }
+
+    /// Stores once more that a cycle was clocked. Where all ways of an edge have met, what follows then has no need to load it.
+    #[inline(always)]
+    pub fn stay_clocked(&mut self)
+        requires { self.old.clocked ≡ true }
+        ensures { self.new ≡ self.old }
+    {
         self.clocked = true;
     }
 }

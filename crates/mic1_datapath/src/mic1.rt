@@ -166,6 +166,7 @@ impl Clocked for Mic1 {
             source,
             sink,
         )?;
+        self.latches.stay_clocked();
         self.last_a = drive.a;
         self.last_b = drive.b;
         Ok(false)

@@ -1,10 +1,10 @@
-use Rattle.std.proofs.Common.{ℕ, true, false, None, refl, sym, ◌∙◌, subst}
+use Rattle.std.proofs.Common.{ℕ, true, false, None, refl, sym, ap, ◌∙◌, subst}
 use Rattle.console_port.specs.Bus.{ChangesOnly}
 use Rattle.micro_word.specs.Layout.{fields_of}
 use Rattle.micro_word.specs.declared.statement.Mem.TheVariants as mems
 use Rattle.mic_words.specs.declared.machine.Machine.TheVariants as machines
 use Rattle.mic1_datapath.specs.Microstep.{assigned, ports_of}
-use Rattle.mic1_datapath.specs.Latches.{micro_in}
+use Rattle.mic1_datapath.specs.Latches.{access_by, micro_in}
 use Rattle.mic1_datapath.proofs.Inside.{led_inside, led_same}
 use Rattle.mic1_datapath.proofs.Tried.{tried}
 use Rattle.mic1_datapath.proofs.edge.edge_of_one.Goals as goal
@@ -31,7 +31,7 @@ returns-then-has c =
     let here = sym c.pc_port-pc.ensures in
     tried c.args.word c.args.value c.args.c c.destinations-destinations.result c.args.lines.now c.args.latches.now c.advance-then-has.new.self bus bus
     ports mems.None true does.result.word does.result.byte c.requires c.destinations-destinations.ensures.value refl
-    (sym (c.transfers_nothing.ensures c.if-transfers_nothing.true)) (sym c.if-fetch.true ∙ c.fetch-fetch.ensures) (does.ensures.clear ports here)
+    (sym (c.transfers_nothing.ensures.nothing c.if-transfers_nothing.true)) (sym c.if-fetch.true ∙ c.fetch-fetch.ensures) (does.ensures.clear ports here)
     (λ left held. led_same left held bus _ (λ w shows. does.ensures.access ports here w shows.words)) (refl, λ a other. refl) refl
     c.advance-then-has.ensures.latches c.advance-then-has.ensures.micro c.advance-then-has.ensures.last
 
@@ -45,7 +45,7 @@ returns-then-is_read c =
     let here = sym c.mar_port-mar.ensures in
     tried c.args.word c.args.value c.args.c c.destinations-destinations.result c.args.lines.now c.args.latches.now c.advance-then-is_read.new.self bus bus
     ports mems.Read false does.result.word does.result.byte c.requires c.destinations-destinations.ensures.value refl
-    (sym (c.is_read.ensures c.if-is_read.true)) (sym c.if-fetch-2.false ∙ c.fetch-fetch.ensures) (does.ensures.clear ports here)
+    (sym (c.is_read.ensures.mem (c.transfers_nothing.ensures.something c.if-transfers_nothing.false) ∙ ap access_by c.if-is_read.true)) (sym c.if-fetch-2.false ∙ c.fetch-fetch.ensures) (does.ensures.clear ports here)
     (λ left held. led_same left held bus _ (λ w shows. does.ensures.access ports here w shows.words)) (refl, λ a other. refl) refl
     c.advance-then-is_read.ensures.latches c.advance-then-is_read.ensures.micro c.advance-then-is_read.ensures.last
 
@@ -60,7 +60,7 @@ returns c =
     let here = sym c.mar_port-mar.ensures in
     tried c.args.word c.args.value c.args.c c.destinations-destinations.result c.args.lines.now c.args.latches.now c.advance-2.new.self bus bus'
     ports mems.Write false None None c.requires c.destinations-destinations.ensures.value refl
-    (sym (c.is_write.ensures c.if-not-is_write.false)) (sym c.if-fetch-2.false ∙ c.fetch-fetch.ensures) (does.clear ports here)
+    (sym (c.is_read.ensures.mem (c.transfers_nothing.ensures.something c.if-transfers_nothing.false) ∙ ap access_by c.if-is_read.false)) (sym c.if-fetch-2.false ∙ c.fetch-fetch.ensures) (does.clear ports here)
     (λ left held. led_inside left held bus bus' does.console _ (λ w shows. does.access ports here (sym c.mdr_port-mdr.ensures) w shows.words))
     (subst (λ (a : ℕ). ChangesOnly a bus.words bus'.words) (sym here) does.others) does.console
     c.advance-2.ensures.latches c.advance-2.ensures.micro c.advance-2.ensures.last

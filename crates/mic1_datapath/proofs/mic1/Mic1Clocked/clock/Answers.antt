@@ -1,4 +1,4 @@
-use Rattle.std.proofs.Common.{ℕ, Bool, Ok, Err, if◌then◌else◌, slice_index, refl, ap, ◌∙◌, subst}
+use Rattle.std.proofs.Common.{ℕ, Bool, Ok, Err, if◌then◌else◌, slice_index, refl, sym, ap, ◌∙◌, subst}
 use Rattle.std.specs.Prelude.{⊤}
 use Rattle.mic_words.specs.declared.machine.Machine.TheVariants as machines
 use Rattle.micro_word.specs.Coding.{statement_of}
@@ -8,6 +8,7 @@ use Rattle.mic1_datapath.specs.Mic1.{computed, driven, mic1_meaning}
 use Rattle.mic1_datapath.specs.Microstep.{source}
 use Rattle.mic1_datapath.specs.Latches.{micro_in}
 use Rattle.mic1_datapath.specs.View.{buses_by}
+use Rattle.mic1_datapath.specs.declared.latches.Latches.{Latches}
 use Rattle.mic1_datapath.proofs.Passed.{edge_passed}
 use Rattle.mic1_datapath.proofs.mic1.Mic1Clocked.clock.Goals as goal
 
@@ -24,16 +25,18 @@ returns-clause-seen g c =
     let a = c.driven_by-drive.result.a in
     let b = c.driven_by-drive.result.b in
     let last = c.in_ok-edge.ensures.last in
-    ap (λ (is : Bool). if is then buses_by c.edge.new.latches.before a b else start_buses) last.1
+    ap (λ (l : Latches). if l.clocked then buses_by l.before a b else start_buses) c.stay_clocked.ensures
+    ∙ ap (λ (is : Bool). if is then buses_by c.edge.new.latches.before a b else start_buses) last.1
     ∙ ap (λ (word : ℕ). buses_by word a b) last.0
     ∙ (λ i. buses_by c.word-word.result (drive i).a (drive i).b)
     ∙ ap (λ (word : ℕ). buses_by word m.h (source (statement_of machines.Mic1 word).part.b m)) c.word-word.ensures.value
 
 pub returns-clause-edge : goal.returns-clause-edge
 returns-clause-edge g c =
-    let Over : ℕ → Type 0 = λ w. IsEdgeOver mic1_meaning g.S.Source.left g.K.Sink.held {T = ⊤} w (micro_in c.args.self.now.latches) c.args.bus.now
-    c.args.source.now c.args.sink.now (micro_in c.edge.new.latches) c.edge.new.bus c.edge.new.source c.edge.new.sink (Ok tt) in
-    let over = subst Over c.word-word.ensures.value c.in_ok-edge.ensures.edge in
+    let Over : ℕ → Latches → Type 0 = λ w l. IsEdgeOver mic1_meaning g.S.Source.left g.K.Sink.held {T = ⊤} w (micro_in c.args.self.now.latches) c.args.bus.now
+    c.args.source.now c.args.sink.now (micro_in l) c.edge.new.bus c.edge.new.source c.edge.new.sink (Ok tt) in
+    let over = subst (λ (w : ℕ). Over w c.stay_clocked.new.self) c.word-word.ensures.value
+    (subst (λ (l : Latches). Over c.word-word.result l) (sym c.stay_clocked.ensures) c.in_ok-edge.ensures.edge) in
     let edge = over.edge in
     record {
       edge =
