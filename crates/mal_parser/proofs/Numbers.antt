@@ -1,6 +1,6 @@
 -- The numbers of labelled statements, and one more.
-use Rattle.std.proofs.Common.{◌≡◌, ℕ, ◌+◌, Bool, true, false, List, [], ◌∷◌, ◌++◌, Option, Some, None, length, refl, sym, ap, ◌∙◌, cond, arith}
-use Rattle.std.specs.Prelude.{is_some, ◌||◌}
+use Rattle.std.proofs.Common.{◌≡◌, ℕ, ◌+◌, Bool, true, false, List, [], ◌∷◌, ◌++◌, Option, Some, None, length, refl, sym, ap, subst, ◌∙◌, cond, arith}
+use Rattle.std.specs.Prelude.{is_some, not, ◌||◌}
 use Rattle.std.specs.List.{list_any, position_from}
 use Rattle.std.specs.Option.{option_or}
 use Rattle.std.specs.Ordering.{nat_cmp}
@@ -8,7 +8,7 @@ use Rattle.std.specs.Cmp.Lexicographic.{slice_cmp, texts_ties}
 use Rattle.std.specs.BTreeMap.{BTreeMap, get, is_at}
 use Rattle.std.proofs.lemmas.Iterator.Adapters.{position_from-zero}
 use Rattle.mal_parser.specs.declared.source.Draft.{Draft}
-use Rattle.mal_parser.specs.Labels.{AreNumbers, has_label, has_name, is_label, is_labelled, with_number}
+use Rattle.mal_parser.specs.Labels.{AddsNumber, AreNumbers, has_label, has_name, is_label, is_labelled, is_numbered, with_number}
 use Rattle.mal_parser.specs.Reading.{number_of}
 use Rattle.mal_parser.proofs.Resolved.{same_text}
 
@@ -60,12 +60,22 @@ last_number true (Some k) n h = absurd (let e = h refl in cc)
 last_number false None n h = refl
 last_number false (Some k) n h = refl
 
--- a map with one more key
-pub kept_more : (own : Option (List ℕ)) (label : List ℕ) (n : ℕ) (old new : BTreeMap (List ℕ) ℕ) → own ≡ Some label
-    → ((q : List ℕ) → get (slice_cmp nat_cmp) new q ≡ cond (is_at (slice_cmp nat_cmp label) q) (Some n) (get (slice_cmp nat_cmp) old q))
-    → (q : List ℕ) → get (slice_cmp nat_cmp) new q ≡ with_number own n q (get (slice_cmp nat_cmp) old q)
-kept_more own label n old new is h q =
-    h q ∙ (ap (λ b. cond b (Some n) (get (slice_cmp nat_cmp) old q)) (sym (texts_ties label q)) ∙ ap (λ o. with_number o n q (get (slice_cmp nat_cmp) old q)) (sym is))
+-- what a map has at a label, once a number is put at its own
+pub kept_at : (own : Option (List ℕ)) (label q : List ℕ) (n : ℕ) (old new : Option ℕ) → own ≡ Some label
+    → new ≡ cond (is_at (slice_cmp nat_cmp label) q) (Some n) old → new ≡ with_number own n q old
+kept_at own label q n old new is h =
+    h ∙ (ap (λ b. cond b (Some n) old) (sym (texts_ties label q)) ∙ ap (λ o. with_number o n q old) (sym is))
+
+-- the labels that have numbers are those of the statements
+pub numbered_name : (ds : List Draft) (map : BTreeMap (List ℕ) ℕ) → AreNumbers ds map → (own : Option (List ℕ)) → is_numbered own map ≡ has_name ds own
+numbered_name ds map are None = refl
+numbered_name ds map are (Some label) = ap is_some (are label) ∙ some_number ds label
+
+-- what was said of the number of a label is so of the label
+pub named_as : (own : Option (List ℕ)) (n : ℕ) (ds : List Draft) (old new : BTreeMap (List ℕ) ℕ) (said added : Bool) → AreNumbers ds old
+    → AddsNumber own n old new said → said ≡ added → has_name ds own ≡ not added
+named_as own n ds old new said true are h e = sym (numbered_name ds old are own) ∙ (subst (AddsNumber own n old new) e h).0
+named_as own n ds old new said false are h e = sym (numbered_name ds old are own) ∙ (subst (AddsNumber own n old new) e h).0
 
 pub numbers_push : (ds : List Draft) (d : Draft) (n : ℕ) (old new : BTreeMap (List ℕ) ℕ) → n ≡ length ds → AreNumbers ds old → has_name ds d.label ≡ false
     → ((q : List ℕ) → get (slice_cmp nat_cmp) new q ≡ with_number d.label n q (get (slice_cmp nat_cmp) old q)) → AreNumbers (ds ++ d ∷ []) new

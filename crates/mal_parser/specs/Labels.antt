@@ -1,10 +1,10 @@
 -- Labels of statements and of `.label` lines.
-use Rattle.std.specs.Prelude.{◌≡◌, ℕ, ℤ, pos, negsuc, Bool, false, List, [], ◌∷◌, Option, Some, None, if◌then◌else◌, nat_lt}
+use Rattle.std.specs.Prelude.{◌≡◌, ℕ, ℤ, pos, negsuc, Bool, true, false, List, [], ◌∷◌, Option, Some, None, if◌then◌else◌, is_some, nat_lt}
 use Rattle.std.specs.List.{filter_map, list_any, position}
 use Rattle.std.specs.Str.{bytes_eq}
 use Rattle.std.specs.Ordering.{nat_cmp}
 use Rattle.std.specs.Cmp.Lexicographic.{slice_cmp}
-use Rattle.std.specs.BTreeMap.{BTreeMap, get}
+use Rattle.std.specs.BTreeMap.{BTreeMap, get, IsUnchanged}
 use Rattle.mal_parser.specs.declared.source.Draft.{Draft}
 use Rattle.mal_parser.specs.declared.source.Fix.{Fix}
 
@@ -54,3 +54,13 @@ with_number own number label kept = if is_label label own then Some number else 
 -- the label, where there is one, has this number now, and the others have theirs
 abbrev pub IsNumbered : Option (List ℕ) → ℕ → BTreeMap (List ℕ) ℕ → BTreeMap (List ℕ) ℕ → Type 0
 IsNumbered own number old new = (label : List ℕ) → get (slice_cmp nat_cmp) new label ≡ with_number own number label (get (slice_cmp nat_cmp) old label)
+
+-- the label, where there is one, has a number
+abbrev pub is_numbered : Option (List ℕ) → BTreeMap (List ℕ) ℕ → Bool
+is_numbered None map = false
+is_numbered (Some label) map = is_some (get (slice_cmp nat_cmp) map label)
+
+-- a number is kept where the label had none, and else the map stays
+abbrev pub AddsNumber : Option (List ℕ) → ℕ → BTreeMap (List ℕ) ℕ → BTreeMap (List ℕ) ℕ → Bool → Type 0
+AddsNumber own number old new true = (is_numbered own old ≡ false) × IsNumbered own number old new
+AddsNumber own number old new false = (is_numbered own old ≡ true) × IsUnchanged old new

@@ -1,8 +1,8 @@
 //! The statements of a source, found by their labels.
 
-ghost use Rattle.std.specs.Prelude.{◌≡◌, ◌++◌, ◌∷◌, [], List, false, if◌then◌else◌, length, OnOk, OnErr};
+ghost use Rattle.std.specs.Prelude.{◌≡◌, ◌++◌, ◌∷◌, [], List, not, if◌then◌else◌, length, IfOk, OnErr};
 ghost use Rattle.std.specs.BTreeMap.{IsUnchanged};
-ghost use Rattle.mal_parser.specs.Labels.{has_label, has_name, IsNumbered};
+ghost use Rattle.mal_parser.specs.Labels.{has_label, has_name, AddsNumber};
 ghost use Rattle.mal_parser.specs.Reading.{number_of};
 
 use crate::source::Draft;
@@ -10,6 +10,7 @@ use mal_line::Parts;
 use mic_base::Name;
 use std::alloc::{AllocError, Global};
 use std::collections::BTreeMap;
+use std::collections::btree_map::Entry;
 use std::marker::Model;
 
 /// Statements in order, with labels that differ from one another.
@@ -32,19 +33,25 @@ impl Model for Drafts {
     ghost invariant = { λ statements. AreNumbers statements.drafts.items statements.numbers };
 }
 
-/// Keeps the number of the label, where there is one.
+/// Keeps the number of a label that has none yet, and says whether there was none. A statement without a label adds nothing.
 fn add_number(
     numbers: &mut BTreeMap<Name, usize>,
     label: &Option<Name>,
     number: usize,
-) -> Result<(), AllocError>
-    ensures ok { OnOk result (IsNumbered label.now number numbers.old numbers.new) }
+) -> Result<bool, AllocError>
+    ensures ok { IfOk result (AddsNumber label.now number numbers.old numbers.new) }
     ensures left { OnErr result (IsUnchanged numbers.old numbers.new) }
 {
-    if let Some(label) = label {
-        numbers.insert(*label, number)?;
+    let Some(label) = label else {
+        return Ok(true);
+    };
+    match numbers.entry(*label)? {
+        Entry::Occupied(_) => Ok(false),
+        Entry::Vacant(entry) => {
+            entry.insert(number);
+            Ok(true)
+        }
     }
-    Ok(())
 }
 
 impl Drafts {
@@ -86,20 +93,22 @@ impl Drafts {
         }
     }
 
-    /// Adds the next statement, whose label is new.
+    /// Adds the next statement where no other has its label, and says whether none has.
     pub(crate) fn push(
         &mut self,
         label: Option<Name>,
         line: u32,
         parts: Parts,
-    ) -> Result<(), AllocError>
-        requires { has_name self.old label ≡ false }
-        ensures ok { OnOk result (self.new ≡ self.old ++ (record { label = label; line = line; parts = parts }) ∷ []) }
+    ) -> Result<bool, AllocError>
+        ensures new { IfOk result (λ added. added ≡ not (has_name self.old label)) }
+        ensures ok { IfOk result (λ added. self.new ≡ (if added then self.old ++ (record { label = label; line = line; parts = parts }) ∷ [] else self.old)) }
         ensures left { OnErr result (self.new ≡ self.old) }
     {
         let Parts { part, next } = parts;
         self.drafts.reserve(1)?;
-        add_number(&mut self.numbers, &label, self.drafts.as_slice().len())?;
+        if !add_number(&mut self.numbers, &label, self.drafts.as_slice().len())? {
+            return Ok(false);
+        }
         self.drafts
             .push(Draft {
                 label,
@@ -107,6 +116,6 @@ impl Drafts {
                 parts: Parts { part, next },
             })
             .unwrap();
-        Ok(())
+        Ok(true)
     }
 }

@@ -125,16 +125,15 @@ impl SourceReader {
         ensures err { IfErr result (λ e. FailsBy is_memory e (add_statement line self.old label parts)) }
         ensures left { OnErr result (self.new ≡ self.old) }
     {
-        if self.statements.has_name(&label) {
-            return Err(MalError::DuplicateLabel(line));
-        }
-        if self.statements.as_slice().len() >= 512 {
+        // A label that stands twice is reported first.
+        if self.statements.as_slice().len() >= 512 && !self.statements.has_name(&label) {
             return Err(MalError::TooMany(line));
         }
-        self.statements
-            .push(label, line, parts)
-            .map_err(|_| MalError::OutOfMemory)?;
-        Ok(())
+        match self.statements.push(label, line, parts) {
+            Ok(true) => Ok(()),
+            Ok(false) => Err(MalError::DuplicateLabel(line)),
+            Err(_) => Err(MalError::OutOfMemory),
+        }
     }
 
     fn add(&mut self, line: u32, content: Content) -> Result<(), MalError>
