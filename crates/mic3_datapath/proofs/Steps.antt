@@ -1,18 +1,20 @@
 -- What is asked of the bus for the statement that retires, with its access, is the cycle or its refusal.
 use Rattle.std.proofs.Common.{arith, ◌≡◌, ℕ, ◌%◌, ◌≤◌, ◌==◌, ◌&&◌, Bool, true, false, if◌then◌else◌, IsTrue, List, Option, Some, None, Result, Ok, Err, length, inl, inr, refl, sym, ap, ap₂, subst, ◌∙◌}
-use Rattle.std.specs.Prelude.{⊤, IfErr, IsErrAnd, OnOk, nat_lt, ◌||◌}
+use Rattle.std.specs.Prelude.{⊤, IfErr, IsErrAnd, OnErr, OnOk, nat_lt, ◌||◌}
 use Rattle.std.proofs.lemmas.Bool.Decides.{nat_tests}
 use Rattle.console_port.specs.World.{World, Refusal, console_at}
 use Rattle.console_port.specs.Bus.{ChangesOnly, IsLed, Shows, refused_by}
 use Rattle.console_port.specs.Console.{IsFault}
 use Rattle.console_port.specs.View.{BusView}
 use Rattle.console_port.specs.declared.fault.BusFault.{BusFault}
+use Rattle.mic_clock.specs.declared.buses.Computed.{Computed as Values}
+use Rattle.mic_clock.specs.declared.buses.Drive.{Drive}
 use Rattle.mic_words.specs.declared.machine.Machine.TheVariants as machines
 use Rattle.micro_word.specs.Coding.{statement_of}
 use Rattle.micro_word.specs.declared.statement.Mem.{Mem}
 use Rattle.micro_word.specs.declared.statement.Mem.TheVariants as mems
 use Rattle.micro_word.specs.declared.statement.Placed.{Placed}
-use Rattle.mic_clock.specs.Edge.{IsEdge, LetsBytesWait}
+use Rattle.mic_clock.specs.Edge.{IsEdge, IsEdgeOver, LetsBytesWait}
 use Rattle.mic_clock.specs.Meaning.{Done, refusal_in, untaken_by, given_by, ReadsConsole, WritesConsole, UsesConsole}
 use Rattle.mic_datapath.specs.Access.{AtConsole, HasAccessed, IsTransfer, is_read, is_access, LetsBytesWait as LetsWait}
 use Rattle.mic_datapath.specs.Memory.{first_refusal, memory_refusal, word_under_way, written, sampled, outcome}
@@ -23,8 +25,9 @@ use Rattle.mic2_datapath.specs.Microstep.{access_refusal, demand, next_micro, un
 use Rattle.mic3_datapath.specs.declared.pipeline.Pipeline.{Pipeline as Latched}
 use Rattle.mic3_datapath.specs.Pipeline.{Pipeline, Issued, Computed}
 use Rattle.mic3_datapath.specs.Cycle.{begins, clock, computed, computed_in, cycle, cycle_with, is_held_up, is_jump_coming, issued, issued_by, issued_in, mem_in, mpc_after, refusal, settled, bytes_leaving, waits, word_after, world_after}
-use Rattle.mic3_datapath.specs.Mic3.{mic3_meaning, step_of_word}
-use Rattle.mic3_datapath.specs.Slots.{edged, in_result, pipeline_in, retired_in, word_held}
+use Rattle.mic3_datapath.specs.Mic3.{driven, driven_by, mic3_meaning, step_of_word, values_of}
+use Rattle.mic3_datapath.specs.Slots.{HasMoved, edged, in_result, pipeline_in, retired_in, word_held}
+use Rattle.mic3_datapath.specs.View.{buses_before, values_by}
 
 -- what a cycle asks of the bus: an access, and the word that the fetch unit samples
 pub record Asked : Type 0 where
@@ -234,6 +237,79 @@ module _ (word : ℕ) (i : Option Issued) (p : Pipeline) (q : Asked) (is : issue
           | inl same ↦ inl same
           | inr asks ↦ inr (asks.some, λ w shows. reads_console law word i p q is h _ w (size_of w shows) asks.clear asks.behind asks.reads)
         ]
+
+-- an edge of a cycle is one of the same word and state, with the result that the cycle returns
+module _ {S K : Type 0} (left : S → Option (List ℕ)) (held : K → Option (List ℕ)) (word word' : ℕ) (p p' : Pipeline) (same : word' ≡ word) (stays : p' ≡ p)
+    (bus : BusView) (source : S) (sink : K) (t : Pipeline) (bus' : BusView) (source' : S) (sink' : K) where
+  over_for : (r : Result ⊤ BusFault) → IsEdgeOver mic3_meaning left held word' p' bus source sink t bus' source' sink' r →
+      IsEdgeOver mic3_meaning left held word p bus source sink t bus' source' sink' r
+  over_for r over =
+      subst (λ (w : ℕ). IsEdgeOver mic3_meaning left held w p bus source sink t bus' source' sink' r) same
+      (subst (λ (q : Pipeline). IsEdgeOver mic3_meaning left held word' q bus source sink t bus' source' sink' r) stays over)
+
+  pub over_told : {T : Type 0} (told : T) → IsEdgeOver mic3_meaning left held {T = ⊤} word' p' bus source sink t bus' source' sink' (Ok tt) →
+      IsEdgeOver mic3_meaning left held {T = T} word p bus source sink t bus' source' sink' (Ok told)
+  over_told told over =
+      let o = over_for (Ok tt) over in
+      let edge = o.edge in
+      record {
+        edge = record {
+          ok = edge.ok;
+          others = edge.others;
+          refusal = λ w e shows refused. absurd (let is = edge.refusal w e shows refused in cc);
+          err = tt;
+          state = tt;
+          stands = tt;
+        };
+        waits = o.waits;
+      }
+
+  pub over_failed : {T : Type 0} (e : BusFault) (r : Result T BusFault) → IsErrAnd r (λ f. f ≡ e) →
+      IsEdgeOver mic3_meaning left held {T = ⊤} word' p' bus source sink t bus' source' sink' (Err e) →
+      IsEdgeOver mic3_meaning left held {T = T} word p bus source sink t bus' source' sink' r
+  over_failed {T} e r hands over =
+      let o = over_for (Err e) over in
+      let edge = o.edge in
+      subst (λ (x : Result T BusFault). IsEdgeOver mic3_meaning left held {T = T} word p bus source sink t bus' source' sink' x) (handed_on r e hands)
+      (record {
+        edge = record {
+          ok = tt;
+          others = tt;
+          refusal = λ w f shows refused. let is = edge.refusal w f shows refused in let is_it : e ≡ f = cc in cc;
+          err = edge.err;
+          state = edge.state;
+          stands = edge.stands;
+        };
+        waits = o.waits;
+      })
+
+-- the edge that is done has moved both slots on
+pub moved : (i : Option Issued) (p : Pipeline) (words : List ℕ) (read : Option ℕ) (t : Pipeline) → t ≡ edged i p words read → HasMoved i p t
+moved i p words read t moves = record { operand = ap (λ (q : Pipeline). q.operand) moves; result = ap (λ (q : Pipeline). q.result) moves }
+
+-- what is in the result slot after that edge shows what left the ALU and the shifter before it
+values_moved : (o : Option Issued) (v : Values) (c : Option Computed) → v ≡ values_of o → c ≡ computed o → values_by v.alu.value c ≡ values_of o
+values_moved None v c v_is c_is = λ j. values_by (v_is j).alu.value (c_is j)
+values_moved (Some i) v c v_is c_is = λ j. values_by (v_is j).alu.value (c_is j)
+
+-- what was on the buses in a cycle that is done, by what the slots hold after it
+pub seen_after : (word word' : ℕ) → word' ≡ word → (p q t : Pipeline) (i : Option Issued) (d : Drive) (v : Values) → i ≡ issued (statement_of machines.Mic2 word') p → q ≡ p →
+    d ≡ driven_by i → v ≡ values_of q.operand → HasMoved i q t → buses_before d.stalled v.alu.value t ≡ record { drive = driven word p; computed = values_of p.operand }
+unfolding driven
+seen_after word word' same p q t i d v issues stays drove gives moves =
+    (λ j. record {
+      drive = record (driven_by (moves.operand j)) { stalled = (drove j).stalled };
+      computed = values_moved q.operand v t.result gives moves.result j;
+    })
+    ∙ (λ j. record {
+      drive = (ap driven_by issues ∙ ap (λ (w : ℕ). driven_by (issued (statement_of machines.Mic2 w) p)) same) j;
+      computed = values_of (stays j).operand;
+    })
+
+-- a cycle that is refused leaves what was on the buses before it
+pub seen_kept : {T : Type 0} (r : Result T BusFault) (stalled : Bool) (value : ℕ) (p q : Pipeline) → q ≡ p → OnErr r (buses_before stalled value q ≡ buses_before stalled value p)
+seen_kept (Ok told) stalled value p q same = tt
+seen_kept (Err e) stalled value p q same = ap (buses_before stalled value) same
 
 -- what issues finds the bytes that it takes
 

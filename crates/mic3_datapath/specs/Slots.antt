@@ -64,3 +64,8 @@ edged to_issue p words sampled =
 pub record HasComputed (s : Placed) (p : Pipeline) (to_issue : Option Issued) (given : Values) : Type 0 where
   pub issues : to_issue ≡ issued s p
   pub values : given ≡ values_of p.operand
+
+-- after an edge that is done: what issued is in the operand slot, and what was there has computed
+pub record HasMoved (to_issue : Option Issued) (p p' : Pipeline) : Type 0 where
+  pub operand : p'.operand ≡ to_issue
+  pub result : p'.result ≡ computed p.operand

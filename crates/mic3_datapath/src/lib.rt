@@ -2,6 +2,7 @@
 //! computes in the next and retires in the third.
 #![tactic(auto)]
 
+mod accesses;
 mod hazards;
 mod mic3;
 mod pipeline;

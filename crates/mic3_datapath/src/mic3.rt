@@ -8,14 +8,13 @@ ghost use Rattle.mic2_datapath.specs.Spelled.{spelled};
 ghost use Rattle.mic3_datapath.specs.Cycle.{issued};
 ghost use Rattle.mic3_datapath.specs.Slots.{HasComputed, in_operand, pipeline_in};
 
-use crate::hazards::jumps_now;
-use crate::pipeline::{Pipeline, bytes_leaving, mem_in, values_of};
+use crate::pipeline::{Pipeline, driven_by, flagged, values_of};
 use crate::slots::OperandSlot;
 use console_port::{Bus, BusFault};
 use mic_base::{Sink, Source};
 use mic_clock::{Clocked, Computed, Drive, Registers, Start, Tail};
-use mic_datapath::{Stage, console_law};
-use mic2_datapath::{Control, access};
+use mic_datapath::Stage;
+use mic2_datapath::Control;
 use micro_word::{Machine, Store, Word2};
 
 /// Mic-3.
@@ -29,6 +28,10 @@ pub struct Mic3 {
     /// What leaves the ALU and the shifter for the word in the operand slot.
     values: Computed,
     pipeline: Pipeline,
+    /// Whether nothing issued in the cycle that `clock` did last.
+    stalled: bool,
+    /// What left the ALU in that cycle. What else was on the buses is in the slots after it.
+    value: u32,
     ghost kept: { AreLatches pipeline.latches },
     ghost drove: { phase_of stage ≡ Driven → in_operand to_issue ≡ issued (spelled control) (pipeline_in pipeline) },
     ghost computed: { phase_of stage ≡ AtEdge →
@@ -56,6 +59,8 @@ impl Mic3 {
                 sp: 0,
                 first: 0,
             }),
+            stalled: false,
+            value: 0,
         }
     }
 }
@@ -63,7 +68,7 @@ impl Mic3 {
 impl Clocked for Mic3 {
     ghost use Rattle.mic3_datapath.specs.Pipeline.{Pipeline};
     ghost use Rattle.mic3_datapath.specs.Mic3.{mic3_meaning, IsReady as IsReadyAt};
-    ghost use Rattle.mic3_datapath.specs.View.{pipeline_of, phase, microinstruction_of};
+    ghost use Rattle.mic3_datapath.specs.View.{pipeline_of, phase, microinstruction_of, seen};
 
     type Word = Word2;
 
@@ -79,6 +84,8 @@ impl Clocked for Mic3 {
 
     ghost word = { microinstruction_of };
 
+    ghost seen = { seen };
+
     /// It clocks the store of Mic-2.
     fn machine(&self) -> Machine {
         Machine::Mic2
@@ -87,6 +94,8 @@ impl Clocked for Mic3 {
     fn reset(&mut self, start: &Start) {
         self.stage = Stage::Setup;
         self.pipeline = Pipeline::initial(start);
+        self.stalled = false;
+        self.value = 0;
     }
 
     #[inline(always)]
@@ -100,18 +109,7 @@ impl Clocked for Mic3 {
         let to_issue = self.pipeline.issue(&self.control);
         self.to_issue = to_issue;
         self.stage = Stage::Compute;
-        match to_issue {
-            Some(slot) => Drive {
-                a: slot.a,
-                b: slot.b,
-                stalled: false,
-            },
-            None => Drive {
-                a: 0,
-                b: 0,
-                stalled: true,
-            },
-        }
+        driven_by(to_issue)
     }
 
     #[inline(always)]
@@ -129,22 +127,11 @@ impl Clocked for Mic3 {
         source: &mut S,
         sink: &mut K,
     ) -> Result<(), BusFault> {
-        console_law();
         self.stage = Stage::Setup;
-        let taken = bytes_leaving(self.to_issue);
-        let mem = mem_in(self.pipeline.result);
-        let jumps = jumps_now(self.pipeline.result);
-        let ports = self.pipeline.ports(taken);
-        let at = self.pipeline.latches.will_fetch(jumps, ports.pc, taken);
-        let sampled = access(mem, at, &ports, bus, source, sink)?;
-        // What the fetch unit samples was tested before the access.
-        let _ = self
-            .pipeline
-            .advance(self.to_issue, &self.values, ports.pc, sampled, bus);
-        Ok(())
+        self.pipeline
+            .edge(self.to_issue, &self.values, bus, source, sink)
     }
 
-    // The trait's body again: this one is inlined, which the trait's own is not.
     #[inline(always)]
     fn clock<S: Source, K: Sink>(
         &mut self,
@@ -152,12 +139,28 @@ impl Clocked for Mic3 {
         bus: &mut Bus,
         source: &mut S,
         sink: &mut K,
-    ) -> Result<(Drive, Computed), BusFault> {
-        self.setup(store);
-        let drive = self.drive();
-        let computed = self.compute();
-        self.edge(bus, source, sink)?;
-        Ok((drive, computed))
+    ) -> Result<bool, BusFault> {
+        let control = Control::of(store, self.pipeline.latches.mpc);
+        let to_issue = self.pipeline.issue(&control);
+        let values = values_of(self.pipeline.operand);
+        self.pipeline.edge(to_issue, &values, bus, source, sink)?;
+        let drive = driven_by(to_issue);
+        self.stalled = drive.stalled;
+        self.value = values.alu.value;
+        Ok(drive.stalled)
+    }
+
+    fn last_drive(&self) -> Drive {
+        let mut drive = driven_by(self.pipeline.operand);
+        drive.stalled = self.stalled;
+        drive
+    }
+
+    fn last_computed(&self) -> Computed {
+        match self.pipeline.result {
+            Some(slot) => flagged(self.value, slot.value),
+            None => Computed::ZERO,
+        }
     }
 
     #[inline(always)]
@@ -191,6 +194,14 @@ impl Clocked for Mic3 {
 
     fn mpc(&self) -> u16 {
         self.pipeline.latches.mpc
+    }
+
+    fn sp(&self) -> u32 {
+        self.pipeline.latches.places[3]
+    }
+
+    fn lv(&self) -> u32 {
+        self.pipeline.latches.places[4]
     }
 
     ghost its_words = { refl };

@@ -2,20 +2,27 @@
 
 ghost use Rattle.std.specs.Prelude.{◌≡◌, ◌<◌, ◌≤◌, ℕ, OnOk, OnErr, length, slice_index};
 ghost use Rattle.console_port.specs.Bus.{FailsAsRefused};
+ghost use Rattle.console_port.specs.Streams.{StreamsGoOn};
+ghost use Rattle.mic_words.specs.declared.machine.Machine.TheVariants.{Mic2};
+ghost use Rattle.micro_word.specs.Coding.{statement_of};
+ghost use Rattle.mic_clock.specs.Edge.{IsEdgeOver};
 ghost use Rattle.mic_datapath.specs.Places.{registers_at};
 ghost use Rattle.mic_datapath.specs.Registers.{ports_given};
 ghost use Rattle.mic2_datapath.specs.Latches.{AreLatches};
+ghost use Rattle.mic2_datapath.specs.Mic2.{flagged};
 ghost use Rattle.mic2_datapath.specs.Microstep.{demand, past, unit_after};
 ghost use Rattle.mic2_datapath.specs.Spelled.{spelled};
 ghost use Rattle.mic3_datapath.specs.Cycle.{begins, bytes_leaving, computed, dispatched_from, from_computed, from_issued, from_retired, is_jump_coming, issued, mem_in, mpc_after, retired, settled, waits};
-ghost use Rattle.mic3_datapath.specs.Mic3.{initial as initial_of, values_of};
-ghost use Rattle.mic3_datapath.specs.Slots.{edged, in_operand, in_result, pipeline_in, retired_in, retiring, unit_refused, word_held};
+ghost use Rattle.mic3_datapath.specs.Mic3.{driven_by, initial as initial_of, mic3_meaning, values_of};
+ghost use Rattle.mic3_datapath.specs.Slots.{HasMoved, edged, in_operand, in_result, pipeline_in, retired_in, retiring, unit_refused, word_held};
 
+use crate::accesses::access;
 use crate::hazards::{is_branch, is_held_up, is_to_instruction, jumps_now};
 use crate::slots::{OperandSlot, ResultSlot};
 use console_port::{Bus, BusFault};
-use mic_clock::{Computed, Start};
-use mic_datapath::{Places, Ports};
+use mic_base::{Sink, Source};
+use mic_clock::{Computed, Drive, Start};
+use mic_datapath::{Places, Ports, console_law};
 use mic1_alu::AluOut;
 use mic2_datapath::{Control, Latches, Operands, go, go_past, load, pc_after};
 use mic2_fetch_unit::FetchUnit;
@@ -41,7 +48,7 @@ pub struct Pipeline {
 
 /// How many bytes leave the queue.
 #[inline(always)]
-pub fn bytes_leaving(to_issue: Option<OperandSlot>) -> u8
+fn bytes_leaving(to_issue: Option<OperandSlot>) -> u8
     ensures { result ≡ bytes_leaving (in_operand to_issue) }
 {
     match to_issue {
@@ -52,7 +59,7 @@ pub fn bytes_leaving(to_issue: Option<OperandSlot>) -> u8
 
 /// The access of the word that retires.
 #[inline(always)]
-pub fn mem_in(slot: Option<ResultSlot>) -> Mem
+fn mem_in(slot: Option<ResultSlot>) -> Mem
     ensures { result ≡ mem_in (in_result slot) }
 {
     match slot {
@@ -231,6 +238,39 @@ fn mpc_after(to_issue: Option<OperandSlot>, pipeline: &Pipeline, value: u32) -> 
     from_issued(to_issue, mpc)
 }
 
+/// What is on the operand buses for the word that issues.
+#[inline(always)]
+pub fn driven_by(to_issue: Option<OperandSlot>) -> Drive
+    ensures { result ≡ driven_by (in_operand to_issue) }
+{
+    match to_issue {
+        Some(slot) => Drive {
+            a: slot.a,
+            b: slot.b,
+            stalled: false,
+        },
+        None => Drive {
+            a: 0,
+            b: 0,
+            stalled: true,
+        },
+    }
+}
+
+/// A result with N and Z, and the shifted result.
+pub fn flagged(value: u32, c: u32) -> Computed
+    ensures { result ≡ flagged value c }
+{
+    Computed {
+        alu: AluOut {
+            value,
+            n: value >= 0x8000_0000,
+            z: value == 0,
+        },
+        c,
+    }
+}
+
 /// What leaves the ALU and the shifter for the word in the operand slot.
 #[inline(always)]
 pub fn values_of(operand: Option<OperandSlot>) -> Computed
@@ -240,14 +280,7 @@ pub fn values_of(operand: Option<OperandSlot>) -> Computed
         Some(slot) => {
             let value = slot.control.operate(slot.a, slot.b);
             let c = slot.control.shift(value);
-            Computed {
-                alu: AluOut {
-                    value,
-                    n: value >= 0x8000_0000,
-                    z: value == 0,
-                },
-                c,
-            }
+            flagged(value, c)
         }
         None => Computed::ZERO,
     }
@@ -280,7 +313,8 @@ impl Pipeline {
             return None;
         }
         let byte = dispatched(control, &self.latches.unit);
-        let Operands { a, b } = self.latches.operands(control);
+        control.is_decoded();
+        let Operands { a, b } = self.latches.operands(control.word, &control.lines);
         Some(OperandSlot {
             control: *control,
             a,
@@ -340,6 +374,40 @@ impl Pipeline {
         self.latches.word = held(self.result, self.latches.word, sampled);
         self.result = moved_on(self.operand, values.c);
         self.operand = to_issue;
+        Ok(())
+    }
+
+    /// The edge, with the access of the word that retires. An Err leaves everything as it was.
+    #[inline(always)]
+    pub fn edge<S: Source, K: Sink>(
+        &mut self,
+        to_issue: Option<OperandSlot>,
+        values: &Computed,
+        bus: &mut Bus,
+        source: &mut S,
+        sink: &mut K,
+    ) -> Result<(), BusFault>
+        requires latches { AreLatches self.old.latches }
+        requires there { bytes_leaving (in_operand to_issue) ≤ length self.old.latches.unit.bytes }
+        requires values { values.now ≡ values_of (in_operand self.old.operand) }
+        ensures latches { AreLatches self.new.latches }
+        ensures edge { (word : ℕ) → in_operand to_issue ≡ issued (statement_of Mic2 word) (pipeline_in self.old) →
+            IsEdgeOver mic3_meaning S.left K.held word (pipeline_in self.old) bus.old source.old sink.old
+            (pipeline_in self.new) bus.new source.new sink.new result }
+        ensures moved { OnOk result (HasMoved (in_operand to_issue) (pipeline_in self.old) (pipeline_in self.new)) }
+        ensures state { OnErr result (pipeline_in self.new ≡ pipeline_in self.old) }
+        ensures streams { StreamsGoOn S.left S.faults K.held K.passed K.faults bus.old source.old sink.old
+            bus.new source.new sink.new result }
+    {
+        console_law();
+        let taken = bytes_leaving(to_issue);
+        let mem = mem_in(self.result);
+        let jumps = jumps_now(self.result);
+        let ports = self.ports(taken);
+        let at = self.latches.will_fetch(jumps, ports.pc, taken);
+        let sampled = access(mem, at, &ports, bus, source, sink)?;
+        // What the fetch unit samples was tested before the access.
+        let _ = self.advance(to_issue, values, ports.pc, sampled, bus);
         Ok(())
     }
 }

@@ -1,59 +1,52 @@
-use Rattle.std.specs.Prelude.{Result}
-use Rattle.std.proofs.Common.{refl, ◌≡◌, ◌∙◌, ℕ, subst, rules, Ok, Err}
-use Rattle.console_port.specs.declared.fault.BusFault.{BusFault}
-use Rattle.mic_clock.specs.Edge.{IsEdgeOver}
-use Rattle.mic_clock.specs.Run.{word_at}
-use Rattle.mic3_datapath.specs.Mic3.{mic3_meaning}
-use Rattle.mic3_datapath.specs.Pipeline.{Pipeline}
-use Rattle.mic3_datapath.specs.View.{pipeline_of, microinstruction_of}
+use Rattle.std.proofs.Common.{◌≤◌, ◌∙◌, ℕ, Option, length, sym, ap, subst}
+use Rattle.mic_words.specs.declared.machine.Machine.TheVariants as machines
+use Rattle.micro_word.specs.Coding.{statement_of}
+use Rattle.mic_clock.specs.declared.buses.Drive.{Drive}
+use Rattle.mic3_datapath.specs.Pipeline.{Pipeline, Issued}
+use Rattle.mic3_datapath.specs.Cycle.{bytes_leaving, issued}
+use Rattle.mic3_datapath.specs.Mic3.{driven, driven_by}
+use Rattle.mic3_datapath.specs.Slots.{in_operand, pipeline_in}
+use Rattle.mic3_datapath.proofs.Steps.{issued_there, over_failed, over_told, seen_after, seen_kept}
 use Rattle.mic3_datapath.proofs.mic3.Mic3Clocked.clock.Goals as goal
 
--- an error is the same in a result of another type
-same_err : {T U E : Type 0} (a b : E) (r : Result T E) (q : Result U E) → r ≡ Err a → r ≡ Err b → q ≡ Err a → q ≡ Err b
-same_err a b r q is same out = cc
+pub edge-requires-clause-there : goal.edge-requires-clause-there
+edge-requires-clause-there g c =
+    let p = pipeline_in c.args.self.now.pipeline in
+    let unit_is = c.issue-to_issue.ensures.pipeline in
+    (subst (λ (q : Pipeline). bytes_leaving (in_operand c.issue-to_issue.result) ≤ length q.micro.unit.bytes) (sym unit_is)
+    (subst (λ (x : Option Issued). bytes_leaving x ≤ length p.micro.unit.bytes) (sym c.issue-to_issue.ensures.value)
+    (issued_there (statement_of machines.Mic2 c.of-control.result.word) p)))
 
-pub returns-in_err-edge-clause-edge : goal.returns-in_err-edge-clause-edge
-returns-in_err-edge-clause-edge g c =
-    let before = pipeline_of c.args.self.now in
-    let between = c.compute-computed.new.self in
-    let word_is : microinstruction_of between ≡ word_at mic3_meaning c.args.store.now.words before =
-    c.compute-computed.ensures.word ∙ (c.drive-drive.ensures.word ∙ c.setup.ensures.word) in
-    let state_is : pipeline_of between ≡ before = c.compute-computed.ensures.state ∙ (c.drive-drive.ensures.state ∙ c.setup.ensures.state) in
-    let failed : Result (Unit {0}) BusFault = Err c.in_err-edge.field-0.0 in
-    let Over : ℕ → Pipeline → Type 0 = λ w s.
-    IsEdgeOver mic3_meaning g.S.Source.left g.K.Sink.held w s c.args.bus.now c.args.source.now c.args.sink.now
-    (pipeline_of c.edge.new.self) c.edge.new.bus c.edge.new.source c.edge.new.sink failed in
-    let over = subst (λ (w : ℕ). Over w before) word_is (subst (λ (s : Pipeline). Over (microinstruction_of between) s) state_is c.in_err-edge.ensures.edge) in
-    let edge = over.edge in
-    let out : c.from_residual.result ≡ Err c.in_err-edge.field-0.0 = search rules in
-    record {
-      edge =
-          rw out
-          (record {
-            ok = tt;
-            others = tt;
-            refusal = λ w e s r. same_err c.in_err-edge.field-0.0 e failed (Err c.in_err-edge.field-0.0) refl (edge.refusal w e s r) refl;
-            err = edge.err;
-            state = edge.state;
-            stands = edge.stands;
-          });
-      waits = over.waits;
-    }
+pub returns-clause-stalled : goal.returns-clause-stalled
+unfolding driven
+returns-clause-stalled g c =
+    let p = pipeline_in c.args.self.now.pipeline in
+    ap (λ (d : Drive). d.stalled)
+    (c.driven_by-drive.ensures ∙ ap driven_by c.issue-to_issue.ensures.value
+    ∙ ap (λ (w : ℕ). driven_by (issued (statement_of machines.Mic2 w) p)) c.of-control.ensures)
+
+pub returns-clause-seen : goal.returns-clause-seen
+returns-clause-seen g c =
+    seen_after _ c.of-control.result.word c.of-control.ensures (pipeline_in c.args.self.now.pipeline) (pipeline_in c.issue-to_issue.new.self) (pipeline_in c.edge.new.self)
+    (in_operand c.issue-to_issue.result) c.driven_by-drive.result c.values_of-values.result c.issue-to_issue.ensures.value c.issue-to_issue.ensures.pipeline
+    c.driven_by-drive.ensures c.values_of-values.ensures c.in_ok-edge.ensures.moved
+
+pub returns-in_err-edge-clause-kept : goal.returns-in_err-edge-clause-kept
+returns-in_err-edge-clause-kept g c =
+    let old = c.args.self.now in
+    seen_kept c.from_residual.result old.stalled old.value (pipeline_in old.pipeline) (pipeline_in c.edge.new.self)
+    (c.in_err-edge.ensures.state ∙ c.issue-to_issue.ensures.pipeline)
 
 pub returns-clause-edge : goal.returns-clause-edge
 returns-clause-edge g c =
-    let before = pipeline_of c.args.self.now in
-    let between = c.compute-computed.new.self in
-    let word_is : microinstruction_of between ≡ word_at mic3_meaning c.args.store.now.words before =
-    c.compute-computed.ensures.word ∙ (c.drive-drive.ensures.word ∙ c.setup.ensures.word) in
-    let state_is : pipeline_of between ≡ before = c.compute-computed.ensures.state ∙ (c.drive-drive.ensures.state ∙ c.setup.ensures.state) in
-    let Over : ℕ → Pipeline → Type 0 = λ w s.
-    IsEdgeOver mic3_meaning g.S.Source.left g.K.Sink.held w s c.args.bus.now c.args.source.now c.args.sink.now
-    (pipeline_of c.edge.new.self) c.edge.new.bus c.edge.new.source c.edge.new.sink (Ok tt) in
-    let over = subst (λ (w : ℕ). Over w before) word_is (subst (λ (s : Pipeline). Over (microinstruction_of between) s) state_is c.in_ok-edge.ensures.edge) in
-    let edge = over.edge in
-    record {
-      edge =
-          record { ok = edge.ok; others = edge.others; refusal = λ w e s r. absurd (let is = edge.refusal w e s r in cc); err = tt; state = tt; stands = tt };
-      waits = over.waits;
-    }
+    let word = c.of-control.result.word in
+    over_told g.S.Source.left g.K.Sink.held _ _ _ _ c.of-control.ensures c.issue-to_issue.ensures.pipeline c.args.bus.now c.args.source.now c.args.sink.now
+    (pipeline_in c.edge.new.self) c.edge.new.bus c.edge.new.source c.edge.new.sink _
+    (c.in_ok-edge.ensures.edge word (c.issue-to_issue.ensures.value ∙ sym (ap (issued (statement_of machines.Mic2 word)) c.issue-to_issue.ensures.pipeline)))
+
+pub returns-in_err-edge-clause-edge : goal.returns-in_err-edge-clause-edge
+returns-in_err-edge-clause-edge g c =
+    let word = c.of-control.result.word in
+    over_failed g.S.Source.left g.K.Sink.held _ _ _ _ c.of-control.ensures c.issue-to_issue.ensures.pipeline c.args.bus.now c.args.source.now c.args.sink.now
+    (pipeline_in c.edge.new.self) c.edge.new.bus c.edge.new.source c.edge.new.sink c.in_err-edge.field-0.0 _ c.from_residual.ensures.1
+    (c.in_err-edge.ensures.edge word (c.issue-to_issue.ensures.value ∙ sym (ap (issued (statement_of machines.Mic2 word)) c.issue-to_issue.ensures.pipeline)))
