@@ -142,10 +142,8 @@ impl CachedBus {
         ensures ok { OnOk result ((left : Option (List ℕ)) (w : World) →
             Shows left (K.held sink.old) self.old.bus w → Shows left (K.held sink.new) self.new.bus (after_write (length self.old.bus.words) w at value)) }
         ensures err { (left : Option (List ℕ)) → IfErr result (Stands left (K.held sink.old) self.old.bus left (K.held sink.new) self.new.bus) }
-        ensures words { OnOk result (self.new.bus.words ≡ slice_set self.old.bus.words at value) }
-        ensures others { ChangesOnly at self.old.bus.words self.new.bus.words }
-        ensures input { self.new.bus.console.ended ≡ self.old.bus.console.ended }
-        ensures tally { self.new.tally ≡ self.old.tally }
+        ensures words { OnOk result (self.new.bus.words ≡ slice_set self.old.bus.words at value) × ChangesOnly at self.old.bus.words self.new.bus.words }
+        ensures same { (self.new.bus.console.ended ≡ self.old.bus.console.ended) × (self.new.tally ≡ self.old.tally) }
         ensures memory { at < length self.old.bus.words → IsOk result × (self.new.bus.console ≡ self.old.bus.console) × (sink.new ≡ sink.old) }
         ensures waits { length self.old.bus.console.kept < most_kept → sink.new ≡ sink.old }
         ensures sink { SinkGoesOn K.held K.passed (result ≡ Err BusFault.WriteFault) sink.old sink.new }

@@ -230,8 +230,7 @@ impl Latches {
         requires lines { AreLines Mic1 (fields_of Mic1 word) lines.now }
         requires value { value ≡ result_of (statement_of Mic1 word).part (micro_in self.old) }
         requires c { c ≡ shifted (statement_of Mic1 word).part.shift value }
-        requires word_sampled { is_some sampled.word ≡ reads word }
-        requires byte_sampled { is_some sampled.byte ≡ fetches word }
+        requires sampled { (is_some sampled.word ≡ reads word) × (is_some sampled.byte ≡ fetches word) }
         ensures latches { AreLatches self.new }
         ensures micro { micro_in self.new ≡ moved_on word value (micro_in self.old) sampled.word sampled.byte }
         ensures last { IsLast word self.new }

@@ -356,9 +356,8 @@ impl Latches {
         sampled: Option<u32>,
         bus: &Bus,
     ) -> Result<(), BusFault>
-        requires latches { AreLatches self.old }
+        requires latches { AreLatches self.old × (lines.now.takes ≤ length self.old.unit.bytes) }
         requires decoded { IsDecoded word lines.now }
-        requires there { lines.now.takes ≤ length self.old.unit.bytes }
         requires value { value ≡ result_of (statement_of Mic2 word).part (micro_in self.old) }
         requires c { c ≡ shifted (statement_of Mic2 word).part.shift value }
         ensures latches { AreLatches self.new }

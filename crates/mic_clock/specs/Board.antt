@@ -225,6 +225,10 @@ pub record AreCounts (c : Counts) (end : Option End) : Type 0 where
   pub boundary : last_cycles c.boundary ≤ c.cycles
   pub since : c.cycles ≤ last_cycles c.boundary + 1024
 
+-- at most 1,024 cycles follow cycle `top`, and as many the last boundary
+abbrev pub IsNear : ℕ → Counts → Type 0
+IsNear top c = (c.cycles ≤ top + 1024) × (c.cycles ≤ last_cycles c.boundary + 1024)
+
 -- At most 1,024 cycles follow the last boundary, which is at cycle `top` or before, unless the board stands there or has ended.
 pub record InTime (top : ℕ) (c : Counts) (is_boundary : Bool) (end : Option End) : Type 0 where
   pub cycles : c.cycles ≤ top + 1024

@@ -7,9 +7,9 @@ ghost use Rattle.console_port.specs.View.{KeepsMemoryAndInput};
 ghost use Rattle.console_port.specs.Console.{HasFaultCause};
 ghost use Rattle.console_port.specs.Streams.{SinkGoesOn};
 ghost use Rattle.mic_clock.specs.Edge.{LetsBytesWait};
-ghost use Rattle.mic_clock.specs.Run.{MicroRun, start_counts, start_buses, bounded, word_at, last_cycles};
+ghost use Rattle.mic_clock.specs.Run.{MicroRun, start_counts, start_buses, bounded, word_at};
 ghost use Rattle.mic_clock.specs.Board.{ShowsAs, IsReset, NoFault, HasEndCause, tick_of, IsTurned, IsCutByFault, IsReached, IsRun, RunIsCutByRead, RunIsCutByWrite, BoundIsCutByWrite, IsLegRun, LegIsCutByRead, LegIsCutByWrite};
-ghost use Rattle.mic_clock.specs.Board.{IsAtBoundary, IsBelow, AreCounts, EndsInTime, ChangesAtMar, EndsUnwritten, IsOnlyFlushed, GoesOn, IsCountedTurn, KeepsInTime, ComesInTime, TurnIsCut};
+ghost use Rattle.mic_clock.specs.Board.{IsAtBoundary, IsBelow, IsNear, AreCounts, EndsInTime, ChangesAtMar, EndsUnwritten, IsOnlyFlushed, GoesOn, IsCountedTurn, KeepsInTime, ComesInTime, TurnIsCut};
 
 use crate::buses::{Computed, Drive};
 use crate::clocked::Clocked;
@@ -168,8 +168,7 @@ impl<M: Clocked> Board<M> {
             ShowsAs M.state (K.held sink.old) self.old (K.held sink.new) self.new (bounded M.meaning (Some bound)) }
         ensures write { (left : Option (List ℕ)) → BoundIsCutByWrite M.state M.meaning left (K.held sink.old) self.old left (K.held sink.new) self.new bound }
         ensures value { result ≡ self.new.end }
-        ensures below { result ≡ None → IsBelow M.state M.meaning bound self.old }
-        ensures counts { AreCounts self.new.counts self.new.end }
+        ensures in_time { (result ≡ None → IsBelow M.state M.meaning bound self.old) × AreCounts self.new.counts self.new.end }
         ensures stays { (result ≡ None → (self.new ≡ self.old) × (sink.new ≡ sink.old))
             × ((e : End) → self.old.end ≡ Some e → (self.new ≡ self.old) × (sink.new ≡ sink.old)) }
         ensures kept { self.old.end ≡ None → IsSome self.new.end → self.new.bus.console.kept ≡ [] }
@@ -247,8 +246,7 @@ impl<M: Clocked> Board<M> {
         ensures write { RunIsCutByWrite M.state M.meaning (S.left source.old) (K.held sink.old) self.old
             (S.left source.new) (K.held sink.new) self.new (Some bound) }
         ensures end { self.new.end ≡ Some result }
-        ensures cycles { self.new.counts.cycles ≤ max bound self.old.counts.cycles + 1024 }
-        ensures near { self.new.counts.cycles ≤ last_cycles self.new.counts.boundary + 1024 }
+        ensures times { IsNear (max bound self.old.counts.cycles) self.new.counts }
         ensures kept { self.old.end ≡ None → self.new.bus.console.kept ≡ [] }
         ensures goes_on { GoesOn S.left S.faults K.held K.passed K.faults source.old sink.old self.old source.new sink.new self.new }
     {
@@ -264,8 +262,7 @@ impl<M: Clocked> Board<M> {
 
     /// Puts what the console keeps to the sink, at any time.
     pub fn flush<K: Sink>(&mut self, sink: &mut K) -> Result<(), BusFault>
-        ensures board { self.new ≡ record self.old { bus = self.new.bus } }
-        ensures others { KeepsMemoryAndInput self.old.bus self.new.bus }
+        ensures same { (self.new ≡ record self.old { bus = self.new.bus }) × KeepsMemoryAndInput self.old.bus self.new.bus }
         ensures ok { OnOk result (ShowsAs M.state (K.held sink.old) self.old (K.held sink.new) self.new (λ r. r)) }
         ensures err { (left : Option (List ℕ)) → IfErr result (Stands left (K.held sink.old) self.old.bus left (K.held sink.new) self.new.bus) }
         ensures fault { IfErr result (λ e. e ≡ BusFault.WriteFault) }

@@ -148,8 +148,7 @@ impl Clocking<'_> {
         out: &mut K,
         err: &mut E,
     ) -> Result<bool, SessionFault>
-        requires live { board.old.end ≡ None }
-        requires cycles { board.old.counts.cycles ≤ 2 ^ 62 + 4096 }
+        requires ready { (board.old.end ≡ None) × (board.old.counts.cycles ≤ 2 ^ 62 + 4096) }
         ensures turn { IsTurned M.state M.meaning (S.left input.old) (K.held out.old) board.old (S.left input.new)
             (K.held out.new) board.new (Some self.now.bound) }
         ensures read { RunIsCutByRead M.state M.meaning (S.left input.old) (K.held out.old) board.old

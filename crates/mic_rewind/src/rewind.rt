@@ -109,9 +109,8 @@ impl<M: Clocked> Rewind<M> {
 
     /// Puts what the board's console keeps to the sink.
     pub fn flush<K: Sink>(&mut self, sink: &mut K) -> Result<(), BusFault>
-        ensures history { self.new.history ≡ self.old.history }
-        ensures board { self.new.board ≡ record self.old.board { bus = self.new.board.bus } }
-        ensures others { KeepsMemoryAndInput self.old.board.bus self.new.board.bus }
+        ensures same { (self.new ≡ record self.old { board = record self.old.board { bus = self.new.board.bus } })
+            × KeepsMemoryAndInput self.old.board.bus self.new.board.bus }
         ensures ok { OnOk result (ShowsAs M.state (K.held sink.old) self.old.board (K.held sink.new) self.new.board (λ r. r)) }
         ensures err { StandsOnErr K.held sink.old self.old.board.bus sink.new self.new.board.bus result }
         ensures fault { IfErr result (λ e. e ≡ BusFault.WriteFault) }

@@ -42,7 +42,7 @@ returns-in-Ok-clause-watched g c =
     record {
       cycles = w.cycles;
       run = subst (λ (e : Option End). ShowsCycles state m c.args.bound left0 held0 c.args.board.now left held' new w.cycles e) ends_so
-          (flush-done state m c.args.bound left0 held0 c.args.board.now left held mid held' new w.cycles c.flush.ensures.board c.flush.ensures.others.1
+          (flush-done state m c.args.bound left0 held0 c.args.board.now left held mid held' new w.cycles c.flush.ensures.same.0 c.flush.ensures.same.1.1
           c.in-Ok.ensures.ok (λ none. let same = c.flush.ensures.empty none in (same.1, ap g.K.Sink.held same.2))
           (λ p. c.in_ok-watch_turns.ensures.goes_on.kept faults.ReadFault c.requires.board.not_ended tt p) (λ p. c.in_ok-watch_turns.ensures.goes_on.kept faults.WriteFault c.requires.board.not_ended tt p) w.run);
       saw = w.saw;
@@ -65,8 +65,8 @@ returns-in-Err-clause-watched g c =
     no_fault mid.end (λ p. kept (c.in_ok-watch_turns.ensures.goes_on.kept faults.ReadFault c.requires.board.not_ended tt p)) (λ p. kept (c.in_ok-watch_turns.ensures.goes_on.kept faults.WriteFault c.requires.board.not_ended tt p)) in
     record {
       cycles = w.cycles;
-      run = flush-lost state m c.args.bound left0 held0 c.args.board.now left held mid held' new w.cycles c.flush.ensures.board c.flush.ensures.others.1
-          c.in_ok-watch_turns.ensures.ended kept plain c.flush.ensures.others.0 ((c.in-Err.ensures.err left).lost c.in-Err.ensures.fault) w.run;
+      run = flush-lost state m c.args.bound left0 held0 c.args.board.now left held mid held' new w.cycles c.flush.ensures.same.0 c.flush.ensures.same.1.1
+          c.in_ok-watch_turns.ensures.ended kept plain c.flush.ensures.same.1.0 ((c.in-Err.ensures.err left).lost c.in-Err.ensures.fault) w.run;
       saw = w.saw;
     }
 
@@ -76,7 +76,7 @@ returns-in-Ok-clause-goes_on g c =
     let end : End = c.unwrap-end.result in
     let ends_so : mid.end ≡ Some end = search rules in
     goes-flushed c.requires.board.not_ended c.in_ok-watch_turns.ensures.goes_on c.flush.new.self (Some end)
-    (ap (λ (b : BoardView g.row.M.Denot). b.store) c.flush.ensures.board) c.flush.ensures.others.1 c.flush.ensures.kept c.flush.ensures.sink
+    (ap (λ (b : BoardView g.row.M.Denot). b.store) c.flush.ensures.same.0) c.flush.ensures.same.1.1 c.flush.ensures.kept c.flush.ensures.sink
     (λ q. (λ p. q (sym ends_so ∙ p), λ p. cc))
     (cause-flushed _ _ _ _ _ _ mid.end (Some end) (c.flush.ensures.cause.sink_same (λ p. cc)) ends_so c.in_ok-watch_turns.ensures.goes_on.cause)
 
@@ -89,5 +89,5 @@ returns-in-Err-clause-goes_on g c =
     let plain : NoFault None mid.end =
     no_fault mid.end (λ p. kept (goes_on.kept faults.ReadFault not_ended tt p)) (λ p. kept (goes_on.kept faults.WriteFault not_ended tt p)) in
     goes-flushed not_ended goes_on c.flush.new.self (Some ends.WriteFault)
-    (ap (λ (b : BoardView g.row.M.Denot). b.store) c.flush.ensures.board) c.flush.ensures.others.1 c.flush.ensures.kept c.flush.ensures.sink (λ q. absurd (q refl))
+    (ap (λ (b : BoardView g.row.M.Denot). b.store) c.flush.ensures.same.0) c.flush.ensures.same.1.1 c.flush.ensures.kept c.flush.ensures.sink (λ q. absurd (q refl))
     (cause-lost _ _ _ _ _ _ mid.end not_ended plain goes_on.cause (c.in-Err.ensures.cause.write (ap (λ e. e) (search rules))) c.flush.ensures.cause.sink_later)

@@ -39,8 +39,8 @@ returns-clause-micro c =
       h = (kept 8 (omega arith) (omega arith) ∙ ap (λ (r : NineRegisters). r.h) became) i;
       mbr = mbr i;
       mpc = (c.goes_on-self.ensures.next s.next valid.next addr jam ∙ ap (λ (x : ℕ). next_address s.next c.args.value x) mbr) i;
-      word = (ap (λ (x : ℕ). under_way (reads c.args.word) x) c.take.ensures ∙ kept_under_way c.args.sampled.word _ c.args.self.now.word c.requires.word_sampled) i;
-      byte = (ap (λ (x : ℕ). under_way (fetches c.args.word) x) c.take_byte.ensures ∙ kept_under_way c.args.sampled.byte _ c.args.self.now.byte c.requires.byte_sampled) i;
+      word = (ap (λ (x : ℕ). under_way (reads c.args.word) x) c.take.ensures ∙ kept_under_way c.args.sampled.word _ c.args.self.now.word c.requires.sampled.0) i;
+      byte = (ap (λ (x : ℕ). under_way (fetches c.args.word) x) c.take_byte.ensures ∙ kept_under_way c.args.sampled.byte _ c.args.self.now.byte c.requires.sampled.1) i;
       entry = c.args.self.now.entry;
       clocked = true;
     }

@@ -43,9 +43,9 @@ returns-then-is_some-clause-in_time g c =
     let new = c.stop_at.new.self in
     let over : IsSome new.end = search rules in
     let boundary : new.counts.boundary ≡ board.counts.boundary = ap (λ (b : BoardView g.row.M.Denot). b.counts.boundary) c.stop_at.ensures.same.same in
-    let near : new.counts.cycles ≤ last_cycles board.counts.boundary + 1024 = rw (← boundary) c.stop_at.ensures.counts.since in
+    let near : new.counts.cycles ≤ last_cycles board.counts.boundary + 1024 = rw (← boundary) c.stop_at.ensures.in_time.1.since in
     let late : new.end ≡ None → ⊥ = λ q. absurd (let still = subst IsSome q over in cc) in
-    record { within = near; near = c.stop_at.ensures.counts.since; ordered = c.stop_at.ensures.counts.boundary; onward = λ _ q. absurd (late q); boundary = λ q. absurd (late q) }
+    record { within = near; near = c.stop_at.ensures.in_time.1.since; ordered = c.stop_at.ensures.in_time.1.boundary; onward = λ _ q. absurd (late q); boundary = λ q. absurd (late q) }
 
 -- The bound does not end the board, which is then as it was, with the sink, and an instruction follows.
 here : (g : Over) → (c : goal.After-instruction g) → (P : BoardView g.row.M.Denot → Option (List ℕ) → Type 0) →

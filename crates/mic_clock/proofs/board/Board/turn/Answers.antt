@@ -91,4 +91,4 @@ returns-clause-in_time g c = λ top le not_ended t.
     let counted : IsCountedTurn state m board new = subst (λ b. IsCountedTurn state m b new) (c.stop_at.ensures.stays.0 none).0 c.cycle.ensures.counted in
     InTime-step m top c.args.bound board.counts new.counts (m.is_boundary (state board.machine))
     (m.drives (word_at m board.store.words (state board.machine)) (state board.machine)).stalled (state new.machine) board.end new.end not_ended le t
-    counted.still counted.room (λ q. (counted.clocked q).1) (λ _. c.stop_at.ensures.below none)
+    counted.still counted.room (λ q. (counted.clocked q).1) (λ _. c.stop_at.ensures.in_time.0 none)
