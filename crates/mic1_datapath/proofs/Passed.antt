@@ -1,7 +1,9 @@
 -- A fault that is passed on is the fault of the edge.
 use Rattle.std.proofs.Common.{◌≡◌, ℕ, List, Option, Result, Ok, Err, IsErrAnd, ap, subst, sym}
+use Rattle.console_port.specs.Streams.{StreamsGoOn}
 use Rattle.console_port.specs.View.{BusView}
 use Rattle.console_port.specs.declared.fault.BusFault.{BusFault}
+use Rattle.console_port.specs.declared.fault.BusFault.TheVariants.{ReadFault, WriteFault}
 use Rattle.mic_clock.specs.Edge.{IsEdge}
 use Rattle.mic1_datapath.specs.Mic1.{mic1_meaning}
 use Rattle.mic1_datapath.specs.Micro.{Micro}
@@ -17,3 +19,31 @@ module _ (word : ℕ) (m : Micro) (left held : Option (List ℕ)) (bus : BusView
   edge_passed {T} {U} m' e r is h =
       subst (λ (x : Result U BusFault). IsEdge mic1_meaning word m left held bus {T = U} m' left' held' bus' x) (sym (is_passed r e is))
       (record { ok = tt; others = tt; refusal = λ w f shows refused. let same = h.refusal w f shows refused in cc; err = h.err; state = h.state; stands = h.stands })
+
+same_fault : {T U : Type 0} (e f : BusFault) (r : Result T BusFault) (q : Result U BusFault) → r ≡ Err e → q ≡ Err e → r ≡ Err f → q ≡ Err f
+same_fault e f r q was is at = cc
+
+-- what a fault leaves of the source and the sink does not depend on the type of the result
+module _ {S K : Type 0} (left : S → Option (List ℕ)) (source_faults : S → ℕ) (held passed : K → Option (List ℕ)) (sink_faults : K → ℕ)
+    (bus : BusView) (source : S) (sink : K) (bus' : BusView) (source' : S) (sink' : K) where
+  pub streams_passed : {T U : Type 0} (e : BusFault) (r : Result T BusFault) (q : Result U BusFault) → r ≡ Err e → IsErrAnd q (λ f. f ≡ e) →
+      StreamsGoOn left source_faults held passed sink_faults {T = T} bus source sink bus' source' sink' r →
+      StreamsGoOn left source_faults held passed sink_faults {T = U} bus source sink bus' source' sink' q
+  streams_passed e r q was passes h =
+      let is = is_passed q e passes in
+      record {
+        source_goes_on = h.source_goes_on;
+        sink_goes_on = record {
+          keeps = h.sink_goes_on.keeps;
+          tells = h.sink_goes_on.tells;
+          flushed = λ well. h.sink_goes_on.flushed (λ at. well (same_fault e WriteFault r q was is at));
+        };
+        cause = record {
+          source_later = h.cause.source_later;
+          sink_later = h.cause.sink_later;
+          read = λ at. h.cause.read (same_fault e ReadFault q r is was at);
+          write = λ at. h.cause.write (same_fault e WriteFault q r is was at);
+          source_same = λ other. h.cause.source_same (λ at. other (same_fault e ReadFault r q was is at));
+          sink_same = λ other. h.cause.sink_same (λ at. other (same_fault e WriteFault r q was is at));
+        };
+      }

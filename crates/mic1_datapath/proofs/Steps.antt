@@ -16,7 +16,8 @@ use Rattle.micro_word.specs.declared.statement.Placed.{Placed}
 use Rattle.mic_clock.specs.Edge.{IsEdge, LetsBytesWait}
 use Rattle.mic_clock.specs.Meaning.{Outcome, Done, refusal_in, untaken_by, given_by, ReadsConsole, WritesConsole, UsesConsole}
 use Rattle.mic_datapath.specs.Memory.{access_refusal, word_under_way, byte_under_way, written, sampled, outcome}
-use Rattle.mic1_datapath.specs.Microstep.{assigned, ports_of, result_of, settled, next_micro, refusal, clock, world_after}
+use Rattle.mic1_datapath.specs.Cycle.{ports_at}
+use Rattle.mic1_datapath.specs.Microstep.{ports_of, result_of, settled, next_micro, refusal, clock, world_after}
 use Rattle.mic_datapath.specs.Access.{AtConsole, HasAccessed, IsAccess, is_read, is_access, LetsBytesWait as LetsWait}
 use Rattle.mic1_datapath.specs.Mic1.{microstep, step_of_word, mic1_meaning}
 use Rattle.mic1_datapath.specs.Micro.{Micro}
@@ -35,16 +36,16 @@ pub record IsAsked (s : Placed) (m : Micro) (p : Asked) : Type 0 where
   pub fetched : p.fetch ≡ s.part.fetch
 
 -- what is asked is asked for the statement of the word that was set up
-pub is_asked : (word : ℕ) (m : Micro) (value c dests : ℕ) (ports : Ports) (mem : Mem) (fetch : Bool) →
+pub is_asked : (word : ℕ) (m : Micro) (value c : ℕ) (ports : Ports) (mem : Mem) (fetch : Bool) →
     value ≡ result_of (statement_of machines.Mic1 word).part m → c ≡ shifted (statement_of machines.Mic1 word).part.shift value →
-    dests ≡ (fields_of machines.Mic1 word).c → ports ≡ ports_of (assigned dests c m) →
+    ports ≡ ports_at word c m →
     mem ≡ mem_of (fields_of machines.Mic1 word).mem → fetch ≡ ((fields_of machines.Mic1 word).fetch == 1) →
     IsAsked (statement_of machines.Mic1 word) m (record { ports = ports; mem = mem; fetch = fetch })
 unfolding statement_of
-is_asked word m value c dests ports mem fetch value_is c_is dests_are ports_are mem_is fetch_is =
+is_asked word m value c ports mem fetch value_is c_is ports_are mem_is fetch_is =
     let v = c_is ∙ ap (λ (x : ℕ). shifted (statement_of machines.Mic1 word).part.shift x) value_is in
     record {
-      given = ports_are ∙ (λ i. ports_of (assigned (dests_are i) (v i) m));
+      given = ports_are ∙ ap (λ (x : ℕ). ports_at word x m) v;
       memory = mem_is;
       fetched = fetch_is;
     }

@@ -10,24 +10,24 @@ use Rattle.micro_word.specs.declared.statement.Mem.{Mem}
 use Rattle.mic_datapath.specs.Access.{IsAccess}
 use Rattle.mic_datapath.specs.Memory.{access_refusal}
 use Rattle.mic_datapath.specs.declared.ports.Ports.{Ports}
-use Rattle.mic1_datapath.specs.Cycle.{IsAtEdge, IsLast, IsTried, moved_on}
+use Rattle.mic1_datapath.specs.Cycle.{IsAtEdge, IsLast, IsTried, moved_on, ports_at}
 use Rattle.mic1_datapath.specs.Latches.{AreLatches, micro_in}
-use Rattle.mic1_datapath.specs.Microstep.{assigned, ports_of, settled, next_micro}
+use Rattle.mic1_datapath.specs.Microstep.{settled, next_micro}
 use Rattle.mic1_datapath.specs.declared.latches.Latches.{Latches}
 use Rattle.mic1_datapath.proofs.Steps.{Asked, IsAsked, edge_done, is_asked}
 
-pub tried : (word value c dests : ℕ) (lines : Lines) (l l' : Latches) (bus bus' : BusView) (ports : Ports) (mem : Mem) (fetch : Bool) (read byte : Option ℕ) →
-    IsAtEdge l word lines value c → dests ≡ (fields_of machines.Mic1 word).c → ports ≡ ports_of (assigned dests c (micro_in l)) →
+pub tried : (word value c : ℕ) (lines : Lines) (l l' : Latches) (bus bus' : BusView) (ports : Ports) (mem : Mem) (fetch : Bool) (read byte : Option ℕ) →
+    IsAtEdge l word lines value c → ports ≡ ports_at word c (micro_in l) →
     mem ≡ mem_of (fields_of machines.Mic1 word).mem → fetch ≡ ((fields_of machines.Mic1 word).fetch == 1) →
     access_refusal (length bus.words) mem fetch ports ≡ None →
     ((left held : Option (List ℕ)) → IsLed left held bus left held bus' (λ w v. IsAccess (length bus.words) mem fetch ports w read byte v)) →
     ChangesOnly ports.mar bus.words bus'.words → bus'.console ≡ bus.console →
     AreLatches l' → micro_in l' ≡ moved_on word value (micro_in l) read byte → IsLast word l' → IsTried word l bus l' bus' true
-tried word value c dests lines l l' bus bus' ports mem fetch read byte at dests_are ports_are mem_is fetch_is clear led others console latches moves last =
+tried word value c lines l l' bus bus' ports mem fetch read byte at ports_are mem_is fetch_is clear led others console latches moves last =
     let s = statement_of machines.Mic1 word in
     let m = micro_in l in
     let asked : Asked = record { ports = ports; mem = mem; fetch = fetch } in
-    let is : IsAsked s m asked = is_asked word m value c dests ports mem fetch at.computed.value_is at.computed.c_is dests_are ports_are mem_is fetch_is in
+    let is : IsAsked s m asked = is_asked word m value c ports mem fetch at.computed.value_is at.computed.c_is ports_are mem_is fetch_is in
     record {
       latches = latches;
       edge = λ done left held.

@@ -10,10 +10,13 @@ use Rattle.micro_word.specs.Operation.{shifted}
 use Rattle.micro_word.specs.Words.{is_canonical}
 use Rattle.micro_word.specs.declared.lines.Lines.{Lines}
 use Rattle.micro_word.specs.declared.statement.Mem.TheVariants as mems
+use Rattle.mic_datapath.specs.declared.ports.Ports.{Ports}
 use Rattle.mic1_datapath.specs.Latches.{AreLatches, fetches, micro_in}
 use Rattle.mic1_datapath.specs.Mic1.{mic1_meaning}
-use Rattle.mic1_datapath.specs.Microstep.{next_micro, result_of, settled}
+use Rattle.mic1_datapath.specs.Microstep.{assigned, next_micro, ports_of, result_of, settled}
 use Rattle.mic1_datapath.specs.Micro.{Micro}
+use Rattle.mic1_datapath.specs.declared.edge.Try.{Try}
+use Rattle.mic1_datapath.specs.declared.edge.Try.TheVariants as tries
 use Rattle.mic1_datapath.specs.declared.latches.Latches.{Latches}
 
 -- a canonical word, with its control lines
@@ -40,6 +43,10 @@ moved_on word value m read byte = next_micro (statement_of machines.Mic1 word).n
 abbrev pub IsLast : ℕ → Latches → Type 0
 IsLast word l = (l.before ≡ word) × (l.clocked ≡ true)
 
+-- what the memory's ports are given at the edge of a word, where this is on the C bus
+abbrev pub ports_at : ℕ → ℕ → Micro → Ports
+ports_at word c m = ports_of (assigned (fields_of machines.Mic1 word).c c m)
+
 -- a word that accesses nothing
 abbrev pub IsQuiet : ℕ → Type 0
 IsQuiet word = (mem_of (fields_of machines.Mic1 word).mem ≡ mems.None) × (fetches word ≡ false)
@@ -48,6 +55,12 @@ IsQuiet word = (mem_of (fields_of machines.Mic1 word).mem ≡ mems.None) × (fet
 abbrev pub IsEdgeInside : ℕ → Latches → BusView → Latches → BusView → Type 0
 IsEdgeInside word l bus l' bus' =
     (left held : Option (List ℕ)) → IsEdge mic1_meaning word (micro_in l) left held bus {T = ⊤} (micro_in l') left held bus' (Ok tt)
+
+-- whether a try did the edge
+abbrev pub is_done : Try → Bool
+is_done tries.Done = true
+is_done tries.Outside = false
+is_done tries.Other = false
 
 -- an edge that reaches only memory is done, or all is as it was
 pub record IsTried (word : ℕ) (l : Latches) (bus : BusView) (l' : Latches) (bus' : BusView) (done : Bool) : Type 0 where

@@ -3,11 +3,10 @@
 ghost use Rattle.std.specs.Prelude.{◌≡◌, ◌≢◌, true, false, OnOk, OnErr};
 ghost use Rattle.console_port.specs.Streams.{StreamsGoOn};
 ghost use Rattle.mic_words.specs.declared.machine.Machine.TheVariants.{Mic1};
-ghost use Rattle.micro_word.specs.Coding.{mem_of};
 ghost use Rattle.micro_word.specs.Layout.{fields_of};
 ghost use Rattle.mic_clock.specs.Edge.{IsEdgeOver};
-ghost use Rattle.mic1_datapath.specs.Cycle.{IsAtEdge, IsLast, IsQuiet, IsTried};
-ghost use Rattle.mic1_datapath.specs.Latches.{AreLatches, micro_in};
+ghost use Rattle.mic1_datapath.specs.Cycle.{IsAtEdge, IsLast, IsQuiet, IsTried, is_done};
+ghost use Rattle.mic1_datapath.specs.Latches.{AreLatches, fetches, micro_in};
 ghost use Rattle.mic1_datapath.specs.Mic1.{mic1_meaning};
 
 use crate::latches::{Latches, is_read};
@@ -24,16 +23,27 @@ const NOTHING: Sampled = Sampled {
     byte: None,
 };
 
+/// What came of a try to do an edge in one way.
+#[derive(Clone, Copy)]
+enum Try {
+    Done,
+    /// Its access is not in memory.
+    Outside,
+    /// It has accesses that this way does not make.
+    Other,
+}
+
 /// Whether a word accesses nothing.
 fn is_quiet(word: u64) -> bool
-    ensures { result ≡ true → IsQuiet word }
+    ensures quiet { result ≡ true → IsQuiet word }
+    ensures fetches { result ≡ false → (fields_of Mic1 word).mem ≡ 0 → fetches word ≡ true }
 {
     bits::mem(Machine::Mic1, word) == 0 && !bits::fetch(Machine::Mic1, word)
 }
 
 /// Whether a word neither reads nor writes.
 fn transfers_nothing(word: u64) -> bool
-    ensures nothing { result ≡ true → mem_of (fields_of Mic1 word).mem ≡ Mem.None }
+    ensures nothing { result ≡ true → (fields_of Mic1 word).mem ≡ 0 }
     ensures something { result ≡ false → (fields_of Mic1 word).mem ≢ 0 }
 {
     bits::mem(Machine::Mic1, word) == 0
@@ -48,44 +58,40 @@ fn edge_of_one(
     value: u32,
     c: u32,
     bus: &mut Bus,
-) -> bool
+) -> Try
     requires { IsAtEdge latches.old word lines.now value c }
-    ensures { IsTried word latches.old bus.old latches.new bus.new result }
+    ensures { IsTried word latches.old bus.old latches.new bus.new (is_done result) }
 {
     if is_quiet(word) {
         latches.advance(word, lines, value, c, NOTHING);
-        return true;
+        return Try::Done;
     }
-    let destinations = bits::destinations(Machine::Mic1, word);
-    let fetch = bits::fetch(Machine::Mic1, word);
     // One bit of the word after the other, which is faster than a jump by all three.
     if transfers_nothing(word) {
-        let pc = latches.pc_port(destinations, c);
-        if fetch {
-            if bus.has(pc / 4) {
-                let sampled = fetch_alone(pc, bus);
-                latches.advance(word, lines, value, c, sampled);
-                return true;
-            }
+        let pc = latches.pc_port(word, c);
+        if !bus.has(pc / 4) {
+            return Try::Outside;
         }
-        return false;
+        let sampled = fetch_alone(pc, bus);
+        latches.advance(word, lines, value, c, sampled);
+        return Try::Done;
     }
-    if fetch {
-        return false;
+    if bits::fetch(Machine::Mic1, word) {
+        return Try::Other;
     }
-    let mar = latches.mar_port(destinations, c);
+    let mar = latches.mar_port(word, c);
     if !bus.has(mar) {
-        return false;
+        return Try::Outside;
     }
     if is_read(word) {
         let sampled = read_alone(mar, bus);
         latches.advance(word, lines, value, c, sampled);
-        return true;
+        return Try::Done;
     }
-    let mdr = latches.mdr_port(destinations, c);
+    let mdr = latches.mdr_port(word, c);
     write_alone(mar, mdr, bus);
     latches.advance(word, lines, value, c, NOTHING);
-    true
+    Try::Done
 }
 
 /// The edge of a word whose accesses reach only memory. For any other, nothing is done.
@@ -102,12 +108,14 @@ fn edge_inside(
     ensures { IsTried word latches.old bus.old latches.new bus.new result }
 {
     // Most words access nothing, and most others one thing.
-    if edge_of_one(latches, word, lines, value, c, bus) {
-        return true;
+    match edge_of_one(latches, word, lines, value, c, bus) {
+        Try::Done => return true,
+        Try::Outside => return false,
+        Try::Other => {}
     }
     let mem = Mem::of_bits(bits::mem(Machine::Mic1, word));
     let fetch = bits::fetch(Machine::Mic1, word);
-    let ports = latches.ports(bits::destinations(Machine::Mic1, word), c);
+    let ports = latches.ports(word, c);
     if !is_in_memory(mem, fetch, ports.mar, ports.pc, bus) {
         return false;
     }
@@ -140,7 +148,7 @@ fn any_edge<S: Source, K: Sink>(
     console_law();
     let mem = Mem::of_bits(bits::mem(Machine::Mic1, word));
     let fetch = bits::fetch(Machine::Mic1, word);
-    let ports = latches.ports(bits::destinations(Machine::Mic1, word), c);
+    let ports = latches.ports(word, c);
     let sampled = access(mem, fetch, &ports, bus, source, sink)?;
     latches.advance(word, lines, value, c, sampled);
     Ok(())

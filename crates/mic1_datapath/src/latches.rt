@@ -10,8 +10,8 @@ ghost use Rattle.micro_word.specs.Operation.{shifted};
 ghost use Rattle.mic_datapath.specs.Next.{GoesTo};
 ghost use Rattle.mic_datapath.specs.Registers.{arrived as arrived_of};
 ghost use Rattle.mic1_datapath.specs.Mic1.{initial as initial_of};
-ghost use Rattle.mic1_datapath.specs.Cycle.{IsLast, moved_on};
-ghost use Rattle.mic1_datapath.specs.Microstep.{assigned, ports_of, result_of};
+ghost use Rattle.mic1_datapath.specs.Cycle.{IsLast, moved_on, ports_at};
+ghost use Rattle.mic1_datapath.specs.Microstep.{result_of};
 ghost use Rattle.mic1_datapath.specs.Latches.{AreLatches, HasSignedMbr, access_by, micro_in, reads, fetches, under_way};
 
 use mic_clock::Start;
@@ -188,38 +188,48 @@ impl Latches {
         taken(is_read(self.before), self.word)
     }
 
-    /// What the memory's ports are given: their registers as they become.
-    pub fn ports(&self, c: u16, value: u32) -> Ports
+    /// What the memory's ports are given at the edge of a word: their registers as they become.
+    pub fn ports(&self, word: u64, c: u32) -> Ports
         requires { AreLatches self.now }
-        ensures { result ≡ ports_of (assigned c value (micro_in self.now)) }
+        ensures { result ≡ ports_at word c (micro_in self.now) }
     {
-        let mar = self.mar_port(c, value);
-        let mdr = self.mdr_port(c, value);
-        let pc = self.pc_port(c, value);
+        let mar = self.mar_port(word, c);
+        let mdr = self.mdr_port(word, c);
+        let pc = self.pc_port(word, c);
         Ports { mar, mdr, pc }
     }
 
     /// The address that the word port is given.
-    pub fn mar_port(&self, c: u16, value: u32) -> u32
-        ensures { result ≡ (ports_of (assigned c value (micro_in self.now))).mar }
+    pub fn mar_port(&self, word: u64, c: u32) -> u32
+        ensures { result ≡ (ports_at word c (micro_in self.now)).mar }
     {
-        port(c, MAR, value, &self.places)
+        port(
+            bits::destinations(Machine::Mic1, word),
+            MAR,
+            c,
+            &self.places,
+        )
     }
 
     /// The word that the word port is given.
-    pub fn mdr_port(&self, c: u16, value: u32) -> u32
+    pub fn mdr_port(&self, word: u64, c: u32) -> u32
         requires { AreLatches self.now }
-        ensures { result ≡ (ports_of (assigned c value (micro_in self.now))).mdr }
+        ensures { result ≡ (ports_at word c (micro_in self.now)).mdr }
     {
-        let there = port(c, MDR, value, &self.places);
+        let there = port(
+            bits::destinations(Machine::Mic1, word),
+            MDR,
+            c,
+            &self.places,
+        );
         arrived(self.arriving(), there)
     }
 
     /// The address that the byte port is given.
-    pub fn pc_port(&self, c: u16, value: u32) -> u32
-        ensures { result ≡ (ports_of (assigned c value (micro_in self.now))).pc }
+    pub fn pc_port(&self, word: u64, c: u32) -> u32
+        ensures { result ≡ (ports_at word c (micro_in self.now)).pc }
     {
-        port(c, PC, value, &self.places)
+        port(bits::destinations(Machine::Mic1, word), PC, c, &self.places)
     }
 
     /// Moves the registers and MPC on after a clocked word, with what its accesses sampled under way.

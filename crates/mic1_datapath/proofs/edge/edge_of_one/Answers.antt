@@ -1,9 +1,8 @@
 use Rattle.std.proofs.Common.{ℕ, true, false, None, refl, sym, ap, ◌∙◌, subst}
 use Rattle.console_port.specs.Bus.{ChangesOnly}
-use Rattle.micro_word.specs.Layout.{fields_of}
 use Rattle.micro_word.specs.declared.statement.Mem.TheVariants as mems
-use Rattle.mic_words.specs.declared.machine.Machine.TheVariants as machines
-use Rattle.mic1_datapath.specs.Microstep.{assigned, ports_of}
+use Rattle.micro_word.specs.Coding.{mem_of}
+use Rattle.mic1_datapath.specs.Cycle.{ports_at}
 use Rattle.mic1_datapath.specs.Latches.{access_by, micro_in}
 use Rattle.mic1_datapath.proofs.Inside.{led_inside, led_same}
 use Rattle.mic1_datapath.proofs.Tried.{tried}
@@ -14,26 +13,26 @@ use Rattle.mic1_datapath.proofs.edge.edge_of_one.Goals as goal
 pub returns-then-is_quiet : goal.returns-then-is_quiet
 returns-then-is_quiet c =
     let bus = c.args.bus.now in
-    let quiet = c.is_quiet.ensures c.if-is_quiet.true in
-    let dests = (fields_of machines.Mic1 c.args.word).c in
-    tried c.args.word c.args.value c.args.c dests c.args.lines.now c.args.latches.now c.advance.new.self bus bus
-    (ports_of (assigned dests c.args.c (micro_in c.args.latches.now))) mems.None false None None c.requires refl refl (sym quiet.0) (sym quiet.1) refl
+    let quiet = c.is_quiet.ensures.quiet c.if-is_quiet.true in
+    tried c.args.word c.args.value c.args.c c.args.lines.now c.args.latches.now c.advance.new.self bus bus
+    (ports_at c.args.word c.args.c (micro_in c.args.latches.now)) mems.None false None None c.requires refl (sym quiet.0) (sym quiet.1) refl
     (λ left held. led_same left held bus _ (λ w shows. record { its_word = refl; its_byte = refl; after = refl })) (refl, λ a other. refl) refl
     c.advance.ensures.latches c.advance.ensures.micro c.advance.ensures.last
 
 -- a word that fetches a byte of the memory, and accesses nothing else
 
-pub returns-then-has : goal.returns-then-has
-returns-then-has c =
+pub returns-then-transfers_nothing : goal.returns-then-transfers_nothing
+returns-then-transfers_nothing c =
     let bus = c.args.bus.now in
     let does = c.fetch_alone-sampled in
-    let ports = ports_of (assigned c.destinations-destinations.result c.args.c (micro_in c.args.latches.now)) in
+    let none = c.transfers_nothing.ensures.nothing c.if-transfers_nothing.true in
+    let ports = ports_at c.args.word c.args.c (micro_in c.args.latches.now) in
     let here = sym c.pc_port-pc.ensures in
-    tried c.args.word c.args.value c.args.c c.destinations-destinations.result c.args.lines.now c.args.latches.now c.advance-then-has.new.self bus bus
-    ports mems.None true does.result.word does.result.byte c.requires c.destinations-destinations.ensures.value refl
-    (sym (c.transfers_nothing.ensures.nothing c.if-transfers_nothing.true)) (sym c.if-fetch.true ∙ c.fetch-fetch.ensures) (does.ensures.clear ports here)
+    tried c.args.word c.args.value c.args.c c.args.lines.now c.args.latches.now c.advance-then-transfers_nothing.new.self bus bus
+    ports mems.None true does.result.word does.result.byte c.requires refl
+    (sym (ap mem_of none)) (sym (c.is_quiet.ensures.fetches c.if-is_quiet.false none)) (does.ensures.clear ports here)
     (λ left held. led_same left held bus _ (λ w shows. does.ensures.access ports here w shows.words)) (refl, λ a other. refl) refl
-    c.advance-then-has.ensures.latches c.advance-then-has.ensures.micro c.advance-then-has.ensures.last
+    c.advance-then-transfers_nothing.ensures.latches c.advance-then-transfers_nothing.ensures.micro c.advance-then-transfers_nothing.ensures.last
 
 -- a word that reads a word of the memory, and accesses nothing else
 
@@ -41,11 +40,11 @@ pub returns-then-is_read : goal.returns-then-is_read
 returns-then-is_read c =
     let bus = c.args.bus.now in
     let does = c.read_alone-sampled in
-    let ports = ports_of (assigned c.destinations-destinations.result c.args.c (micro_in c.args.latches.now)) in
+    let ports = ports_at c.args.word c.args.c (micro_in c.args.latches.now) in
     let here = sym c.mar_port-mar.ensures in
-    tried c.args.word c.args.value c.args.c c.destinations-destinations.result c.args.lines.now c.args.latches.now c.advance-then-is_read.new.self bus bus
-    ports mems.Read false does.result.word does.result.byte c.requires c.destinations-destinations.ensures.value refl
-    (sym (c.is_read.ensures.mem (c.transfers_nothing.ensures.something c.if-transfers_nothing.false) ∙ ap access_by c.if-is_read.true)) (sym c.if-fetch-2.false ∙ c.fetch-fetch.ensures) (does.ensures.clear ports here)
+    tried c.args.word c.args.value c.args.c c.args.lines.now c.args.latches.now c.advance-then-is_read.new.self bus bus
+    ports mems.Read false does.result.word does.result.byte c.requires refl
+    (sym (c.is_read.ensures.mem (c.transfers_nothing.ensures.something c.if-transfers_nothing.false) ∙ ap access_by c.if-is_read.true)) (sym c.if-fetch.false ∙ c.fetch.ensures) (does.ensures.clear ports here)
     (λ left held. led_same left held bus _ (λ w shows. does.ensures.access ports here w shows.words)) (refl, λ a other. refl) refl
     c.advance-then-is_read.ensures.latches c.advance-then-is_read.ensures.micro c.advance-then-is_read.ensures.last
 
@@ -56,11 +55,11 @@ returns c =
     let bus = c.args.bus.now in
     let bus' = c.write_alone.new.bus in
     let does = c.write_alone.ensures in
-    let ports = ports_of (assigned c.destinations-destinations.result c.args.c (micro_in c.args.latches.now)) in
+    let ports = ports_at c.args.word c.args.c (micro_in c.args.latches.now) in
     let here = sym c.mar_port-mar.ensures in
-    tried c.args.word c.args.value c.args.c c.destinations-destinations.result c.args.lines.now c.args.latches.now c.advance-2.new.self bus bus'
-    ports mems.Write false None None c.requires c.destinations-destinations.ensures.value refl
-    (sym (c.is_read.ensures.mem (c.transfers_nothing.ensures.something c.if-transfers_nothing.false) ∙ ap access_by c.if-is_read.false)) (sym c.if-fetch-2.false ∙ c.fetch-fetch.ensures) (does.clear ports here)
+    tried c.args.word c.args.value c.args.c c.args.lines.now c.args.latches.now c.advance-2.new.self bus bus'
+    ports mems.Write false None None c.requires refl
+    (sym (c.is_read.ensures.mem (c.transfers_nothing.ensures.something c.if-transfers_nothing.false) ∙ ap access_by c.if-is_read.false)) (sym c.if-fetch.false ∙ c.fetch.ensures) (does.clear ports here)
     (λ left held. led_inside left held bus bus' does.console _ (λ w shows. does.access ports here (sym c.mdr_port-mdr.ensures) w shows.words))
     (subst (λ (a : ℕ). ChangesOnly a bus.words bus'.words) (sym here) does.others) does.console
     c.advance-2.ensures.latches c.advance-2.ensures.micro c.advance-2.ensures.last

@@ -1,6 +1,9 @@
-use Rattle.std.proofs.Common.{◌∙◌}
+use Rattle.std.proofs.Common.{ℕ, ◌∙◌, ap}
+use Rattle.mic_datapath.specs.Places.{place_loaded}
 use Rattle.mic_datapath.specs.Registers.{arrived}
 use Rattle.mic1_datapath.proofs.latches.Latches.mdr_port.Goals as goal
 
 pub returns : goal.returns
-returns c = c.arrived.ensures ∙ (λ j. arrived (c.arriving.ensures j) (c.port-there.ensures j))
+returns c =
+    let there = c.port-there.ensures ∙ ap (λ (dests : ℕ). place_loaded dests c.args.c c.args.self.now.places 1) c.destinations.ensures.value in
+    c.arrived.ensures ∙ (λ j. arrived (c.arriving.ensures j) (there j))
