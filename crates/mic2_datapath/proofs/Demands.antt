@@ -118,6 +118,13 @@ dispatch_takes (nexts.Dispatch high) operands h = omega arith
 dispatch_takes (nexts.Branch tests.N low) operands h = absurd (cc)
 dispatch_takes (nexts.Branch tests.Z low) operands h = absurd (cc)
 
+-- JMPC is the only one of the three that makes 4 or more
+pub is_dispatch : (n : PlacedNext) (jam : ℕ) → jam ≡ jam_bits n → 4 ≤ jam → jam_bits n ≡ 4
+is_dispatch (nexts.Goto to) jam is some = absurd (omega arith)
+is_dispatch (nexts.Dispatch high) jam is some = refl
+is_dispatch (nexts.Branch tests.N low) jam is some = absurd (omega arith)
+is_dispatch (nexts.Branch tests.Z low) jam is some = absurd (omega arith)
+
 -- the last of the bytes is the one after the operand's, where one is dispatched
 pub dispatched_last : (n : PlacedNext) (value x takes operands : ℕ) (bytes : ℕ → ℕ) → jam_bits n ≡ 4 → takes ≡ operands + dispatch_bytes n → x ≡ bytes (takes - 1) →
     next_address n value x ≡ next_address n value (bytes operands)

@@ -52,6 +52,10 @@ pub record IsDecoded (word : ℕ) (lines : Lines) : Type 0 where
   pub decoded : AreLines Mic2 (fields_of Mic2 word) lines
   pub demands : lines.takes ≡ demand (statement_of Mic2 word)
 
+-- JMPC, JAMN and JAMZ of a word
+abbrev pub jam_in : ℕ → ℕ
+jam_in word = (fields_of Mic2 word).jam
+
 -- the front of the queue stands on its places, as far as this many bytes of it are named
 pub record HasFront (operands : ℕ) (l : Latches) : Type 0 where
   pub byte : 1 ≤ operands → slice_index l.places 9 ≡ signed_byte (slice_index l.unit.bytes 0)

@@ -1,14 +1,14 @@
 //! The word that is clocked.
 
-ghost use Rattle.std.specs.Prelude.{◌≡◌, ◌≢◌, ◌<◌, IsTrue, None, slice_index, true, false};
+ghost use Rattle.std.specs.Prelude.{◌≡◌, ◌≢◌, ◌≤◌, ◌<◌, IsTrue, None, slice_index, true, false};
 ghost use Rattle.mic_words.specs.declared.machine.Machine.TheVariants.{Mic2};
 ghost use Rattle.micro_word.specs.Words.{is_canonical};
 ghost use Rattle.micro_word.specs.Coding.{addr_bits, jam_bits, mem_of, statement_of};
 ghost use Rattle.micro_word.specs.Layout.{fields_of};
-ghost use Rattle.micro_word.specs.Lines.{AreLines, AreSlots};
+ghost use Rattle.micro_word.specs.Lines.{AreLines, AreSlots, names};
 ghost use Rattle.micro_word.specs.Operation.{alu, shifted};
 ghost use Rattle.mic_datapath.specs.Next.{next_address};
-ghost use Rattle.mic2_datapath.specs.Latches.{IsDecoded, access_by};
+ghost use Rattle.mic2_datapath.specs.Latches.{IsDecoded, access_by, jam_in};
 ghost use Rattle.mic2_datapath.specs.Mic2.{computed_on, flagged, value_of};
 ghost use Rattle.mic2_datapath.specs.Microstep.{demand};
 
@@ -33,8 +33,19 @@ pub struct Control {
     ghost demands: { lines.takes ≡ demand (statement_of Mic2 word) },
 }
 
-/// The lower bit of the field SLL8 SRA1.
+/// The lower bit of the field SLL8 SRA1, the lowest of JMPC JAMN JAMZ, and JMPC.
 const SHIFT: u64 = 0x200_0000;
+
+const JAM: u64 = 0x800_0000;
+
+const DISPATCH: u64 = 0x2000_0000;
+
+/// The bits of MAR, MDR and PC in the field C.
+const MAR: u64 = 0x400;
+
+const MDR: u64 = 0x800;
+
+const PC: u64 = 0x1000;
 
 /// The word at an address, with its control lines.
 #[inline(always)]
@@ -114,6 +125,42 @@ pub fn reads(word: u64) -> bool
 {
     word_law(Machine::Mic2);
     bits::mem(Machine::Mic2, word) % 2 == 1
+}
+
+/// Whether a word loads MAR. The word itself shows it faster than its field does, here and below.
+pub fn loads_mar(word: u64) -> bool
+    ensures { result ≡ names (fields_of Mic2 word).c 0 }
+{
+    word / MAR % 2 == 1
+}
+
+/// Whether a word loads MDR.
+pub fn loads_mdr(word: u64) -> bool
+    ensures { result ≡ names (fields_of Mic2 word).c 1 }
+{
+    word / MDR % 2 == 1
+}
+
+/// Whether a word loads PC.
+pub fn loads_pc(word: u64) -> bool
+    ensures { result ≡ names (fields_of Mic2 word).c 2 }
+{
+    word / PC % 2 == 1
+}
+
+/// Whether a word goes on to Addr, as most words do.
+pub fn is_plain(word: u64) -> bool
+    ensures { result ≡ true → jam_in word ≡ 0 }
+{
+    word / JAM % 8 == 0
+}
+
+/// Whether a word dispatches.
+pub fn dispatches(word: u64) -> bool
+    ensures yes { result ≡ true → 4 ≤ jam_in word }
+    ensures no { result ≡ false → jam_in word < 4 }
+{
+    word / DISPATCH % 2 == 1
 }
 
 /// What left the ALU and the shifter for a word with this on its sides.

@@ -16,10 +16,10 @@ ghost use Rattle.mic_datapath.specs.Registers.{loaded, ports_given};
 ghost use Rattle.mic2_fetch_unit.specs.FetchUnit.{edge_refusal, sample_refusal};
 ghost use Rattle.mic2_datapath.specs.Mic2.{initial as initial_of};
 ghost use Rattle.mic2_datapath.specs.Microstep.{HasUnitEdge, advanced, byte_at, dispatch_bytes, is_to_instruction, moved_on, past, result_of, source, stalled, unit_refusal, unit_refused, unit_samples};
-ghost use Rattle.mic2_datapath.specs.Latches.{AreLatches, HasFront, IsDecoded, IsInside, loaded_in, micro_in};
+ghost use Rattle.mic2_datapath.specs.Latches.{AreLatches, HasFront, IsDecoded, IsInside, jam_in, loaded_in, micro_in};
 
 use crate::accesses::is_there;
-use crate::control::{JMPC, reads};
+use crate::control::{JMPC, dispatches, is_plain, loads_mar, loads_mdr, loads_pc, reads};
 use console_port::{Bus, BusFault};
 use mic_clock::Start;
 use mic_datapath::{
@@ -249,6 +249,31 @@ impl Latches {
         arrived(self.word, there)
     }
 
+    /// The address that the word port is given for a word.
+    #[inline(always)]
+    fn mar_for(&self, word: u64, value: u32) -> u32
+        ensures { result ≡ (loaded_in word value self.now).mar }
+    {
+        if loads_mar(word) {
+            value
+        } else {
+            self.places[MAR as usize]
+        }
+    }
+
+    /// The word that the word port is given for a word.
+    #[inline(always)]
+    fn mdr_for(&self, word: u64, value: u32) -> u32
+        ensures { result ≡ (loaded_in word value self.now).mdr }
+    {
+        let there = if loads_mdr(word) {
+            value
+        } else {
+            self.places[MDR as usize]
+        };
+        arrived(self.word, there)
+    }
+
     /// The word address that the fetch unit samples, if it samples one: where it jumps, that of the new PC.
     #[tactic(auto, unfolding(mic2_fetch_unit::specs::FetchUnit::edge_refusal))]
     pub fn will_fetch(&self, jumps: bool, pc: u32, taken: u8) -> Option<u32>
@@ -287,8 +312,7 @@ impl Latches {
         ensures others { ChangesOnly (loaded_in word c self.now).mar bus.old.words bus.new.words }
         ensures console { bus.new.console ≡ bus.old.console }
     {
-        let destinations = bits::destinations(Machine::Mic2, word);
-        let mar = self.mar_port(destinations, c);
+        let mar = self.mar_for(word, c);
         if !bus.has(mar) {
             return None;
         }
@@ -296,11 +320,10 @@ impl Latches {
             let sampled = read_alone(mar, bus);
             return Some(sampled.word);
         }
-        let jumps = is_named(destinations, PC);
-        if !self.samples_memory(jumps, c, taken, bus) {
+        if !self.samples_memory(loads_pc(word), c, taken, bus) {
             return None;
         }
-        let mdr = self.mdr_port(destinations, c);
+        let mdr = self.mdr_for(word, c);
         write_alone(mar, mdr, bus);
         Some(None)
     }
@@ -321,28 +344,25 @@ impl Latches {
 
     /// Where a word goes on. A dispatch takes the last of the bytes that its word takes.
     #[inline(always)]
-    fn goes_on(&self, jam: u8, addr: u16, takes: u8, value: u32) -> Onward
+    fn goes_on(&self, word: u64, addr: u16, takes: u8, value: u32) -> Onward
         requires addr { addr < 512 }
         requires there { takes ≤ length self.now.unit.bytes }
-        requires some { jam ≡ JMPC → 1 ≤ takes }
-        ensures mpc { (n : PlacedNext) (operands : ℕ) → IsTrue (is_next n) → addr ≡ addr_bits n → jam ≡ jam_bits n → takes ≡ operands + dispatch_bytes n →
+        requires some { 4 ≤ jam_in word → 1 ≤ takes }
+        ensures mpc { (n : PlacedNext) (operands : ℕ) → IsTrue (is_next n) → addr ≡ addr_bits n → jam_in word ≡ jam_bits n → takes ≡ operands + dispatch_bytes n →
             result.mpc ≡ next_address n value (byte_at self.now.unit operands) }
         ensures small { result.mpc < 512 }
-        ensures begins { (n : PlacedNext) → jam ≡ jam_bits n → addr ≡ addr_bits n → result.begins ≡ is_to_instruction n }
+        ensures begins { (n : PlacedNext) → jam_in word ≡ jam_bits n → addr ≡ addr_bits n → result.begins ≡ is_to_instruction n }
     {
-        // Most words go on to Addr.
-        let plain = jam == 0;
-        if plain {
-            return straight_on(jam, addr, value);
+        if is_plain(word) {
+            return straight_on(0, addr, value);
         }
-        let dispatches = jam == JMPC;
-        if dispatches {
+        if dispatches(word) {
             let byte = self.unit.byte_at(takes - 1);
-            let mpc = next_address(addr, jam, value, byte);
-            let begins = is_first(jam, addr);
+            let mpc = next_address(addr, JMPC, value, byte);
+            let begins = is_first(JMPC, addr);
             return Onward { mpc, begins };
         }
-        straight_on(jam, addr, value)
+        straight_on(bits::jam(Machine::Mic2, word), addr, value)
     }
 
     /// The edge of a cycle that does not stall, after its accesses, with what they read under way. An Err leaves all as is.
@@ -368,12 +388,10 @@ impl Latches {
     {
         word_law(Machine::Mic2);
         statement_law(Machine::Mic2);
-        let destinations = bits::destinations(Machine::Mic2, word);
-        let jam = bits::jam(Machine::Mic2, word);
         let takes = lines.takes;
-        let next = self.goes_on(jam, lines.addr, takes, value);
-        let jumps = is_named(destinations, PC);
-        go(jumps, c, takes, bus, &mut self.unit)?;
+        let next = self.goes_on(word, lines.addr, takes, value);
+        go(loads_pc(word), c, takes, bus, &mut self.unit)?;
+        let destinations = bits::destinations(Machine::Mic2, word);
         load(destinations, lines, c, takes, self.word, &mut self.places);
         self.mpc = next.mpc;
         self.word = sampled;

@@ -1,7 +1,6 @@
 use Rattle.std.proofs.Common.{◌≡◌, ℕ, ap, sym, subst, ◌∙◌, ◌≤◌, Option, length}
 use Rattle.mic_words.specs.declared.machine.Machine.TheVariants as machines
 use Rattle.micro_word.specs.Coding.{statement_of}
-use Rattle.micro_word.specs.Lines.{names}
 use Rattle.micro_word.specs.Operation.{shifted}
 use Rattle.micro_word.specs.declared.layout.Fields.{Fields}
 use Rattle.mic_datapath.specs.Places.{registers_at}
@@ -9,7 +8,7 @@ use Rattle.mic_datapath.specs.Registers.{loaded}
 use Rattle.mic2_fetch_unit.specs.FetchUnit.{sample_refusal}
 use Rattle.mic2_datapath.specs.Microstep.{advanced, jumps, operand_bytes, registers_in, result_of, settled}
 use Rattle.mic2_datapath.specs.Latches.{micro_in}
-use Rattle.mic2_datapath.proofs.Demands.{dispatch_takes}
+use Rattle.mic2_datapath.proofs.Demands.{dispatch_takes, is_dispatch}
 use Rattle.mic2_datapath.proofs.Steps.{sampled_there, unit_there}
 use Rattle.mic2_datapath.proofs.latches.Latches.advance.Goals as goal
 
@@ -18,8 +17,8 @@ unfolding statement_of
 goes_on-next-requires-clause-some c =
     let s = statement_of machines.Mic2 c.args.word in
     let spelled = c.word_law.ensures.spells c.args.word c.requires.decoded.canonical in
-    let jam = c.jam-jam.ensures.value ∙ ap (λ (f : Fields). f.jam) spelled.fields in
-    λ is. subst (λ (n : ℕ). 1 ≤ n) (sym c.requires.decoded.demands) (dispatch_takes s.next (operand_bytes s.part) (sym jam ∙ is))
+    let jam = ap (λ (f : Fields). f.jam) spelled.fields in
+    λ some. subst (λ (n : ℕ). 1 ≤ n) (sym c.requires.decoded.demands) (dispatch_takes s.next (operand_bytes s.part) (is_dispatch s.next _ jam some))
 
 pub returns-clause-ok : goal.returns-clause-ok
 unfolding statement_of
@@ -32,10 +31,10 @@ returns-clause-ok c =
     let became : registers_at c.load.new.places ≡ settled s m =
     c.load.ensures.registers
     ∙ (λ i. loaded (c.destinations-destinations.ensures.value i) (v i) m.word (record (registers_in m) { pc = advanced (c.requires.decoded.demands i) m.pc })) in
-    let jump : c.is_named-jumps.result ≡ jumps s.part = c.is_named-jumps.ensures ∙ ap (λ (d : ℕ). names d 2) c.destinations-destinations.ensures.value in
-    let unit = c.in_ok-go.ensures.ok ∙ unit_there s m c.args.bus.now.words c.args.c c.args.lines.now.takes c.is_named-jumps.result jump c.requires.decoded.demands v in
+    let jump : c.loads_pc.result ≡ jumps s.part = c.loads_pc.ensures in
+    let unit = c.in_ok-go.ensures.ok ∙ unit_there s m c.args.bus.now.words c.args.c c.args.lines.now.takes c.loads_pc.result jump c.requires.decoded.demands v in
     let addr = c.requires.decoded.decoded.addr ∙ ap (λ (f : Fields). f.addr) spelled.fields in
-    let jam = c.jam-jam.ensures.value ∙ ap (λ (f : Fields). f.jam) spelled.fields in
+    let jam = ap (λ (f : Fields). f.jam) spelled.fields in
     λ i. record {
       mar = (became i).mar;
       mdr = (became i).mdr;
@@ -58,6 +57,6 @@ returns-clause-allowed c =
     let s = statement_of machines.Mic2 c.args.word in
     let m = micro_in c.args.self.now in
     let v : c.args.c ≡ shifted s.part.shift (result_of s.part m) = c.requires.c ∙ ap (λ (x : ℕ). shifted s.part.shift x) c.requires.value in
-    let jump : c.is_named-jumps.result ≡ jumps s.part = c.is_named-jumps.ensures ∙ ap (λ (d : ℕ). names d 2) c.destinations-destinations.ensures.value in
-    let same = sampled_there s m c.args.c c.args.lines.now.takes c.is_named-jumps.result jump c.requires.decoded.demands v in
+    let jump : c.loads_pc.result ≡ jumps s.part = c.loads_pc.ensures in
+    let same = sampled_there s m c.args.c c.args.lines.now.takes c.loads_pc.result jump c.requires.decoded.demands v in
     ap (λ (at : Option ℕ). sample_refusal (length c.args.bus.now.words) at) (sym same) ∙ c.in_ok-go.ensures.allowed
