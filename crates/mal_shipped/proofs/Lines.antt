@@ -1,6 +1,6 @@
 -- Line numbers: the program of a text, without them, is the listed one.
-use Rattle.std.proofs.Common.{◌≡◌, ℕ, ◌+◌, ◌<◌, List, [], ◌∷◌, ◌++◌, length, take, map, Some, Result, Ok, Err, ◌⊎◌, inl, inr, refl, sym, ap, ◌∙◌, subst}
-use Rattle.std.specs.Prelude.{slice_get}
+use Rattle.std.proofs.Common.{◌≡◌, ℕ, zero, suc, ◌+◌, ◌<◌, List, [], ◌∷◌, ◌++◌, length, take, map, Option, Some, None, Result, Ok, Err, ◌⊎◌, inl, inr, refl, sym, ap, ◌∙◌, subst}
+use Rattle.std.specs.Prelude.{option_map, slice_get, slice_index}
 use Rattle.std.proofs.lemmas.List.{map-append, take_more}
 use Rattle.std.proofs.lemmas.Option.{slice_get_within, get_or_from_slice_get}
 use Rattle.mic_words.specs.declared.machine.Machine.{Machine}
@@ -8,9 +8,11 @@ use Rattle.mic_words.specs.declared.machine.Machine.TheVariants.{Mic1, Mic2}
 use Rattle.mal_parser.specs.declared.statement.Statement.{Statement}
 use Rattle.mal_parser.specs.declared.error.MalError.{MalError}
 use Rattle.mal_parser.specs.declared.error.MalError.TheVariants.{OutOfMemory}
-use Rattle.mal_parser.specs.ProgramText.{canonical_text, relined}
+use Rattle.mal_parser.specs.ProgramText.{canonical_text, on_line, on_lines, relined}
 use Rattle.mal_parser.specs.Text.{SpellsProgram}
 use Rattle.mal_parser.specs.Program.{IsMalProgram, MalView}
+use Rattle.micro_word.specs.declared.statement.Placed.{Placed}
+use Rattle.store_placement.specs.Program.{demands_of, placed_default, Decodes, IsFilled}
 use Rattle.mal_shipped.proofs.Valid.{valid}
 use Rattle.mal_shipped.proofs.Texts.{canonical}
 use Rattle.mal_shipped.specs.Listing.{listed_program, text_of, unlined, without_line, program1, rows1, program2, rows2}
@@ -34,6 +36,36 @@ pub machine_of : (machine : Machine) → (listed_program machine).machine ≡ ma
 unfolding program1 program2
 machine_of Mic1 = refl
 machine_of Mic2 = refl
+
+-- ---- line numbers change nothing of a placement, nor of a control store
+
+pub same_demands : (machine : Machine) → demands_of (relined (listed_program machine)) ≡ demands_of (listed_program machine)
+unfolding demands_of program1 rows1 program2 rows2
+same_demands Mic1 = refl
+same_demands Mic2 = refl
+
+on_lines_at : (n : ℕ) (ss : List Statement) (s : ℕ) (t : Statement) → slice_get ss s ≡ Some t → (k : ℕ) × (slice_get (on_lines n ss) s ≡ Some (on_line k t))
+on_lines_at n [] s t e = absurd (cc)
+on_lines_at n (x ∷ ss) zero t e = let same : x ≡ t = cc in (n, ap (λ (y : Statement). Some (on_line n y)) same)
+on_lines_at n (x ∷ ss) (suc s) t e = on_lines_at (n + 1) ss s t e
+
+on_lines_count : (n : ℕ) (ss : List Statement) → length (on_lines n ss) ≡ length ss
+on_lines_count n [] = refl
+on_lines_count n (x ∷ ss) = ap suc (on_lines_count (n + 1) ss)
+
+same_default : (address : ℕ → ℕ) (n : ℕ) (fallback : Option Statement) → placed_default address (option_map (on_line n) fallback) ≡ placed_default address fallback
+same_default address n None = refl
+same_default address n (Some s) = refl
+
+pub filled_again : (p : MalView) (addresses words : List ℕ) → IsFilled (relined p) addresses words → IsFilled p addresses words
+filled_again p addresses words h = record {
+  statements = λ s t e.
+      let there = on_lines_at _ p.statements s t e in
+      h.statements s (on_line there.0 t) there.1;
+  others = λ a inside none.
+      subst (λ (d : Placed). Decodes p.machine (slice_index words a) d) (same_default (slice_index addresses) _ p.fallback)
+      (h.others a inside (λ s below. none s (let count = on_lines_count _ p.statements in subst (λ n. s < n) count below)));
+}
 
 text_spells : (machine : Machine) → ((q : MalView) → IsMalProgram q → SpellsProgram q.machine (canonical_text q) (relined q)) →
     SpellsProgram machine (text_of machine) (relined (listed_program machine))

@@ -8,7 +8,7 @@ ghost use Rattle.mal_shipped.specs.Loaded.{IsLoaded};
 ghost use Rattle.mal_shipped.specs.Shipped.{HasShipped};
 
 use crate::laws::{loaded_programs_are_shipped, shipped_programs_are_listed};
-use crate::program::shipped_program;
+use crate::program::read;
 use mal_parser::MalProgram;
 use micro_word::{Machine, Store};
 use std::alloc::{AllocError, Global};
@@ -42,11 +42,12 @@ pub fn shipped_store(alloc: Global, machine: Machine) -> Result<Store, AllocErro
     ensures machine { IfOk result (λ store. store.machine ≡ machine) }
     ensures shipped { IfOk result (λ store. HasShipped machine store.words) }
 {
-    let program = shipped_program(alloc, machine)?;
+    // Its line numbers change nothing of what the store holds.
+    let program = read(alloc, machine)?;
     shipped_programs_are_listed();
     loaded_programs_are_shipped();
-    match load_micro(&program) {
-        Ok(loaded) => Ok(loaded.store),
+    match place(&constraints_of(&program)) {
+        Ok(placement) => Ok(fill(&program, &placement)),
         Err(_) => unreachable!(),
     }
 }

@@ -54,7 +54,7 @@ fn unlined(alloc: Global, program: &MalProgram) -> Result<MalProgram, AllocError
 }
 
 /// The program of a machine's text, with the line numbers of that text.
-fn read(alloc: Global, machine: Machine) -> Result<MalProgram, AllocError>
+pub(crate) fn read(alloc: Global, machine: Machine) -> Result<MalProgram, AllocError>
     ensures { IfOk result (λ p. p ≡ relined (listed_program machine)) }
 {
     canonical_text_spells_its_program();
