@@ -1,3 +1,5 @@
+use Rattle.std.proofs.Common.{ap}
+use Rattle.mic_rewind.specs.Rewind.{RewindView}
 use Rattle.cli_rewind.proofs.Answering.{lost_at, passes}
 use Rattle.cli_rewind.proofs.telling.pass_on.Goals as goal
 
@@ -16,11 +18,13 @@ returns-in-Err-clause-err g c =
 pub returns-in-Ok-clause-ok : goal.returns-in-Ok-clause-ok
 returns-in-Ok-clause-ok g c =
     let done = c.in-Ok.ensures in
+    let history = ap (λ (v : RewindView g.row.M.Denot). v.history) done.same.0 in
+    let board = ap (λ (v : RewindView g.row.M.Denot). v.board) done.same.0 in
     record {
       shows = passes g.M.Clocked.state g.M.Clocked.meaning c.args.rewind.now c.flush.new.self (g.K.Sink.held c.args.out.now)
-          (g.K.Sink.held c.flush.new.sink) done.history done.board done.ok;
-      history = done.history;
-      board = done.board;
+          (g.K.Sink.held c.flush.new.sink) history board done.ok;
+      history = history;
+      board = board;
       kept = done.kept;
       flushed = done.sink.flushed (λ e. cc);
       faults = done.cause.sink_same (λ e. cc);
