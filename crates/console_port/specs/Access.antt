@@ -9,7 +9,8 @@ use Rattle.console_port.specs.declared.fault.BusFault.{BusFault}
 use Rattle.console_port.specs.declared.fault.BusFault.TheVariants.{ReadFault, WriteFault}
 
 -- The map decides first. What it refuses returns that refusal, and `Leaves` holds; what it allows can fail only at the console.
-pub record IsByMap {T : Type 0} (refusal : Option Refusal) (at : ℕ) (Leaves : Type 0) (IsItsFault : BusFault → Type 0) (result : Result T BusFault) : Type 0 where
+pub record IsByMap {T : Type 0} (refusal : Option Refusal) (at : ℕ) (Leaves : Type 0) (IsItsFault : BusFault → Type 0)
+    (result : Result T BusFault) : Type 0 where
   pub refused : (r : Refusal) → refusal ≡ Some r → (result ≡ Err (fault_of r)) × Leaves
   pub allowed : OnOk result (refusal ≡ None)
   pub fault : IfErr result (λ e. refusal ≡ None → (at ≡ console_at) × IsItsFault e)

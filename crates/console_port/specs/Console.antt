@@ -69,7 +69,8 @@ pub record HasFaultCause {T : Type 0} (source source' sink sink' : ℕ) (result 
   pub sink_same : result ≢ Err WriteFault → sink' ≡ sink
 
 -- after a take that failed: what was left is left, nothing is kept, and a write that failed has lost what was kept
-pub record TakeFails (left held : Option (List ℕ)) (console : ConsoleView) (left' held' : Option (List ℕ)) (console' : ConsoleView) (e : BusFault) : Type 0 where
+pub record TakeFails (left held : Option (List ℕ)) (console : ConsoleView)
+    (left' held' : Option (List ℕ)) (console' : ConsoleView) (e : BusFault) : Type 0 where
   pub fault : IsFault e
   pub untaken : left' ≡ left
   pub ended : console'.ended ≡ console.ended

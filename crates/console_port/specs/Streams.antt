@@ -19,7 +19,8 @@ pub record SourceGoesOn {S : Type 0} (left : S → Option (List ℕ)) (ended : B
 
 -- what a call over a bus leaves of its source and its sink
 module _ {S K : Type 0} (left : S → Option (List ℕ)) (source_faults : S → ℕ) (held passed : K → Option (List ℕ)) (sink_faults : K → ℕ) where
-  pub record StreamsGoOn {T : Type 0} (bus : BusView) (source : S) (sink : K) (bus' : BusView) (source' : S) (sink' : K) (result : Result T BusFault) : Type 0 where
+  pub record StreamsGoOn {T : Type 0} (bus : BusView) (source : S) (sink : K) (bus' : BusView) (source' : S) (sink' : K)
+      (result : Result T BusFault) : Type 0 where
     pub source_goes_on : SourceGoesOn left bus.console.ended source bus'.console.ended source'
     pub sink_goes_on : SinkGoesOn held passed (result ≡ Err WriteFault) sink sink'
     pub cause : HasFaultCause (source_faults source) (source_faults source') (sink_faults sink) (sink_faults sink') result

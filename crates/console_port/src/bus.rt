@@ -118,7 +118,8 @@ impl Bus {
         source: &mut S,
         sink: &mut K,
     ) -> Result<u32, BusFault>
-        ensures map { IsByMap (read_refusal (length self.old.words) at) at ((self.new ≡ self.old) × (source.new ≡ source.old) × (sink.new ≡ sink.old)) IsFault result }
+        ensures map { IsByMap (read_refusal (length self.old.words) at) at
+            ((self.new ≡ self.old) × (source.new ≡ source.old) × (sink.new ≡ sink.old)) IsFault result }
         ensures ok { IfOk result (λ value.
             IsLed (S.left source.old) (K.held sink.old) self.old (S.left source.new) (K.held sink.new) self.new (IsRead (length self.old.words) at value)) }
         ensures access { IsAccess S.left S.faults K.held K.passed K.faults (λ w e. refused_by (read_refusal (length self.old.words) at) ≡ Some e)
@@ -140,7 +141,8 @@ impl Bus {
 
     #[tactic(auto, unfolding(crate::specs::World::write_refusal, crate::specs::World::given_after))]
     pub fn write_word<K: Sink>(&mut self, at: u32, value: u32, sink: &mut K) -> Result<(), BusFault>
-        ensures map { IsByMap (write_refusal (length self.old.words) at) at ((self.new ≡ self.old) × (sink.new ≡ sink.old)) (λ e. e ≡ BusFault.WriteFault) result }
+        ensures map { IsByMap (write_refusal (length self.old.words) at) at
+            ((self.new ≡ self.old) × (sink.new ≡ sink.old)) (λ e. e ≡ BusFault.WriteFault) result }
         ensures ok { OnOk result ((left : Option (List ℕ)) (w : World) →
             Shows left (K.held sink.old) self.old w → Shows left (K.held sink.new) self.new (after_write (length self.old.words) w at value)) }
         ensures err { (left : Option (List ℕ)) → IfErr result (Stands left (K.held sink.old) self.old left (K.held sink.new) self.new) }

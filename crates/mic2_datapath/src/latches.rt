@@ -348,8 +348,8 @@ impl Latches {
         requires addr { addr < 512 }
         requires there { takes ≤ length self.now.unit.bytes }
         requires some { 4 ≤ jam_in word → 1 ≤ takes }
-        ensures mpc { (n : PlacedNext) (operands : ℕ) → IsTrue (is_next n) → addr ≡ addr_bits n → jam_in word ≡ jam_bits n → takes ≡ operands + dispatch_bytes n →
-            result.mpc ≡ next_address n value (byte_at self.now.unit operands) }
+        ensures mpc { (n : PlacedNext) (operands : ℕ) → IsTrue (is_next n) → addr ≡ addr_bits n → jam_in word ≡ jam_bits n →
+            takes ≡ operands + dispatch_bytes n → result.mpc ≡ next_address n value (byte_at self.now.unit operands) }
         ensures small { result.mpc < 512 }
         ensures begins { (n : PlacedNext) → jam_in word ≡ jam_bits n → addr ≡ addr_bits n → result.begins ≡ is_to_instruction n }
     {

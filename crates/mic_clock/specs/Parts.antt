@@ -33,7 +33,8 @@ abbrev pub CountsOn : {State : Type 0} → Meaning State → Running → Tally �
 CountsOn m running tally stalled s running' tally' = CountsCycle m (counts_of running tally) stalled s (counts_of running' tally')
 
 -- The parts of a board: the machine is at rest, the store is one of its kind, and the counts are a board's.
-pub record AreParts {M State : Type 0} (phase : M → Phase) (m : Meaning State) (machine : M) (store : ControlStore) (running : Running) (tally : Tally) : Type 0 where
+pub record AreParts {M State : Type 0} (phase : M → Phase) (m : Meaning State) (machine : M) (store : ControlStore)
+    (running : Running) (tally : Tally) : Type 0 where
   pub rest : phase machine ≡ AtRest
   pub store_machine : store.machine ≡ m.machine
   pub counts : AreCounts (counts_of running tally) running.end

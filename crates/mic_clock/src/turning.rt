@@ -91,7 +91,8 @@ pub fn turn_to_boundary<M: Clocked, S: Source, K: Sink>(
         (S.left source.new) (K.held sink.new) (board_of M.seen machine.new store.now bus.new running.new tally.new) }
     ensures read { LegIsCutByRead M.state M.meaning (S.left source.old) (K.held sink.old) (board_of M.seen machine.old store.now bus.old running.old tally.old)
         (S.left source.new) (K.held sink.new) (board_of M.seen machine.new store.now bus.new running.new tally.new) }
-    ensures write { LegIsCutByWrite M.state M.meaning (S.left source.old) (K.held sink.old) (board_of M.seen machine.old store.now bus.old running.old tally.old)
+    ensures write { LegIsCutByWrite M.state M.meaning (S.left source.old) (K.held sink.old)
+        (board_of M.seen machine.old store.now bus.old running.old tally.old)
         (S.left source.new) (K.held sink.new) (board_of M.seen machine.new store.now bus.new running.new tally.new) }
     ensures growth { running.new.cycles ≤ running.old.cycles + 1024 }
     ensures goes_on { GoesOn S.left S.faults K.held K.passed K.faults source.old sink.old (board_of M.seen machine.old store.now bus.old running.old tally.old)
