@@ -22,7 +22,8 @@ pub struct Cycle {
     pub boundary: Option<u32>,
 }
 
-/// The last cycle of a board, whose word stands at `mpc`.
+/// The last cycle of a board, whose word stands at `mpc`. Inlined, so that what a watcher does not look at is not made.
+#[inline(always)]
 pub fn cycle_of<M: Clocked>(board: &Board<M>, mpc: u16) -> Cycle
     ensures is { result ≡ cycle_on M.state M.meaning mpc board.now }
     ensures next { result.registers.mpc < 512 }
