@@ -1,7 +1,7 @@
 //! The parts of a statement, gathered one by one.
-ghost use Rattle.std.specs.Prelude.{◌≡◌, ◌≤◌, length, not, None, Some};
+ghost use Rattle.std.specs.Prelude.{◌≡◌, ◌≤◌, if◌then◌else◌, length, not, None, Some};
 ghost use Rattle.std.specs.List.{prefix_len};
-ghost use Rattle.mal_line.specs.Reading.{add, add_behind, add_else, add_free, add_tokens, ended, gathered_jump, tree_of};
+ghost use Rattle.mal_line.specs.Reading.{add, add_behind, add_else, add_free, add_tokens, ended, tree_of};
 ghost use Rattle.mal_line.specs.Statements.{is_semicolon};
 
 use crate::piece::{Piece, piece_of};
@@ -24,107 +24,86 @@ struct Gathered {
     waiting: Option<PendingIf>,
 }
 
-fn settled(tree: Tree) -> Option<Gathered>
-    ensures { result ≡ Some (record { tree = tree; waiting = None }) }
-{
-    Some(Gathered {
-        tree,
-        waiting: None,
-    })
-}
-
-fn gathered_jump(tree: Tree, next: Jump) -> Option<Gathered>
-    ensures { result ≡ Some (gathered_jump tree next) }
-{
-    settled(Tree {
-        next: Some(next),
-        ..tree
-    })
-}
-
-/// Adds a part where no `if` waits and there is no jump yet.
-fn add_free(tree: Tree, piece: Piece) -> Option<Gathered>
-    ensures { result ≡ add_free tree piece }
+/// Adds a part where no `if` waits and there is no jump yet, if it may stand there.
+fn add_free(gathered: &mut Gathered, piece: Piece) -> bool
+    requires { gathered.old.waiting ≡ None }
+    ensures { add_free gathered.old.tree piece ≡ (if result then Some gathered.new else None) }
 {
     match piece {
-        Piece::Nothing => settled(tree),
-        Piece::Assign(assignment) => match tree.assignment {
-            None => settled(Tree {
-                assignment: Some(assignment),
-                ..tree
-            }),
-            Some(_) => None,
-        },
-        Piece::Mem(mem) => match tree.mem {
-            Mem::None => settled(Tree { mem, ..tree }),
-            _ => None,
+        Piece::Nothing => {}
+        Piece::Assign(assignment) => {
+            if gathered.tree.assignment.is_some() {
+                return false;
+            }
+            gathered.tree.assignment = Some(assignment);
+        }
+        Piece::Mem(mem) => match gathered.tree.mem {
+            Mem::None => gathered.tree.mem = mem,
+            _ => return false,
         },
         Piece::Fetch => {
-            if tree.fetch {
-                None
-            } else {
-                settled(Tree {
-                    fetch: true,
-                    ..tree
-                })
+            if gathered.tree.fetch {
+                return false;
             }
+            gathered.tree.fetch = true;
         }
-        Piece::Goto(label) => gathered_jump(tree, Jump::Goto(label)),
-        Piece::Dispatch(high) => gathered_jump(tree, Jump::Dispatch(high)),
-        Piece::If(test, high) => Some(Gathered {
-            tree,
-            waiting: Some(PendingIf { test, high }),
-        }),
-        Piece::Else(_) => None,
+        Piece::Goto(label) => gathered.tree.next = Some(Jump::Goto(label)),
+        Piece::Dispatch(high) => gathered.tree.next = Some(Jump::Dispatch(high)),
+        Piece::If(test, high) => gathered.waiting = Some(PendingIf { test, high }),
+        Piece::Else(_) => return false,
     }
+    true
 }
 
-fn add_else(tree: Tree, half: PendingIf, piece: Piece) -> Option<Gathered>
-    ensures { result ≡ add_else tree half piece }
+/// Adds the `else` of the `if` that waits.
+fn add_else(gathered: &mut Gathered, half: PendingIf, piece: Piece) -> bool
+    ensures { add_else gathered.old.tree half piece ≡ (if result then Some gathered.new else None) }
 {
     match piece {
-        Piece::Else(low) => gathered_jump(tree, Jump::Branch(half.test, half.high, low)),
-        _ => None,
+        Piece::Else(low) => {
+            gathered.tree.next = Some(Jump::Branch(half.test, half.high, low));
+            gathered.waiting = None;
+            true
+        }
+        _ => false,
     }
 }
 
 /// After a jump all parts are empty.
-fn add_behind(tree: Tree, piece: Piece) -> Option<Gathered>
-    ensures { result ≡ add_behind tree piece }
+fn add_behind(gathered: &mut Gathered, piece: Piece) -> bool
+    requires { gathered.old.waiting ≡ None }
+    ensures { add_behind gathered.old.tree piece ≡ (if result then Some gathered.new else None) }
 {
-    match piece {
-        Piece::Nothing => settled(tree),
-        _ => None,
-    }
+    matches!(piece, Piece::Nothing)
 }
 
-fn add(gathering: Gathered, piece: Piece) -> Option<Gathered>
-    ensures { result ≡ add gathering piece }
+/// Adds a part, if it may stand behind those so far.
+fn add(gathered: &mut Gathered, piece: Piece) -> bool
+    ensures { add gathered.old piece ≡ (if result then Some gathered.new else None) }
 {
-    let Gathered { tree, waiting } = gathering;
-    match waiting {
-        Some(half) => add_else(tree, half, piece),
-        None => match tree.next {
-            None => add_free(tree, piece),
-            Some(_) => add_behind(tree, piece),
-        },
+    if let Some(half) = gathered.waiting {
+        return add_else(gathered, half, piece);
     }
+    if gathered.tree.next.is_some() {
+        return add_behind(gathered, piece);
+    }
+    add_free(gathered, piece)
 }
 
-fn add_tokens(machine: Machine, gathering: Gathered, tokens: &[Token]) -> Option<Gathered>
-    ensures { result ≡ add_tokens machine gathering tokens.now }
+fn add_tokens(machine: Machine, gathered: &mut Gathered, tokens: &[Token]) -> bool
+    ensures { add_tokens machine gathered.old tokens.now ≡ (if result then Some gathered.new else None) }
 {
     match piece_of(machine, tokens) {
-        Some(piece) => add(gathering, piece),
-        None => None,
+        Some(piece) => add(gathered, piece),
+        None => false,
     }
 }
 
-fn ended(gathering: Gathered) -> Option<Tree>
-    ensures { result ≡ ended gathering }
+fn ended(gathered: Gathered) -> Option<Tree>
+    ensures { result ≡ ended gathered }
 {
-    match gathering.waiting {
-        None => Some(gathering.tree),
+    match gathered.waiting {
+        None => Some(gathered.tree),
         Some(_) => None,
     }
 }
@@ -149,20 +128,19 @@ fn piece_len(tokens: &[Token]) -> usize
 pub(crate) fn tree_of(machine: Machine, tokens: &[Token]) -> Option<Tree>
     ensures { result ≡ tree_of machine tokens.now }
 {
-    let mut gathering = Gathered {
+    let mut gathered = Gathered {
         tree: Tree::EMPTY,
         waiting: None,
     };
     let mut rest = tokens;
     loop {
         let (piece, behind) = rest.split_at(piece_len(rest));
-        match add_tokens(machine, gathering, piece) {
-            Some(next) => gathering = next,
-            None => return None,
+        if !add_tokens(machine, &mut gathered, piece) {
+            return None;
         }
         match behind.split_first() {
             Some((_, after)) => rest = after,
-            None => return ended(gathering),
+            None => return ended(gathered),
         }
     }
 }

@@ -1,19 +1,24 @@
-use Rattle.std.proofs.Common.{◌≡◌, ◌∙◌, Some, None, sym}
+use Rattle.std.proofs.Common.{◌≡◌, ◌∙◌, Bool, Some, None, ap, sym, if◌then◌else◌}
+use Rattle.std.specs.Prelude.{Option}
 use Rattle.mal_line.specs.Reading.{add_tokens}
+use Rattle.mal_line.specs.declared.gathering.Gathered.{Gathered}
 use Rattle.mal_line.proofs.Splitting.{adds_more, adds_last, adds_none}
 use Rattle.mal_line.proofs.gathering.tree_of.Goals as goal
 
+pub returns-then-not-add_tokens : goal.returns-then-not-add_tokens
+returns-then-not-add_tokens c =
+    let h : add_tokens c.args.machine c.loop-behind.gathered c.split_at.result.0.now ≡ None =
+    c.add_tokens.ensures ∙ ap (λ (is : Bool). if is then Some c.add_tokens.new.gathered else None) c.if-not-add_tokens.true in
+    sym (adds_none c.args.machine c.loop-behind.gathered c.loop-behind.rest.now c.piece_len.result c.split_at.result.0.now c.piece_len.ensures.value c.split_at.ensures.front h) ∙ c.loop-behind.invariant
+
 pub returns-in-None : goal.returns-in-None
 returns-in-None c =
-    let h : add_tokens c.args.machine c.loop-next.gathering c.split_at.result.0.now ≡ None = sym c.add_tokens.ensures ∙ c.in-None.is in
-    sym (adds_none c.args.machine c.loop-next.gathering c.loop-next.rest.now c.piece_len.result c.split_at.result.0.now c.piece_len.ensures.value c.split_at.ensures.front h) ∙ c.loop-next.invariant
+    let h : add_tokens c.args.machine c.loop-behind.gathered c.split_at.result.0.now ≡ Some c.add_tokens.new.gathered =
+    c.add_tokens.ensures ∙ ap (λ (is : Bool). if is then Some c.add_tokens.new.gathered else None) c.if-not-add_tokens.false in
+    c.ended.ensures ∙ (sym (adds_last c.args.machine c.loop-behind.gathered c.add_tokens.new.gathered c.loop-behind.rest.now c.piece_len.result c.split_at.result.0.now c.split_at.result.1.now c.piece_len.ensures.value c.split_at.ensures.front c.split_at.ensures.back c.in-None.ensures.cases h) ∙ c.loop-behind.invariant)
 
-pub returns-in-None-split_first : goal.returns-in-None-split_first
-returns-in-None-split_first c =
-    let h : add_tokens c.args.machine c.loop-next.gathering c.split_at.result.0.now ≡ Some c.in-Some.next = sym c.add_tokens.ensures ∙ c.in-Some.is in
-    c.ended.ensures ∙ (sym (adds_last c.args.machine c.loop-next.gathering c.in-Some.next c.loop-next.rest.now c.piece_len.result c.split_at.result.0.now c.split_at.result.1.now c.piece_len.ensures.value c.split_at.ensures.front c.split_at.ensures.back c.in-None-split_first.ensures.cases h) ∙ c.loop-next.invariant)
-
-pub loop-next-preserved : goal.loop-next-preserved
-loop-next-preserved c =
-    let h : add_tokens c.args.machine c.loop-next.gathering c.split_at.result.0.now ≡ Some c.in-Some.next = sym c.add_tokens.ensures ∙ c.in-Some.is in
-    sym (adds_more c.args.machine c.loop-next.gathering c.in-Some.next c.loop-next.rest.now c.piece_len.result c.split_at.result.0.now c.split_at.result.1.now c.in-Some-split_first.field-0-0.now c.in-Some-split_first.after.now c.piece_len.ensures.value c.split_at.ensures.front c.split_at.ensures.back c.in-Some-split_first.ensures.cases.0 h) ∙ c.loop-next.invariant
+pub loop-behind-preserved : goal.loop-behind-preserved
+loop-behind-preserved c =
+    let h : add_tokens c.args.machine c.loop-behind.gathered c.split_at.result.0.now ≡ Some c.add_tokens.new.gathered =
+    c.add_tokens.ensures ∙ ap (λ (is : Bool). if is then Some c.add_tokens.new.gathered else None) c.if-not-add_tokens.false in
+    sym (adds_more c.args.machine c.loop-behind.gathered c.add_tokens.new.gathered c.loop-behind.rest.now c.piece_len.result c.split_at.result.0.now c.split_at.result.1.now c.in-Some.field-0-0.now c.in-Some.after.now c.piece_len.ensures.value c.split_at.ensures.front c.split_at.ensures.back c.in-Some.ensures.cases.0 h) ∙ c.loop-behind.invariant
