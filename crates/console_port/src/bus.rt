@@ -166,6 +166,29 @@ impl Bus {
         self.console.give((value % 256) as u8, sink)
     }
 
+    /// Writes where that needs no sink: to the memory, or to a console that has room for the byte. Any other write is not done.
+    #[inline(always)]
+    #[tactic(auto, unfolding(crate::specs::World::write_refusal, crate::specs::World::given_after))]
+    pub fn write_here(&mut self, at: u32, value: u32) -> bool
+        ensures clear { result ≡ true → write_refusal (length self.old.words) at ≡ None }
+        ensures shows { result ≡ true → (left held : Option (List ℕ)) (w : World) →
+            Shows left held self.old w → Shows left held self.new (after_write (length self.old.words) w at value) }
+        ensures others { ChangesOnly at self.old.words self.new.words × (self.new.console.ended ≡ self.old.console.ended) }
+        ensures memory { at < length self.old.words → result ≡ true }
+        ensures room { at ≡ console_at → length self.old.console.kept < most_kept → result ≡ true }
+        ensures stays { result ≡ false → self.new ≡ self.old }
+    {
+        if self.has(at) {
+            self.memory.set(at, value);
+            return true;
+        }
+        if at == CONSOLE && self.console.has_room() {
+            self.console.keep((value % 256) as u8);
+            return true;
+        }
+        false
+    }
+
     /// The byte at a byte address.
     #[tactic(auto, unfolding(crate::specs::World::fetch_refusal))]
     pub fn fetch_byte(&self, byte: u32) -> Result<u8, BusFault>

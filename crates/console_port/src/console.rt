@@ -2,7 +2,7 @@
 
 ghost use Rattle.mic_base.specs.Causes.{HasCause};
 ghost use Rattle.mic_base.specs.Streams.{IsFlushed, PutsAndFlushes};
-ghost use Rattle.std.specs.Prelude.{◌≡◌, ◌≢◌, ◌<◌, ◌+◌, [], ◌∷◌, ◌++◌, ℕ, List, false, true, drop, length, Ok, IsOk, IsErr, IfOk, OnOk, OnErr, IfErr, IsErrOf, Some, Err};
+ghost use Rattle.std.specs.Prelude.{◌≡◌, ◌≢◌, ◌<◌, ◌+◌, [], ◌∷◌, ◌++◌, ◌↔◌, ℕ, List, Option, IsTrue, false, true, drop, length, Ok, IsOk, IsErr, IfOk, OnOk, OnErr, IfErr, IsErrOf, Some, Err};
 ghost use Rattle.console_port.specs.Console.{Asks, Untaken, Given, Gives, IsLost, TakeFails, HasFaultCause, most_kept};
 ghost use Rattle.console_port.specs.Streams.{SinkGoesOn, SourceGoesOn};
 ghost use Rattle.console_port.specs.World.{next_byte};
@@ -71,6 +71,23 @@ impl Console {
         }
     }
 
+    /// Whether one byte more can wait.
+    pub fn has_room(&self) -> bool
+        ensures { IsTrue result ↔ (length self.now.kept < most_kept) }
+    {
+        !self.buffer.is_full()
+    }
+
+    /// Keeps a byte, for which there is room.
+    pub fn keep(&mut self, byte: u8)
+        requires { length self.old.kept < most_kept }
+        ensures kept { self.new.kept ≡ self.old.kept ++ byte ∷ [] }
+        ensures gives { (held : Option (List ℕ)) → Gives (byte ∷ []) held self.old.kept held self.new.kept }
+        ensures ended { self.new.ended ≡ self.old.ended }
+    {
+        self.buffer.push(byte);
+    }
+
     /// Keeps a byte. A full buffer goes to the sink first.
     pub fn give<K: Sink>(&mut self, byte: u8, sink: &mut K) -> Result<(), BusFault>
         ensures ended { self.new.ended ≡ self.old.ended }
@@ -82,10 +99,10 @@ impl Console {
         ensures sink { SinkGoesOn K.held K.passed (result ≡ Err BusFault.WriteFault) sink.old sink.new }
         ensures cause { HasFaultCause 0 0 (K.faults sink.old) (K.faults sink.new) result }
     {
-        if self.buffer.is_full() {
+        if !self.has_room() {
             return self.give_to_full(byte, sink);
         }
-        self.buffer.push(byte);
+        self.keep(byte);
         Ok(())
     }
 

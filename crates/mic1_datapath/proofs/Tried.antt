@@ -1,13 +1,13 @@
--- An edge whose accesses reach only memory is done.
-use Rattle.std.proofs.Common.{◌≡◌, ℕ, ◌==◌, Bool, true, List, Option, None, ap, length, ◌∙◌}
-use Rattle.console_port.specs.Bus.{ChangesOnly, IsLed}
+-- An edge whose accesses need no source and no sink is done.
+use Rattle.std.proofs.Common.{◌≡◌, ℕ, ◌==◌, Bool, true, Option, None, ap, length, ◌∙◌}
+use Rattle.console_port.specs.Bus.{ChangesOnly}
 use Rattle.console_port.specs.View.{BusView}
 use Rattle.mic_words.specs.declared.machine.Machine.TheVariants as machines
 use Rattle.micro_word.specs.Coding.{statement_of, mem_of}
 use Rattle.micro_word.specs.Layout.{fields_of}
 use Rattle.micro_word.specs.declared.lines.Lines.{Lines}
 use Rattle.micro_word.specs.declared.statement.Mem.{Mem}
-use Rattle.mic_datapath.specs.Access.{IsAccess}
+use Rattle.mic_datapath.specs.Access.{IsAccess, LeadsInside}
 use Rattle.mic_datapath.specs.Memory.{access_refusal}
 use Rattle.mic_datapath.specs.declared.ports.Ports.{Ports}
 use Rattle.mic1_datapath.specs.Cycle.{IsAtEdge, IsLast, IsTried, moved_on, ports_at}
@@ -20,10 +20,10 @@ pub tried : (word value c : ℕ) (lines : Lines) (l l' : Latches) (bus bus' : Bu
     IsAtEdge l word lines value c → ports ≡ ports_at word c (micro_in l) →
     mem ≡ mem_of (fields_of machines.Mic1 word).mem → fetch ≡ ((fields_of machines.Mic1 word).fetch == 1) →
     access_refusal (length bus.words) mem fetch ports ≡ None →
-    ((left held : Option (List ℕ)) → IsLed left held bus left held bus' (λ w v. IsAccess (length bus.words) mem fetch ports w read byte v)) →
-    ChangesOnly ports.mar bus.words bus'.words → bus'.console ≡ bus.console →
+    LeadsInside bus bus' (λ w v. IsAccess (length bus.words) mem fetch ports w read byte v) →
+    ChangesOnly ports.mar bus.words bus'.words → bus'.console.ended ≡ bus.console.ended →
     AreLatches l' → micro_in l' ≡ moved_on word value (micro_in l) read byte → IsLast word l' → IsTried word l bus l' bus' true
-tried word value c lines l l' bus bus' ports mem fetch read byte at ports_are mem_is fetch_is clear led others console latches moves last =
+tried word value c lines l l' bus bus' ports mem fetch read byte at ports_are mem_is fetch_is clear led others ended latches moves last =
     let s = statement_of machines.Mic1 word in
     let m = micro_in l in
     let asked : Asked = record { ports = ports; mem = mem; fetch = fetch } in
@@ -34,6 +34,6 @@ tried word value c lines l l' bus bus' ports mem fetch read byte at ports_are me
           edge_done word m asked is left held bus left held bus' read byte clear (led left held) others _
           (moves ∙ ap (λ (x : ℕ). next_micro s.next x (settled s.part m) read byte) at.computed.value_is);
       last = λ done. last;
-      console = console;
+      ended = ended;
       none = λ no. absurd (cc);
     }

@@ -1,4 +1,4 @@
--- What a cycle of Mic-1 has before its edge: a word with its control lines, and what leaves the ALU and the shifter; and an edge that reaches only memory.
+-- What a cycle of Mic-1 has before its edge: a word with its control lines, and what leaves the ALU and the shifter; and an edge that needs no source and no sink.
 use Rattle.std.specs.Prelude.{◌≡◌, ⊤, ℕ, Bool, true, false, IsTrue, List, Option, Ok}
 use Rattle.console_port.specs.View.{BusView}
 use Rattle.mic_clock.specs.Edge.{IsEdge}
@@ -62,10 +62,10 @@ is_done tries.Done = true
 is_done tries.Outside = false
 is_done tries.Other = false
 
--- an edge that reaches only memory is done, or all is as it was
+-- an edge that needs no source and no sink is done, or all is as it was
 pub record IsTried (word : ℕ) (l : Latches) (bus : BusView) (l' : Latches) (bus' : BusView) (done : Bool) : Type 0 where
   pub latches : AreLatches l'
   pub edge : done ≡ true → IsEdgeInside word l bus l' bus'
   pub last : done ≡ true → IsLast word l'
-  pub console : bus'.console ≡ bus.console
+  pub ended : bus'.console.ended ≡ bus.console.ended
   pub none : done ≡ false → (l' ≡ l) × (bus' ≡ bus)

@@ -13,7 +13,8 @@ use crate::latches::{Latches, is_read};
 use console_port::{Bus, BusFault};
 use mic_base::{Sink, Source};
 use mic_datapath::{
-    Sampled, access, access_memory, console_law, fetch_alone, is_in_memory, read_alone, write_alone,
+    Sampled, access_memory, access_tested, console_law, fetch_alone, is_in_memory, read_alone,
+    write_alone,
 };
 use micro_word::{Lines, Machine, Mem, bits};
 
@@ -27,7 +28,7 @@ const NOTHING: Sampled = Sampled {
 #[derive(Clone, Copy)]
 enum Try {
     Done,
-    /// Its access is not in memory.
+    /// Its access is not in memory, and needs the source or the sink, or is refused.
     Outside,
     /// It has accesses that this way does not make.
     Other,
@@ -49,7 +50,8 @@ fn transfers_nothing(word: u64) -> bool
     bits::mem(Machine::Mic1, word) == 0
 }
 
-/// The edge of a word that accesses nothing, or one thing, which is in memory. For any other, nothing is done.
+/// The edge of a word that accesses nothing, or one thing, which is in memory, or writes to a console that has room. For any
+/// other, nothing is done.
 #[inline(always)]
 fn edge_of_one(
     latches: &mut Latches,
@@ -80,21 +82,24 @@ fn edge_of_one(
         return Try::Other;
     }
     let mar = latches.mar_port(word, c);
-    if !bus.has(mar) {
-        return Try::Outside;
-    }
     if is_read(word) {
+        if !bus.has(mar) {
+            return Try::Outside;
+        }
         let sampled = read_alone(mar, bus);
         latches.advance(word, lines, value, c, sampled);
         return Try::Done;
     }
     let mdr = latches.mdr_port(word, c);
-    write_alone(mar, mdr, bus);
+    if !write_alone(mar, mdr, bus) {
+        return Try::Outside;
+    }
     latches.advance(word, lines, value, c, NOTHING);
     Try::Done
 }
 
-/// The edge of a word whose accesses reach only memory. For any other, nothing is done.
+/// The edge of a word whose accesses reach only memory, or that writes to a console that has room. For any other, nothing
+/// is done.
 #[inline(always)]
 fn edge_inside(
     latches: &mut Latches,
@@ -149,7 +154,9 @@ fn any_edge<S: Source, K: Sink>(
     let mem = Mem::of_bits(bits::mem(Machine::Mic1, word));
     let fetch = bits::fetch(Machine::Mic1, word);
     let ports = latches.ports(word, c);
-    let sampled = access(mem, fetch, &ports, bus, source, sink)?;
+    let sampled = access_tested(
+        mem, fetch, ports.mar, ports.mdr, ports.pc, bus, source, sink,
+    )?;
     latches.advance(word, lines, value, c, sampled);
     Ok(())
 }

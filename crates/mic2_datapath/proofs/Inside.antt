@@ -1,8 +1,7 @@
--- A write or a read that reaches only memory.
-use Rattle.std.proofs.Common.{◌≡◌, ℕ, List, Option, Some, None, refl, sym, subst}
+-- A write or a read that needs no source and no sink.
+use Rattle.std.proofs.Common.{◌≡◌, ℕ, List, Option, Some, None, refl}
 use Rattle.console_port.specs.World.{World, Refusal}
-use Rattle.console_port.specs.View.{BusView, ConsoleView}
-use Rattle.console_port.specs.Console.{Untaken, Given}
+use Rattle.console_port.specs.View.{BusView}
 use Rattle.console_port.specs.Bus.{Shows, IsLed}
 use Rattle.mic_datapath.specs.Memory.{first_refusal}
 
@@ -14,21 +13,3 @@ first_clear None b h = refl
 pub led_same : (left held : Option (List ℕ)) (bus : BusView) (leads : World → World → Type 0) →
     ((w : World) → Shows left held bus w → leads w w) → IsLed left held bus left held bus leads
 led_same left held bus leads f rest fits = (rest, fits, λ w shows same. (w, f w shows, shows, same))
-
--- what leads each shown world to the same with the new words
-pub led_inside : (left held : Option (List ℕ)) (bus bus' : BusView) → bus'.console ≡ bus.console → (leads : World → World → Type 0) →
-    ((w : World) → Shows left held bus w → leads w (record w { words = bus'.words })) → IsLed left held bus left held bus' leads
-led_inside left held bus bus' console leads f rest fits = (
-  rest,
-  subst (λ (k : ConsoleView). Untaken left k.ended rest) console fits,
-  λ w shows same. (
-    record w { words = bus'.words },
-    f w shows,
-    record {
-      words = refl;
-      untaken = subst (λ (k : ConsoleView). Untaken left k.ended w.untaken) (sym console) shows.untaken;
-      given = subst (λ (k : ConsoleView). Given held k.kept w.given) (sym console) shows.given;
-    },
-    same,
-  ),
-)

@@ -5,7 +5,7 @@ use Rattle.console_port.specs.World.{World, Refusal, StackLimit, OutOfMap, fault
 use Rattle.console_port.specs.Bus.{ChangesOnly, IsLed, Shows, Stands, refused_by}
 use Rattle.console_port.specs.Console.{HasFaultCause, IsFault, StillTells}
 use Rattle.console_port.specs.Streams.{StreamsGoOn}
-use Rattle.console_port.specs.View.{BusView, ConsoleView}
+use Rattle.console_port.specs.View.{BusView}
 use Rattle.console_port.specs.declared.fault.BusFault.{BusFault}
 use Rattle.console_port.specs.declared.fault.BusFault.TheVariants as faults
 use Rattle.mic_words.specs.declared.machine.Machine.TheVariants as machines
@@ -191,13 +191,13 @@ no_cause why source sink r fails =
 
 -- a call that reaches no console, and fails only as it is refused, leaves the source and the sink
 pub streams_stay : {S K : Type 0} (left : S → Option (List ℕ)) (source_faults : S → ℕ) (held passed : K → Option (List ℕ)) (sink_faults : K → ℕ)
-    (source : S) (sink : K) (bus bus' : BusView) → bus'.console ≡ bus.console → (why : Option Refusal) (r : Result ⊤ BusFault) →
+    (source : S) (sink : K) (bus bus' : BusView) → bus'.console.ended ≡ bus.console.ended → (why : Option Refusal) (r : Result ⊤ BusFault) →
     IfErr r (λ e. refused_by why ≡ Some e) → StreamsGoOn left source_faults held passed sink_faults bus source sink bus' source sink r
-streams_stay left source_faults held passed sink_faults source sink bus bus' console why r fails =
+streams_stay left source_faults held passed sink_faults source sink bus bus' same why r fails =
     record {
       source_goes_on = record {
-        asked_no_more = λ ended. (ap (λ (k : ConsoleView). k.ended) console ∙ ended, refl);
-        tells_left = subst (λ (k : ConsoleView). StillTells (left source) bus.console.ended (left source) k.ended) (sym console) (λ tells. tells);
+        asked_no_more = λ ended. (same ∙ ended, refl);
+        tells_left = subst (λ (ended : Bool). StillTells (left source) bus.console.ended (left source) ended) (sym same) (λ tells. tells);
       };
       sink_goes_on = record { keeps = λ front holds. holds; tells = λ known. known; flushed = λ goes flushed. flushed };
       cause = no_cause why (source_faults source) (sink_faults sink) r fails;

@@ -13,7 +13,7 @@ use Rattle.micro_word.specs.declared.lines.TheConstants.{NOTHING}
 use Rattle.micro_word.specs.declared.statement.Mem.{Mem}
 use Rattle.micro_word.specs.declared.statement.Mem.TheVariants as mems
 use Rattle.micro_word.specs.declared.statement.Placed.{Placed}
-use Rattle.mic_datapath.specs.Access.{TransfersMemory}
+use Rattle.mic_datapath.specs.Access.{IsTransfer, LeadsInside}
 use Rattle.mic_datapath.specs.Memory.{memory_refusal}
 use Rattle.mic_datapath.specs.Places.{registers_at}
 use Rattle.mic_datapath.specs.Registers.{NineRegisters, loaded}
@@ -78,11 +78,11 @@ access_by false = mems.Write
 abbrev pub loaded_in : ℕ → ℕ → Latches → NineRegisters
 loaded_in word c l = loaded (fields_of Mic2 word).c c l.word (registers_at l.places)
 
--- The read or the write of a word was done, and reached only memory: this is what a read sampled. A write is done only where the unit's fetch is not refused.
+-- The read or the write of a word was done, and needed no source and no sink: this is what a read sampled. A write is done only where the unit's fetch is not refused.
 pub record IsInside (word c taken : ℕ) (l : Latches) (bus bus' : BusView) (word_read : Option ℕ) : Type 0 where
   pub accesses : mem_of (fields_of Mic2 word).mem ≡ access_by (is_some word_read)
   pub clear : memory_refusal (length bus.words) (access_by (is_some word_read)) (loaded_in word c l).mar ≡ None
   pub transfer : (p : Ports) → p.mar ≡ (loaded_in word c l).mar → p.mdr ≡ (loaded_in word c l).mdr →
-      TransfersMemory bus bus' (access_by (is_some word_read)) p word_read
+      LeadsInside bus bus' (λ w v. IsTransfer (length bus.words) (access_by (is_some word_read)) p w word_read v)
   pub samples : is_some word_read ≡ false → sample_refusal (length bus.words) (unit_samples (names (fields_of Mic2 word).c 2) c taken l.unit) ≡ None
   pub same : is_some word_read ≡ true → bus' ≡ bus

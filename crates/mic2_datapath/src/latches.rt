@@ -301,7 +301,8 @@ impl Latches {
         self.unit.is_full(taken) || is_there(self.unit.will_fetch(taken), bus)
     }
 
-    /// The access of a word that has one, where it reaches only memory, and what a read samples; else nothing is done.
+    /// The access of a word that has one, where it reaches only memory or is a write to a console that has room, and what a
+    /// read samples; else nothing is done.
     #[inline(always)]
     pub fn access_inside(&self, word: u64, c: u32, taken: u8, bus: &mut Bus) -> Option<Option<u32>>
         requires canonical { IsTrue (is_canonical Mic2 word) }
@@ -310,13 +311,13 @@ impl Latches {
         ensures inside { IfSome result (IsInside word c taken self.now bus.old bus.new) }
         ensures none { IfNone result (bus.new ≡ bus.old) }
         ensures others { ChangesOnly (loaded_in word c self.now).mar bus.old.words bus.new.words }
-        ensures console { bus.new.console ≡ bus.old.console }
+        ensures ended { bus.new.console.ended ≡ bus.old.console.ended }
     {
         let mar = self.mar_for(word, c);
-        if !bus.has(mar) {
-            return None;
-        }
         if reads(word) {
+            if !bus.has(mar) {
+                return None;
+            }
             let sampled = read_alone(mar, bus);
             return Some(sampled.word);
         }
@@ -324,7 +325,9 @@ impl Latches {
             return None;
         }
         let mdr = self.mdr_for(word, c);
-        write_alone(mar, mdr, bus);
+        if !write_alone(mar, mdr, bus) {
+            return None;
+        }
         Some(None)
     }
 

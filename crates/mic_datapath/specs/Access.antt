@@ -23,6 +23,10 @@ pub record IsAccess (stack_end : ℕ) (mem : Mem) (fetch : Bool) (p : Ports) (w 
   pub its_byte : byte ≡ byte_under_way fetch p (written stack_end mem p w)
   pub after : v ≡ sampled stack_end mem p (written stack_end mem p w)
 
+-- what leads each world that is shown, between any source and any sink, which stay as they are
+abbrev pub LeadsInside : BusView → BusView → (World → World → Type 0) → Type 0
+LeadsInside bus bus' leads = (left held : Option (List ℕ)) → IsLed left held bus left held bus' leads
+
 -- Over a memory of these words, accesses that reach only memory. Every world of it goes to the same with the new words.
 
 -- nothing is written, and this word and this byte are under way

@@ -92,7 +92,7 @@ pub(crate) fn sample(bus: &Bus, fetch: bool, ports: &Ports) -> Option<u8>
 }
 
 /// Tests the addresses, and then does the accesses.
-fn access_tested<S: Source, K: Sink>(
+pub fn access_tested<S: Source, K: Sink>(
     mem: Mem,
     fetch: bool,
     mar: u32,

@@ -12,7 +12,7 @@ pub mod ports;
 pub mod signs;
 pub mod stage;
 
-pub use accesses::{Sampled, access, check_memory, transfer};
+pub use accesses::{Sampled, access, access_tested, check_memory, transfer};
 pub use alu::{operate, shift_by};
 pub use c_bus::{Places, arrive, arrived, port, settle};
 pub use jam::next_address;

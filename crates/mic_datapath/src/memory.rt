@@ -1,9 +1,12 @@
-//! The accesses of a cycle that reach only memory. None of them is refused, and no fault stops one.
+//! The accesses of a cycle that need no source and no sink: those that reach only memory, and a write for which the console has room.
+//! None of them is refused, and no fault stops one.
 
 ghost use Rattle.std.specs.Prelude.{◌≡◌, ◌<◌, ◌/◌, None, is_some, length, true, false};
 ghost use Rattle.console_port.specs.Bus.{ChangesOnly};
+ghost use Rattle.console_port.specs.Console.{most_kept};
+ghost use Rattle.console_port.specs.World.{console_at};
 ghost use Rattle.mic_datapath.specs.Memory.{access_refusal, memory_refusal};
-ghost use Rattle.mic_datapath.specs.Access.{AccessesMemory, AreInMemory, SamplesMemory, TransfersMemory, is_access, is_read};
+ghost use Rattle.mic_datapath.specs.Access.{AccessesMemory, AreInMemory, IsAccess, LeadsInside, SamplesMemory, TransfersMemory, is_access, is_read};
 
 use crate::accesses::{Sampled, sample};
 use crate::ports::Ports;
@@ -77,17 +80,20 @@ pub fn read_alone(mar: u32, bus: &Bus) -> Sampled
     }
 }
 
-/// Stores MDR in memory where nothing else is accessed.
+/// Stores MDR in memory, or gives its byte to a console that has room, where nothing else is accessed. Any other write is
+/// not done.
 #[inline(always)]
-#[tactic(auto, unfolding(console_port::specs::World::write_refusal, console_port::specs::World::given_after))]
-pub fn write_alone(mar: u32, mdr: u32, bus: &mut Bus)
-    requires { mar < length bus.old.words }
-    ensures clear { (p : Ports) → p.mar ≡ mar → access_refusal (length bus.old.words) Mem.Write false p ≡ None }
-    ensures access { (p : Ports) → p.mar ≡ mar → p.mdr ≡ mdr → AccessesMemory bus.old bus.new Mem.Write false p None None }
+pub fn write_alone(mar: u32, mdr: u32, bus: &mut Bus) -> bool
+    ensures clear { result ≡ true → (p : Ports) → p.mar ≡ mar → access_refusal (length bus.old.words) Mem.Write false p ≡ None }
+    ensures access { result ≡ true → (p : Ports) → p.mar ≡ mar → p.mdr ≡ mdr →
+        LeadsInside bus.old bus.new (λ w v. IsAccess (length bus.old.words) Mem.Write false p w None None v) }
     ensures others { ChangesOnly mar bus.old.words bus.new.words }
-    ensures console { bus.new.console ≡ bus.old.console }
+    ensures ended { bus.new.console.ended ≡ bus.old.console.ended }
+    ensures memory { mar < length bus.old.words → result ≡ true }
+    ensures room { mar ≡ console_at → length bus.old.console.kept < most_kept → result ≡ true }
+    ensures stays { result ≡ false → bus.new ≡ bus.old }
 {
-    bus.set_word(mar, mdr);
+    bus.write_here(mar, mdr)
 }
 
 /// Stores MDR at MAR, or takes the word there.

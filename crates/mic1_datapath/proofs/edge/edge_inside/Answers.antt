@@ -1,5 +1,5 @@
 use Rattle.std.proofs.Common.{true, ◌∙◌, ap, subst, sym}
-use Rattle.console_port.specs.View.{BusView}
+use Rattle.console_port.specs.View.{BusView, ConsoleView}
 use Rattle.micro_word.specs.Coding.{mem_of}
 use Rattle.mic1_datapath.specs.Cycle.{IsAtEdge, IsTried, is_done}
 use Rattle.mic1_datapath.specs.declared.latches.Latches.{Latches}
@@ -29,5 +29,5 @@ returns c =
     c.access_memory-sampled.result.word c.access_memory-sampled.result.byte
     (subst (λ (x : Latches). IsAtEdge x word c.args.lines.now c.args.value c.args.c) (sym same.0) c.requires)
     c.ports-ports.ensures (c.of_bits-mem.ensures ∙ ap mem_of c.mem.ensures) c.fetch-fetch.ensures does.clear
-    (λ left held. led_inside left held bus bus' does.console _ (λ w shows. does.access w shows.words)) does.others does.console
+    (λ left held. led_inside left held bus bus' does.console _ (λ w shows. does.access w shows.words)) does.others (ap (λ (k : ConsoleView). k.ended) does.console)
     c.advance.ensures.latches c.advance.ensures.micro c.advance.ensures.last))

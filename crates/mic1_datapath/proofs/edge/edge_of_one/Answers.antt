@@ -4,7 +4,7 @@ use Rattle.micro_word.specs.declared.statement.Mem.TheVariants as mems
 use Rattle.micro_word.specs.Coding.{mem_of}
 use Rattle.mic1_datapath.specs.Cycle.{ports_at}
 use Rattle.mic1_datapath.specs.Latches.{access_by, micro_in}
-use Rattle.mic1_datapath.proofs.Inside.{led_inside, led_same}
+use Rattle.mic1_datapath.proofs.Inside.{led_same}
 use Rattle.mic1_datapath.proofs.Tried.{tried}
 use Rattle.mic1_datapath.proofs.edge.edge_of_one.Goals as goal
 
@@ -48,7 +48,7 @@ returns-then-is_read c =
     (λ left held. led_same left held bus _ (λ w shows. does.ensures.access ports here w shows.words)) (refl, λ a other. refl) refl
     c.advance-then-is_read.ensures.latches c.advance-then-is_read.ensures.micro c.advance-then-is_read.ensures.last
 
--- a word that writes a word of the memory, and accesses nothing else
+-- a word that writes a word of the memory, or a byte for which the console has room, and accesses nothing else
 
 pub returns : goal.returns
 returns c =
@@ -56,10 +56,11 @@ returns c =
     let bus' = c.write_alone.new.bus in
     let does = c.write_alone.ensures in
     let ports = ports_at c.args.word c.args.c (micro_in c.args.latches.now) in
+    let done = c.if-not-write_alone.false in
     let here = sym c.mar_port-mar.ensures in
     tried c.args.word c.args.value c.args.c c.args.lines.now c.args.latches.now c.advance-2.new.self bus bus'
     ports mems.Write false None None c.requires refl
-    (sym (c.is_read.ensures.mem (c.transfers_nothing.ensures.something c.if-transfers_nothing.false) ∙ ap access_by c.if-is_read.false)) (sym c.if-fetch.false ∙ c.fetch.ensures) (does.clear ports here)
-    (λ left held. led_inside left held bus bus' does.console _ (λ w shows. does.access ports here (sym c.mdr_port-mdr.ensures) w shows.words))
-    (subst (λ (a : ℕ). ChangesOnly a bus.words bus'.words) (sym here) does.others) does.console
+    (sym (c.is_read.ensures.mem (c.transfers_nothing.ensures.something c.if-transfers_nothing.false) ∙ ap access_by c.if-is_read.false)) (sym c.if-fetch.false ∙ c.fetch.ensures) (does.clear done ports here)
+    (does.access done ports here (sym c.mdr_port-mdr.ensures))
+    (subst (λ (a : ℕ). ChangesOnly a bus.words bus'.words) (sym here) does.others) does.ended
     c.advance-2.ensures.latches c.advance-2.ensures.micro c.advance-2.ensures.last

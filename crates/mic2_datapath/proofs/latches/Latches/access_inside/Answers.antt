@@ -1,4 +1,4 @@
-use Rattle.std.proofs.Common.{◌≡◌, ℕ, Bool, true, List, length, refl, sym, ap, subst, ◌∙◌, arith}
+use Rattle.std.proofs.Common.{◌≡◌, Bool, true, length, refl, sym, ap, subst, ◌∙◌, arith}
 use Rattle.std.specs.Prelude.{is_some}
 use Rattle.std.proofs.lemmas.Grind.{common_steps}
 use Rattle.console_port.specs.World.{World}
@@ -6,7 +6,7 @@ use Rattle.micro_word.specs.declared.statement.Mem.TheVariants as mems
 use Rattle.mic_datapath.specs.Access.{IsTransfer}
 use Rattle.mic_datapath.specs.Memory.{memory_refusal, ports_with}
 use Rattle.mic2_datapath.specs.Latches.{access_by}
-use Rattle.mic2_datapath.proofs.Inside.{first_clear}
+use Rattle.mic2_datapath.proofs.Inside.{first_clear, led_same}
 use Rattle.mic2_datapath.proofs.latches.Latches.access_inside.Goals as goal
 
 pub returns-then-reads-clause-inside : goal.returns-then-reads-clause-inside
@@ -20,10 +20,10 @@ returns-then-reads-clause-inside c =
       clear =
           (λ i. memory_refusal (length bus.words) (access_by (some i)) (sym at i))
           ∙ first_clear _ _ (c.read_alone-sampled.ensures.clear (ports_with c.mar_for-mar.result 0 0) refl);
-      transfer = λ p mar mdr w words.
-          let a = c.read_alone-sampled.ensures.access p (mar ∙ sym at) w words in
-          subst (λ (reads : Bool). IsTransfer (length bus.words) (access_by reads) p w read (record w { words = bus.words })) (sym some)
-          (subst (λ (ws : List ℕ). IsTransfer (length bus.words) mems.Read p w read (record w { words = ws })) words
+      transfer = λ p mar mdr left held.
+          led_same left held bus _ (λ w shows.
+          let a = c.read_alone-sampled.ensures.access p (mar ∙ sym at) w shows.words in
+          subst (λ (reads : Bool). IsTransfer (length bus.words) (access_by reads) p w read w) (sym some)
           (record { its_word = a.its_word; after = a.after; words = refl }));
       samples = λ no. absurd (let wrong = sym some ∙ no in cc);
       same = λ is. refl;
@@ -34,12 +34,22 @@ returns-clause-inside c =
     let n = length c.args.bus.now.words in
     let mar_is = c.mar_for-mar.ensures in
     let mdr_is = c.mdr_for-mdr.ensures in
+    let done = c.if-not-write_alone.false in
     record {
       accesses = c.reads.ensures ∙ ap access_by c.if-reads.false;
-      clear = (λ i. memory_refusal n mems.Write (sym mar_is i)) ∙ first_clear _ _ (c.write_alone.ensures.clear (ports_with c.mar_for-mar.result 0 0) refl);
-      transfer = λ p mar mdr w words.
-          let a = c.write_alone.ensures.access p (mar ∙ sym mar_is) (mdr ∙ sym mdr_is) w words in
-          record { its_word = refl; after = a.after; words = ap (λ (v : World). v.words) a.after };
+      clear = (λ i. memory_refusal n mems.Write (sym mar_is i)) ∙ first_clear _ _ (c.write_alone.ensures.clear done (ports_with c.mar_for-mar.result 0 0) refl);
+      transfer = λ p mar mdr left held rest fits.
+          let led = c.write_alone.ensures.access done p (mar ∙ sym mar_is) (mdr ∙ sym mdr_is) left held rest fits in (
+            led.0,
+            led.1,
+            λ w shows same.
+                let to = led.2 w shows same in (
+                  to.0,
+                  record { its_word = refl; after = to.1.after; words = ap (λ (v : World). v.words) to.1.after },
+                  to.2,
+                  to.3,
+                ),
+          );
       samples = λ no. grind (arith, common_steps);
       same = λ is. absurd (cc);
     }

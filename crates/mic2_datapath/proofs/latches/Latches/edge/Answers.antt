@@ -14,7 +14,7 @@ use Rattle.mic2_fetch_unit.specs.FetchUnit.{sample_refusal}
 use Rattle.mic2_datapath.specs.Microstep.{jumps, moved_on}
 use Rattle.mic2_datapath.specs.Mic2.{mic2_meaning}
 use Rattle.mic2_datapath.specs.Latches.{access_by, micro_in}
-use Rattle.mic2_datapath.proofs.Inside.{led_inside, led_same}
+use Rattle.mic2_datapath.proofs.Inside.{led_same}
 use Rattle.mic2_datapath.proofs.Steps.{IsAsked, asked_for, edge_either, is_for, it_reads, mar_there, mdr_there, on_each_err, refusal_left, sampled_there, streams_stay}
 use Rattle.mic2_datapath.proofs.latches.Latches.edge.Goals as goal
 use Rattle.mic2_datapath.proofs.latches.Latches.edge.Goals.{then-not-stalled+else-is_quiet+in_default, else-not-stalled}
@@ -41,7 +41,7 @@ returns-then-is_quiet-clause-edge g c =
 pub returns-then-is_quiet-clause-streams : goal.returns-then-is_quiet-clause-streams
 returns-then-is_quiet-clause-streams g c = streams_stay _ _ _ _ _ _ _ _ _ refl _ _ c.advance.ensures.err
 
--- a cycle that reads or writes what is in memory; what the unit samples is tested before a write, so that a word was read where it is refused
+-- a cycle whose read or write needs no source and no sink; what the unit samples is tested before a write, so that a word was read where it is refused
 
 pub returns-in-Some-clause-edge : goal.returns-in-Some-clause-edge
 unfolding statement_of
@@ -69,7 +69,7 @@ returns-in-Some-clause-edge g c =
     record {
       edge =
           edge_either c.args.word m _ _ bus asked is bus' sampled _ r
-          (led_inside _ _ bus bus' c.access_inside.ensures.console _ (λ w shows. c.in-Some.ensures.inside.transfer asked.ports (sym mar) mdr w shows.words))
+          (c.in-Some.ensures.inside.transfer asked.ports (sym mar) mdr _ _)
           (subst (λ (at : ℕ). ChangesOnly at bus.words bus'.words) mar c.access_inside.ensures.others)
           (subst (λ (why : Option Refusal). OnOk r (why ≡ None)) left c.advance-in-Some.ensures.allowed)
           (subst (λ (x : ℕ). OnOk r (micro_in c.advance-in-Some.new.self ≡ moved_on s m x bus'.words sampled)) (computed.alu goes) c.advance-in-Some.ensures.ok)
@@ -78,7 +78,7 @@ returns-in-Some-clause-edge g c =
     }
 
 pub returns-in-Some-clause-streams : goal.returns-in-Some-clause-streams
-returns-in-Some-clause-streams g c = streams_stay _ _ _ _ _ _ _ _ _ c.access_inside.ensures.console _ _ c.advance-in-Some.ensures.err
+returns-in-Some-clause-streams g c = streams_stay _ _ _ _ _ _ _ _ _ c.access_inside.ensures.ended _ _ c.advance-in-Some.ensures.err
 
 -- a cycle that stalls, accesses something else, or is refused
 
