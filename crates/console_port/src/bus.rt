@@ -166,7 +166,8 @@ impl Bus {
         self.console.give((value % 256) as u8, sink)
     }
 
-    /// Writes where that needs no sink: to the memory, or to a console that has room for the byte. Any other write is not done.
+    /// Writes where that needs no sink: to the memory, or to a console that has room for the byte. Any other write is
+    /// not done.
     #[inline(always)]
     #[tactic(auto, unfolding(crate::specs::World::write_refusal, crate::specs::World::given_after))]
     pub fn write_here(&mut self, at: u32, value: u32) -> bool

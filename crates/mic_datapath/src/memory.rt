@@ -1,5 +1,5 @@
-//! The accesses of a cycle that need no source and no sink: those that reach only memory, and a write for which the console has room.
-//! None of them is refused, and no fault stops one.
+//! The accesses of a cycle that need no source and no sink: those that reach only memory, and a write for which the
+//! console has room. None of them is refused, and no fault stops one.
 
 ghost use Rattle.std.specs.Prelude.{◌≡◌, ◌<◌, ◌/◌, None, is_some, length, true, false};
 ghost use Rattle.console_port.specs.Bus.{ChangesOnly};
