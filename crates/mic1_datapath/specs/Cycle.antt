@@ -1,7 +1,7 @@
 -- What a cycle of Mic-1 has before its edge: a word with its control lines, and what leaves the ALU and the shifter; and an edge that needs no source and no sink.
-use Rattle.std.specs.Prelude.{◌≡◌, ⊤, ℕ, Bool, true, false, IsTrue, List, Option, Ok}
+use Rattle.std.specs.Prelude.{◌≡◌, ℕ, Bool, true, false, IsTrue, Option}
 use Rattle.console_port.specs.View.{BusView}
-use Rattle.mic_clock.specs.Edge.{IsEdge}
+use Rattle.mic_clock.specs.Edge.{IsEdgeInside}
 use Rattle.mic_words.specs.declared.machine.Machine.TheVariants as machines
 use Rattle.micro_word.specs.Coding.{mem_of, statement_of}
 use Rattle.micro_word.specs.Layout.{fields_of}
@@ -51,11 +51,6 @@ ports_at word c m = ports_of (assigned (fields_of machines.Mic1 word).c c m)
 abbrev pub IsQuiet : ℕ → Type 0
 IsQuiet word = (mem_of (fields_of machines.Mic1 word).mem ≡ mems.None) × (fetches word ≡ false)
 
--- an edge that is done, and is the same between any source and any sink
-abbrev pub IsEdgeInside : ℕ → Latches → BusView → Latches → BusView → Type 0
-IsEdgeInside word l bus l' bus' =
-    (left held : Option (List ℕ)) → IsEdge mic1_meaning word (micro_in l) left held bus {T = ⊤} (micro_in l') left held bus' (Ok tt)
-
 -- whether a try did the edge
 abbrev pub is_done : Try → Bool
 is_done tries.Done = true
@@ -65,7 +60,7 @@ is_done tries.Other = false
 -- an edge that needs no source and no sink is done, or all is as it was
 pub record IsTried (word : ℕ) (l : Latches) (bus : BusView) (l' : Latches) (bus' : BusView) (done : Bool) : Type 0 where
   pub latches : AreLatches l'
-  pub edge : done ≡ true → IsEdgeInside word l bus l' bus'
+  pub edge : done ≡ true → IsEdgeInside mic1_meaning word (micro_in l) bus (micro_in l') bus'
   pub last : done ≡ true → IsLast word l'
   pub ended : bus'.console.ended ≡ bus.console.ended
   pub none : done ≡ false → (l' ≡ l) × (bus' ≡ bus)

@@ -101,7 +101,7 @@ fn edge_of_one(
 /// The edge of a word whose accesses reach only memory, or that writes to a console that has room. For any other, nothing
 /// is done.
 #[inline(always)]
-fn edge_inside(
+pub fn edge_inside(
     latches: &mut Latches,
     word: u64,
     lines: &Lines,

@@ -10,7 +10,7 @@ ghost use Rattle.mic1_datapath.specs.Microstep.{source};
 ghost use Rattle.mic1_datapath.specs.Latches.{AreLatches, micro_in};
 
 use crate::buses::{H, computed_by, computed_of, driven_by};
-use crate::edge::edge;
+use crate::edge::{edge, edge_inside};
 use crate::latches::{IDLE, Latches};
 use console_port::{Bus, BusFault};
 use mic_base::{Sink, Source};
@@ -170,6 +170,29 @@ impl Clocked for Mic1 {
         self.last_a = drive.a;
         self.last_b = drive.b;
         Ok(false)
+    }
+
+    #[inline(always)]
+    fn clock_inside(&mut self, store: &Store, bus: &mut Bus) -> Option<bool> {
+        let mpc = self.latches.mpc;
+        let word = store.word(mpc);
+        let lines = store.lines_at(mpc);
+        let drive = driven_by(&self.latches, word, lines);
+        let computed = computed_by(&self.latches, word, lines, drive.b);
+        if !edge_inside(
+            &mut self.latches,
+            word,
+            lines,
+            computed.alu.value,
+            computed.c,
+            bus,
+        ) {
+            return None;
+        }
+        self.latches.stay_clocked();
+        self.last_a = drive.a;
+        self.last_b = drive.b;
+        Some(false)
     }
 
     fn last_drive(&self) -> Drive {

@@ -1,5 +1,5 @@
 -- How far the cycles of a run go.
-use Rattle.std.proofs.Common.{◌≡◌, ◌⊎◌, inl, inr, ℕ, ◌+◌, ◌<◌, ◌≤◌, max, Bool, true, false, if◌then◌else◌, Option, Some, None, IsSome, refl, sym, ap, subst, arith}
+use Rattle.std.proofs.Common.{◌≡◌, ◌⊎◌, inl, inr, ℕ, ◌+◌, ◌<◌, ◌≤◌, Bool, true, false, if◌then◌else◌, Option, Some, None, IsSome, refl, sym, ap, subst, arith}
 use Rattle.mic_clock.specs.declared.counts.Counts.{Counts}
 use Rattle.mic_clock.specs.declared.end.End.{End}
 use Rattle.mic_clock.specs.declared.registers.Registers.{Registers}
@@ -31,17 +31,6 @@ InTime-step m top bound c c' was stalled s end (Some e) not_ended le t still roo
 InTime-step m top bound c c' was stalled s end None not_ended le t still room counted below =
     subst (λ x. InTime top x (m.is_boundary s) None) (sym (counted refl))
     (clocked (m.is_boundary s) c stalled (m.address s) (m.registers s) was top bound (room refl) t.ordered le (below refl) (t.last not_ended))
-
--- after the turns of an instruction, before which the bound was tested at a boundary
-pub InTime-stride : (top bound : ℕ) (c c' : Counts) (was is : Bool) (end end' : Option End) → end ≡ None → bound ≤ top → InTime top c was end →
-    last_cycles c'.boundary ≤ c'.cycles → c'.cycles ≤ last_cycles c'.boundary + 1024 → c'.cycles ≤ last_cycles c.boundary + 1024 →
-    (was ≡ true → c'.cycles ≤ max (bound + 1024) c.cycles) → (end' ≡ None → is ≡ true) → InTime top c' is end'
-InTime-stride top bound c c' was is end end' not_ended le t ordered since within growth boundary =
-    record { cycles = by_last (t.last not_ended); ordered = ordered; near = since; last = λ q. inr (boundary q) }
-  where
-    by_last : (last_cycles c.boundary ≤ top) ⊎ (was ≡ true) → c'.cycles ≤ top + 1024
-    by_last (inl last) = omega arith
-    by_last (inr here) = let far = growth here in let near = t.cycles in omega arith
 
 -- How far the cycles of one instruction go.
 pub record InLeg (first c : Counts) (is_boundary : Bool) (end : Option End) : Type 0 where

@@ -96,7 +96,7 @@ module _ {State : Type 0} (m : Meaning State) where
           h.instructions ∙ (ap (λ (b : Bool). old.instructions + number_of (b && is_some old.boundary)) e ∙ add-zero old.instructions) in
           λ i. record { cycles = h.cycles i; instructions = instructions i; stalls = h.stalls i; boundary = h.between e i }
 
-  counts_after-rule : (old : Counts) (stalled : Bool) (s : State) → CountsCycle m old stalled s (counts_after m old stalled s)
+  pub counts_after-rule : (old : Counts) (stalled : Bool) (s : State) → CountsCycle m old stalled s (counts_after m old stalled s)
   counts_after-rule old stalled s = by_boundary (m.is_boundary s) refl
     where
       by_boundary : (b : Bool) → m.is_boundary s ≡ b →

@@ -1,5 +1,5 @@
 -- A board between a source and a sink shows where a run stands; how the run goes on, and where a fault cuts it.
-use Rattle.std.specs.Prelude.{◌≡◌, ◌≢◌, ◌⊎◌, ℕ, suc, ◌+◌, ◌<◌, ◌≤◌, ◌==◌, if◌then◌else◌, Bool, true, false, List, [], ◌++◌, Option, Some, None, IfSome, IsSome, is_some}
+use Rattle.std.specs.Prelude.{◌≡◌, ◌≢◌, ◌⊎◌, ℕ, suc, ◌+◌, ◌<◌, ◌≤◌, ◌==◌, if◌then◌else◌, Bool, true, false, List, [], ◌++◌, Option, Some, None, IfSome, IsSome, is_some, max}
 use Rattle.console_port.specs.View.{BusView}
 use Rattle.console_port.specs.Bus.{Shows, Stands, ChangesOnly}
 use Rattle.console_port.specs.Console.{Untaken, LosesLast, IsFault}
@@ -274,6 +274,31 @@ module _ {M State : Type 0} (state : M → State) (m : Meaning State) (board boa
     pub ordered : last_cycles board'.counts.boundary ≤ board'.counts.cycles
     pub onward : board.end ≡ None → board'.end ≡ None → board.counts.cycles < board'.counts.cycles
     pub boundary : board'.end ≡ None → m.is_boundary (state board'.machine) ≡ true
+
+-- Turns that need neither a source nor a sink: they lead on between any of them, and end no board.
+module _ {M State : Type 0} (state : M → State) (m : Meaning State) (board board' : BoardView M) where
+  -- One turn.
+  pub record IsTurnedInside : Type 0 where
+    pub turned : (left held : Option (List ℕ)) → IsTurned state m left held board left held board' None
+    pub counted : IsCountedTurn state m board board'
+    pub running : board'.end ≡ None
+    pub input : board'.bus.console.ended ≡ board.bus.console.ended
+    pub store : board'.store ≡ board.store
+
+  -- Turns under a bound, as many as were done: none, one or more.
+  pub record IsRunInside (bound : ℕ) : Type 0 where
+    pub reached : (left held : Option (List ℕ)) → IsReached state m left held board left held board' (Some bound)
+    pub in_time : KeepsInTime state m board board' bound
+    pub later : board.counts.cycles ≤ board'.counts.cycles
+    pub within : board'.counts.cycles ≤ max bound board.counts.cycles
+    pub running : board'.end ≡ board.end
+    pub input : board'.bus.console.ended ≡ board.bus.console.ended
+    pub store : board'.store ≡ board.store
+
+-- A board on which nothing was done. Beside its state, its machine may be another.
+pub record IsStill {M State : Type 0} (state : M → State) (board board' : BoardView M) : Type 0 where
+  pub its_state : state board'.machine ≡ state board.machine
+  pub same : board' ≡ record board { machine = board'.machine }
 
 -- HALT and ERR complete an instruction
 abbrev pub is_completed : Option End → Bool

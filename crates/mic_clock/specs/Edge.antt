@@ -1,5 +1,5 @@
 -- What a clock edge comes to between a source and a sink, by the step of the word that was set up.
-use Rattle.std.specs.Prelude.{◌≡◌, ◌≢◌, ◌⊎◌, ◌<◌, ℕ, List, [], length, Option, Some, Result, Err, OnOk, OnErr, IfErr}
+use Rattle.std.specs.Prelude.{◌≡◌, ◌≢◌, ◌⊎◌, ◌<◌, ℕ, ⊤, List, [], length, Option, Some, Result, Ok, Err, OnOk, OnErr, IfErr}
 use Rattle.console_port.specs.View.{BusView}
 use Rattle.console_port.specs.World.{World}
 use Rattle.console_port.specs.Bus.{Shows, Stands, IsLed, ChangesOnly}
@@ -44,3 +44,8 @@ module _ {State S K : Type 0} (m : Meaning State) (left : S → Option (List ℕ
       (s' : State) (bus' : BusView) (source' : S) (sink' : K) (result : Result T BusFault) : Type 0 where
     pub edge : IsEdge m word s (left source) (held sink) bus s' (left source') (held sink') bus' result
     pub waits : LetsBytesWait m word s (left source) (held sink) bus sink sink'
+
+-- an edge that is done, and is the same between any source and any sink, which both stay
+abbrev pub IsEdgeInside : {State : Type 0} → Meaning State → ℕ → State → BusView → State → BusView → Type 0
+IsEdgeInside m word s bus s' bus' =
+    (left held : Option (List ℕ)) → IsEdge m word s left held bus {T = ⊤} s' left held bus' (Ok tt)

@@ -9,7 +9,7 @@ ghost use Rattle.console_port.specs.Streams.{SinkGoesOn};
 ghost use Rattle.mic_clock.specs.Edge.{LetsBytesWait};
 ghost use Rattle.mic_clock.specs.Run.{MicroRun, start_counts, start_buses, bounded, word_at};
 ghost use Rattle.mic_clock.specs.Board.{ShowsAs, IsReset, NoFault, HasEndCause, tick_of, IsTurned, IsCutByFault, IsReached, IsRun, RunIsCutByRead, RunIsCutByWrite, BoundIsCutByWrite, IsLegRun, LegIsCutByRead, LegIsCutByWrite};
-ghost use Rattle.mic_clock.specs.Board.{IsAtBoundary, IsBelow, IsNear, AreCounts, EndsInTime, ChangesAtMar, EndsUnwritten, IsOnlyFlushed, GoesOn, IsCountedTurn, KeepsInTime, ComesInTime, TurnIsCut};
+ghost use Rattle.mic_clock.specs.Board.{IsAtBoundary, IsBelow, IsNear, AreCounts, EndsInTime, ChangesAtMar, EndsUnwritten, IsOnlyFlushed, GoesOn, IsCountedTurn, KeepsInTime, ComesInTime, TurnIsCut, IsRunInside};
 
 use crate::buses::{Computed, Drive};
 use crate::clocked::Clocked;
@@ -17,7 +17,7 @@ use crate::counts::Counts;
 use crate::end::{End, Tick};
 use crate::registers::{Registers, Start};
 use crate::running::{Running, Tally, counts_in};
-use crate::turning::{turn_once, turn_to_boundary};
+use crate::turning::{turn_once, turn_to_boundary, turns_inside};
 use crate::word::MicroWord;
 use console_port::{Bus, BusFault};
 use mic_base::{Sink, Source};
@@ -212,11 +212,27 @@ impl<M: Clocked> Board<M> {
         self.running.end
     }
 
-    // The test of the bound, and, where it does not end the board, the turns of an instruction. The bound can be tested
-    // at no other boundary among them.
+    // Turns that need neither the source nor the sink. In a function of its own, so that only they are in its loop.
+    #[inline(never)]
+    fn run_inside(&mut self, bound: u64)
+        requires running { self.old.end ≡ None }
+        requires cycles { (bound ≤ 2 ^ 62) × (self.old.counts.cycles ≤ 2 ^ 62 + 2048) }
+        ensures { IsRunInside M.state M.meaning self.old self.new bound }
+    {
+        turns_inside(
+            &mut self.machine,
+            &self.store,
+            &mut self.bus,
+            &mut self.running,
+            &mut self.tally,
+            bound,
+        );
+    }
+
+    // The turns that need neither the source nor the sink, and then one turn of any kind.
     fn stride<S: Source, K: Sink>(&mut self, bound: u64, source: &mut S, sink: &mut K)
         requires running { self.old.end ≡ None }
-        requires cycles { self.old.counts.cycles ≤ 2 ^ 62 + 2048 }
+        requires cycles { (bound ≤ 2 ^ 62) × (self.old.counts.cycles ≤ 2 ^ 62 + 2048) }
         ensures run { NoFault None self.new.end →
             IsReached M.state M.meaning (S.left source.old) (K.held sink.old) self.old (S.left source.new)
             (K.held sink.new) self.new (Some bound) }
@@ -224,16 +240,12 @@ impl<M: Clocked> Board<M> {
             (S.left source.new) (K.held sink.new) self.new (Some bound) }
         ensures write { RunIsCutByWrite M.state M.meaning (S.left source.old) (K.held sink.old) self.old
             (S.left source.new) (K.held sink.new) self.new (Some bound) }
-        ensures below { self.new.end ≡ None → IsBelow M.state M.meaning bound self.old }
-        ensures growth { IsAtBoundary M.state M.meaning self.old →
-            self.new.counts.cycles ≤ max (bound + 1024) self.old.counts.cycles }
         ensures goes_on { GoesOn S.left S.faults K.held K.passed K.faults source.old sink.old self.old source.new sink.new self.new }
-        ensures in_time { ComesInTime M.state M.meaning self.old self.new }
+        ensures in_time { KeepsInTime M.state M.meaning self.old self.new bound }
+        ensures onward { self.new.end ≡ None → self.old.counts.cycles < self.new.counts.cycles }
     {
-        if self.stop_at(bound, sink).is_some() {
-            return;
-        }
-        self.instruction(source, sink);
+        self.run_inside(bound);
+        self.turn(bound, source, sink);
     }
 
     /// Turns until the run ends, with the test of the bound before each, and then the flush.

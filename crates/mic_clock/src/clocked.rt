@@ -1,8 +1,8 @@
 //! What a board asks of a machine.
 
-ghost use Rattle.std.specs.Prelude.{◌≡◌, None, IfOk, OnOk, OnErr, ◌<◌, ℕ, List, slice_index};
+ghost use Rattle.std.specs.Prelude.{◌≡◌, None, IfNone, IfOk, IfSome, OnOk, OnErr, ◌<◌, ℕ, List, slice_index};
 ghost use Rattle.console_port.specs.Streams.{StreamsGoOn};
-ghost use Rattle.mic_clock.specs.Edge.{IsEdgeOver};
+ghost use Rattle.mic_clock.specs.Edge.{IsEdgeInside, IsEdgeOver};
 ghost use Rattle.mic_clock.specs.Meaning.{Meaning, Phase, AtRest, SetUp, Driven, AtEdge};
 ghost use Rattle.mic_clock.specs.Run.{Buses, buses_of, start_buses, word_at};
 
@@ -103,6 +103,18 @@ pub trait Clocked {
             (state self.old) bus.old source.old sink.old (state self.new) bus.new source.new sink.new result }
         ensures streams { StreamsGoOn S.left S.faults K.held K.passed K.faults bus.old source.old sink.old
             bus.new source.new sink.new result };
+
+    /// A cycle that needs neither a source nor a sink, because it reaches only memory, or writes to a console that has
+    /// room. Returns whether it was a stall. At None nothing was done, and the cycle is one for `clock`.
+    fn clock_inside(&mut self, store: &Store, bus: &mut Bus) -> Option<bool>
+        requires phase { phase self.old ≡ AtRest }
+        requires machine { store.now.machine ≡ meaning.machine }
+        ensures phase { phase self.new ≡ AtRest }
+        ensures stalled { IfSome result (λ s. s ≡ (meaning.drives (word_at meaning store.now.words (state self.old)) (state self.old)).stalled) }
+        ensures seen { IfSome result (λ _. seen self.new ≡ buses_of meaning store.now.words (state self.old) (seen self.old) None) }
+        ensures edge { IfSome result (λ _. IsEdgeInside meaning (word_at meaning store.now.words (state self.old)) (state self.old) bus.old (state self.new) bus.new) }
+        ensures ended { bus.new.console.ended ≡ bus.old.console.ended }
+        ensures none { IfNone result ((state self.new ≡ state self.old) × (seen self.new ≡ seen self.old) × (bus.new ≡ bus.old)) };
 
     /// What drove the operand buses in the cycle that `clock` did last.
     fn last_drive(&self) -> Drive

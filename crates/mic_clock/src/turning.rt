@@ -1,7 +1,7 @@
 //! The turns of an instruction, over the parts of a board.
 
-ghost use Rattle.std.specs.Prelude.{◌≡◌, ◌≤◌, ◌+◌, ◌^◌, if◌then◌else◌, None};
-ghost use Rattle.mic_clock.specs.Board.{tick_of, IsTurned, IsCutByFault, GoesOn, IsLegRun, LegIsCutByRead, LegIsCutByWrite, ComesInTime};
+ghost use Rattle.std.specs.Prelude.{◌≡◌, ◌≤◌, ◌+◌, ◌^◌, if◌then◌else◌, None, true, false};
+ghost use Rattle.mic_clock.specs.Board.{tick_of, IsTurned, IsCutByFault, GoesOn, IsLegRun, LegIsCutByRead, LegIsCutByWrite, ComesInTime, IsTurnedInside, IsRunInside, IsStill};
 ghost use Rattle.mic_clock.specs.Edge.{LetsBytesWait};
 ghost use Rattle.mic_clock.specs.Parts.{counts_of, board_of, AreParts, ChangesByTurn};
 ghost use Rattle.mic_clock.specs.Run.{word_at};
@@ -71,6 +71,63 @@ pub fn turn_once<M: Clocked, S: Source, K: Sink>(
             Tick::Ended(end)
         }
     }
+}
+
+/// A turn that needs neither a source nor a sink, and does not end. Returns whether it was done. Where it was not, nothing was.
+#[inline(always)]
+pub fn turn_inside<M: Clocked>(
+    machine: &mut M,
+    store: &Store,
+    bus: &mut Bus,
+    running: &mut Running,
+    tally: &mut Tally,
+) -> bool
+    requires parts { AreParts M.phase M.meaning machine.old store.now running.old tally.old }
+    requires running { (running.old.end ≡ None) × (running.old.cycles ≤ 2 ^ 62 + 4096) }
+    ensures parts { AreParts M.phase M.meaning machine.new store.now running.new tally.new }
+    ensures turned { result ≡ true → IsTurnedInside M.state M.meaning (board_of M.seen machine.old store.now bus.old running.old tally.old)
+        (board_of M.seen machine.new store.now bus.new running.new tally.new) }
+    ensures still { result ≡ false → IsStill M.state (board_of M.seen machine.old store.now bus.old running.old tally.old)
+        (board_of M.seen machine.new store.now bus.new running.new tally.new) }
+{
+    if end_before(machine, running, tally).is_some() {
+        return false;
+    }
+    match machine.clock_inside(store, bus) {
+        Some(stalled) => {
+            count(running, tally, stalled, machine);
+            true
+        }
+        None => false,
+    }
+}
+
+/// Turns as long as they need neither a source nor a sink, end nothing, and begin below the bound.
+#[inline(always)]
+pub fn turns_inside<M: Clocked>(
+    machine: &mut M,
+    store: &Store,
+    bus: &mut Bus,
+    running: &mut Running,
+    tally: &mut Tally,
+    bound: u64,
+)
+    requires parts { AreParts M.phase M.meaning machine.old store.now running.old tally.old }
+    requires running { running.old.end ≡ None }
+    requires cycles { (bound ≤ 2 ^ 62) × (running.old.cycles ≤ 2 ^ 62 + 2048) }
+    ensures parts { AreParts M.phase M.meaning machine.new store.now running.new tally.new }
+    ensures run { IsRunInside M.state M.meaning (board_of M.seen machine.old store.now bus.old running.old tally.old)
+        (board_of M.seen machine.new store.now bus.new running.new tally.new) bound }
+{
+    let mut here = Running {
+        cycles: running.cycles,
+        end: None,
+    };
+    let mut goes_on = true;
+    'turns: while goes_on && here.cycles < bound {
+        goes_on = turn_inside(machine, store, bus, &mut here, tally);
+    }
+    running.cycles = here.cycles;
 }
 
 /// Turns up to the next boundary, or up to the end.

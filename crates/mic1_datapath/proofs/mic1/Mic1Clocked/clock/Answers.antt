@@ -1,35 +1,21 @@
-use Rattle.std.proofs.Common.{ℕ, Bool, Ok, Err, if◌then◌else◌, slice_index, refl, sym, ap, ◌∙◌, subst}
+use Rattle.std.proofs.Common.{ℕ, Ok, Err, slice_index, refl, sym, subst}
 use Rattle.std.specs.Prelude.{⊤}
-use Rattle.mic_words.specs.declared.machine.Machine.TheVariants as machines
-use Rattle.micro_word.specs.Coding.{statement_of}
 use Rattle.mic_clock.specs.Edge.{IsEdgeOver}
-use Rattle.mic_clock.specs.Run.{start_buses}
-use Rattle.mic1_datapath.specs.Mic1.{computed, driven, mic1_meaning}
-use Rattle.mic1_datapath.specs.Microstep.{source}
+use Rattle.mic1_datapath.specs.Mic1.{driven, mic1_meaning}
 use Rattle.mic1_datapath.specs.Latches.{micro_in}
-use Rattle.mic1_datapath.specs.View.{buses_by}
 use Rattle.mic1_datapath.specs.declared.latches.Latches.{Latches}
 use Rattle.mic1_datapath.proofs.Passed.{edge_passed}
+use Rattle.mic1_datapath.proofs.Seen.{seen_last}
 use Rattle.mic1_datapath.proofs.mic1.Mic1Clocked.clock.Goals as goal
 
 pub returns-clause-stalled : goal.returns-clause-stalled
 unfolding driven
 returns-clause-stalled g c = refl
 
--- the latches keep the word, and with its operands it decides what was on the buses
 pub returns-clause-seen : goal.returns-clause-seen
-unfolding driven computed
 returns-clause-seen g c =
-    let m = micro_in c.args.self.now.latches in
-    let drive = c.driven_by-drive.ensures.value in
-    let a = c.driven_by-drive.result.a in
-    let b = c.driven_by-drive.result.b in
-    let last = c.in_ok-edge.ensures.last in
-    ap (λ (l : Latches). if l.clocked then buses_by l.before a b else start_buses) c.stay_clocked.ensures
-    ∙ ap (λ (is : Bool). if is then buses_by c.edge.new.latches.before a b else start_buses) last.1
-    ∙ ap (λ (word : ℕ). buses_by word a b) last.0
-    ∙ (λ i. buses_by c.word-word.result (drive i).a (drive i).b)
-    ∙ ap (λ (word : ℕ). buses_by word m.h (source (statement_of machines.Mic1 word).part.b m)) c.word-word.ensures.value
+    seen_last (micro_in c.args.self.now.latches) _ _ c.edge.new.latches c.stay_clocked.new.self c.driven_by-drive.result
+    c.word-word.ensures.value c.stay_clocked.ensures c.in_ok-edge.ensures.last c.driven_by-drive.ensures.value
 
 pub returns-clause-edge : goal.returns-clause-edge
 returns-clause-edge g c =

@@ -6,7 +6,6 @@ use Rattle.mic_clock.specs.View.{BoardView}
 use Rattle.mic_clock.specs.Run.{MicroRun, last_cycles}
 use Rattle.mic_clock.specs.Board.{ShowsRun, NoFault, IsCutByRead, IsCutByWrite}
 use Rattle.mic_clock.proofs.GoesOn.{GoesOn-step, GoesOn-finish}
-use Rattle.mic_clock.proofs.InTime.{InTime-stride}
 use Rattle.mic_clock.proofs.Reach.{IsLedTo-map, Leads-on, Leads-flushed, Leads-lost, by_done, no_err, if_err, fault_cases}
 use Rattle.mic_clock.proofs.board.Board.run.Goals as goal
 
@@ -37,9 +36,7 @@ strides-preserved g c =
       write = λ p. Leads-on state m (Some c.args.bound) left0 held0 first left held old left' new (λ ws r. IsCutByWrite state m ws (Some c.args.bound) left' held' new r)
           words program led (c.stride.ensures.write not_ended p);
       goes_on = GoesOn-step _ _ _ _ _ _ _ first _ _ old _ _ new first_not_ended not_ended c.strides.invariant.goes_on c.stride.ensures.goes_on;
-      in_time = InTime-stride top c.args.bound old.counts new.counts (m.is_boundary (state old.machine)) (m.is_boundary (state new.machine)) old.end new.end not_ended le
-          c.strides.invariant.in_time c.stride.ensures.in_time.ordered c.stride.ensures.in_time.near c.stride.ensures.in_time.within
-          c.stride.ensures.growth c.stride.ensures.in_time.boundary;
+      in_time = c.stride.ensures.in_time top le not_ended c.strides.invariant.in_time;
     }
 
 pub returns-clause-run : goal.returns-clause-run
