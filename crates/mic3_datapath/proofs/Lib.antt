@@ -1,3 +1,4 @@
 pub mod Examples
 pub mod Bits
+pub mod Transfers
 pub mod Steps

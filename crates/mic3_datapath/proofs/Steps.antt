@@ -22,39 +22,12 @@ use Rattle.mic_datapath.specs.Registers.{NineRegisters, ports_given}
 use Rattle.mic_datapath.specs.declared.ports.Ports.{Ports}
 use Rattle.mic2_fetch_unit.specs.FetchUnit.{sample_refusal}
 use Rattle.mic2_datapath.specs.Microstep.{access_refusal, demand, next_micro, unit_after, unit_refusal, unit_samples}
-use Rattle.mic3_datapath.specs.declared.pipeline.Pipeline.{Pipeline as Latched}
+use Rattle.mic3_datapath.specs.declared.pipeline.Asked.{Asked}
 use Rattle.mic3_datapath.specs.Pipeline.{Pipeline, Issued, Computed}
 use Rattle.mic3_datapath.specs.Cycle.{begins, clock, computed, computed_in, cycle, cycle_with, is_held_up, is_jump_coming, issued, issued_by, issued_in, mem_in, mpc_after, refusal, settled, bytes_leaving, waits, word_after, world_after}
 use Rattle.mic3_datapath.specs.Mic3.{driven, driven_by, mic3_meaning, step_of_word, values_of}
-use Rattle.mic3_datapath.specs.Slots.{HasMoved, edged, in_result, pipeline_in, retired_in, word_held}
+use Rattle.mic3_datapath.specs.Slots.{HasMoved, IsAsked, edged, word_held}
 use Rattle.mic3_datapath.specs.View.{buses_before, values_by}
-
--- what a cycle asks of the bus: an access, and the word that the fetch unit samples
-pub record Asked : Type 0 where
-  pub ports : Ports
-  pub mem : Mem
-  pub at : Option ℕ
-
--- what a cycle asks is what the cycle does in which this issues
-pub record IsAsked (i : Option Issued) (p : Pipeline) (q : Asked) : Type 0 where
-  pub given : q.ports ≡ ports_given (settled i p)
-  pub memory : q.mem ≡ mem_in p.result
-  pub samples : (n : ℕ) → sample_refusal n q.at ≡ unit_refusal (is_jump_coming (computed_in p.result)) n q.ports.pc (bytes_leaving i) p.micro.unit
-  pub its : q.at ≡ unit_samples (is_jump_coming (computed_in p.result)) q.ports.pc (bytes_leaving i) p.micro.unit
-
--- what is asked of the bus is asked for the word in the result slot
-pub is_asked : (l : Latched) (i : Option Issued) (t : ℕ) (ports : Ports) (mem : Mem) (jump : Bool) (at : Option ℕ) → t ≡ bytes_leaving i →
-    ports ≡ ports_given (retired_in l t) →
-    mem ≡ mem_in (in_result l.result) → jump ≡ is_jump_coming (computed_in (in_result l.result)) →
-    ((n : ℕ) → sample_refusal n at ≡ unit_refusal jump n ports.pc t l.latches.unit) → at ≡ unit_samples jump ports.pc t l.latches.unit →
-    IsAsked i (pipeline_in l) (record { ports = ports; mem = mem; at = at })
-is_asked l i t ports mem jump at t_is ports_are mem_is jump_is samples its =
-    record {
-      given = ports_are ∙ (λ j. ports_given (retired_in l (t_is j)));
-      memory = mem_is;
-      samples = λ n. samples n ∙ (λ j. unit_refusal (jump_is j) n ports.pc (t_is j) l.latches.unit);
-      its = its ∙ (λ j. unit_samples (jump_is j) ports.pc (t_is j) l.latches.unit);
-    }
 
 abbrev refusal_on : ℕ → Asked → Option Refusal
 refusal_on n q = access_refusal n q.mem q.ports.mar q.at
@@ -291,6 +264,13 @@ moved i p words read t moves = record { operand = ap (λ (q : Pipeline). q.opera
 values_moved : (o : Option Issued) (v : Values) (c : Option Computed) → v ≡ values_of o → c ≡ computed o → values_by v.alu.value c ≡ values_of o
 values_moved None v c v_is c_is = λ j. values_by (v_is j).alu.value (c_is j)
 values_moved (Some i) v c v_is c_is = λ j. values_by (v_is j).alu.value (c_is j)
+
+-- whether a cycle is a stall, by what it drives
+pub stalled_by : (word word' : ℕ) → word' ≡ word → (p : Pipeline) (i : Option Issued) (d : Drive) → i ≡ issued (statement_of machines.Mic2 word') p → d ≡ driven_by i →
+    d.stalled ≡ (driven word p).stalled
+unfolding driven
+stalled_by word word' same p i d issues drove =
+    ap (λ (x : Drive). x.stalled) (drove ∙ ap driven_by issues ∙ ap (λ (w : ℕ). driven_by (issued (statement_of machines.Mic2 w) p)) same)
 
 -- what was on the buses in a cycle that is done, by what the slots hold after it
 pub seen_after : (word word' : ℕ) → word' ≡ word → (p q t : Pipeline) (i : Option Issued) (d : Drive) (v : Values) → i ≡ issued (statement_of machines.Mic2 word') p → q ≡ p →

@@ -6,15 +6,16 @@ use Rattle.micro_word.specs.declared.statement.Placed.{Placed}
 use Rattle.console_port.specs.World.{Refusal}
 use Rattle.mic_clock.specs.declared.buses.Computed.{Computed as Values}
 use Rattle.mic_datapath.specs.Places.{registers_at}
-use Rattle.mic_datapath.specs.Registers.{NineRegisters}
+use Rattle.mic_datapath.specs.Registers.{NineRegisters, ports_given}
 use Rattle.mic2_fetch_unit.specs.FetchUnit.{Prefetch, sample_refusal}
 use Rattle.mic2_datapath.specs.Latches.{micro_in}
-use Rattle.mic2_datapath.specs.Microstep.{next_micro, past, unit_after, unit_samples}
+use Rattle.mic2_datapath.specs.Microstep.{next_micro, past, unit_after, unit_refusal, unit_samples}
 use Rattle.mic3_datapath.specs.declared.slots.OperandSlot.{OperandSlot}
 use Rattle.mic3_datapath.specs.declared.slots.ResultSlot.{ResultSlot}
+use Rattle.mic3_datapath.specs.declared.pipeline.Asked.{Asked}
 use Rattle.mic3_datapath.specs.declared.pipeline.Pipeline.{Pipeline as Latched}
 use Rattle.mic3_datapath.specs.Pipeline.{Pipeline, Issued, Computed}
-use Rattle.mic3_datapath.specs.Cycle.{begins, computed, computed_in, is_jump_coming, issued, issued_in, mpc_after, retired, settled, bytes_leaving}
+use Rattle.mic3_datapath.specs.Cycle.{begins, computed, computed_in, is_jump_coming, issued, issued_in, mem_in, mpc_after, retired, settled, bytes_leaving}
 use Rattle.mic3_datapath.specs.Mic3.{values_of}
 
 abbrev pub in_operand : Option OperandSlot → Option Issued
@@ -43,6 +44,13 @@ unit_refused stack_end r pc taken unit = sample_refusal stack_end (unit_samples 
 
 abbrev pub pipeline_in : Latched → Pipeline
 pipeline_in l = record { micro = micro_in l.latches; operand = in_operand l.operand; result = in_result l.result }
+
+-- what a cycle asks of the bus is what the cycle does in which this issues
+pub record IsAsked (i : Option Issued) (p : Pipeline) (q : Asked) : Type 0 where
+  pub given : q.ports ≡ ports_given (settled i p)
+  pub memory : q.mem ≡ mem_in p.result
+  pub samples : (n : ℕ) → sample_refusal n q.at ≡ unit_refusal (is_jump_coming (computed_in p.result)) n q.ports.pc (bytes_leaving i) p.micro.unit
+  pub its : q.at ≡ unit_samples (is_jump_coming (computed_in p.result)) q.ports.pc (bytes_leaving i) p.micro.unit
 
 -- the word under way after an edge whose access sampled this: where nothing retires, one that has arrived stays
 abbrev pub word_held : Option Computed → Option ℕ → Option ℕ → Option ℕ

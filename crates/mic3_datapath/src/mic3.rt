@@ -150,6 +150,20 @@ impl Clocked for Mic3 {
         Ok(drive.stalled)
     }
 
+    #[inline(always)]
+    fn clock_inside(&mut self, store: &Store, bus: &mut Bus) -> Option<bool> {
+        let control = Control::of(store, self.pipeline.latches.mpc);
+        let to_issue = self.pipeline.issue(&control);
+        let values = values_of(self.pipeline.operand);
+        if !self.pipeline.edge_inside(to_issue, &values, bus) {
+            return None;
+        }
+        let drive = driven_by(to_issue);
+        self.stalled = drive.stalled;
+        self.value = values.alu.value;
+        Some(drive.stalled)
+    }
+
     fn last_drive(&self) -> Drive {
         let mut drive = driven_by(self.pipeline.operand);
         drive.stalled = self.stalled;

@@ -1,11 +1,11 @@
 //! What Mic-3 keeps between cycles.
 
-ghost use Rattle.std.specs.Prelude.{◌≡◌, ◌<◌, ◌≤◌, ℕ, OnOk, OnErr, length, slice_index};
+ghost use Rattle.std.specs.Prelude.{◌≡◌, ◌<◌, ◌≤◌, ℕ, OnOk, OnErr, length, slice_index, true, false};
 ghost use Rattle.console_port.specs.Bus.{FailsAsRefused};
 ghost use Rattle.console_port.specs.Streams.{StreamsGoOn};
 ghost use Rattle.mic_words.specs.declared.machine.Machine.TheVariants.{Mic2};
 ghost use Rattle.micro_word.specs.Coding.{statement_of};
-ghost use Rattle.mic_clock.specs.Edge.{IsEdgeOver};
+ghost use Rattle.mic_clock.specs.Edge.{IsEdgeInside, IsEdgeOver};
 ghost use Rattle.mic_datapath.specs.Places.{registers_at};
 ghost use Rattle.mic_datapath.specs.Registers.{ports_given};
 ghost use Rattle.mic2_datapath.specs.Latches.{AreLatches};
@@ -14,9 +14,9 @@ ghost use Rattle.mic2_datapath.specs.Microstep.{demand, past, unit_after};
 ghost use Rattle.mic2_datapath.specs.Spelled.{spelled};
 ghost use Rattle.mic3_datapath.specs.Cycle.{begins, bytes_leaving, computed, dispatched_from, from_computed, from_issued, from_retired, is_jump_coming, issued, mem_in, mpc_after, retired, settled, waits};
 ghost use Rattle.mic3_datapath.specs.Mic3.{driven_by, initial as initial_of, mic3_meaning, values_of};
-ghost use Rattle.mic3_datapath.specs.Slots.{HasMoved, edged, in_operand, in_result, pipeline_in, retired_in, retiring, unit_refused, word_held};
+ghost use Rattle.mic3_datapath.specs.Slots.{HasMoved, IsAsked, edged, in_operand, in_result, pipeline_in, retired_in, retiring, unit_refused, word_held};
 
-use crate::accesses::access;
+use crate::accesses::{access, access_inside};
 use crate::hazards::{is_branch, is_held_up, is_to_instruction, jumps_now};
 use crate::slots::{OperandSlot, ResultSlot};
 use console_port::{Bus, BusFault};
@@ -44,6 +44,14 @@ pub struct Pipeline {
     pub operand: Option<OperandSlot>,
     pub result: Option<ResultSlot>,
     pub latches: Latches,
+}
+
+/// What a cycle asks of the bus: the access of the word that retires, and the word address that the fetch unit samples.
+#[derive(Clone, Copy)]
+struct Asked {
+    mem: Mem,
+    ports: Ports,
+    at: Option<u32>,
 }
 
 /// How many bytes leave the queue.
@@ -305,6 +313,7 @@ impl Pipeline {
     pub fn issue(&mut self, control: &Control) -> Option<OperandSlot>
         requires { AreLatches self.old.latches }
         ensures value { in_operand result ≡ issued (spelled control.now) (pipeline_in self.old) }
+        ensures there { bytes_leaving (in_operand result) ≤ length self.new.latches.unit.bytes }
         ensures pipeline { pipeline_in self.new ≡ pipeline_in self.old }
         ensures latches { AreLatches self.new.latches }
     {
@@ -338,6 +347,20 @@ impl Pipeline {
                 pc: pc_after(self.latches.places[PC], taken),
             },
         }
+    }
+
+    /// What the cycle asks of the bus in which this issues.
+    #[inline(always)]
+    fn asked(&self, to_issue: Option<OperandSlot>) -> Asked
+        requires { bytes_leaving (in_operand to_issue) ≤ length self.now.latches.unit.bytes }
+        ensures { IsAsked (in_operand to_issue) (pipeline_in self.now) result }
+    {
+        let taken = bytes_leaving(to_issue);
+        let mem = mem_in(self.result);
+        let jumps = jumps_now(self.result);
+        let ports = self.ports(taken);
+        let at = self.latches.will_fetch(jumps, ports.pc, taken);
+        Asked { mem, ports, at }
     }
 
     /// The edge after its access, which sampled this word if it read. An Err leaves everything as it was.
@@ -400,14 +423,36 @@ impl Pipeline {
             bus.new source.new sink.new result }
     {
         console_law();
-        let taken = bytes_leaving(to_issue);
-        let mem = mem_in(self.result);
-        let jumps = jumps_now(self.result);
-        let ports = self.ports(taken);
-        let at = self.latches.will_fetch(jumps, ports.pc, taken);
-        let sampled = access(mem, at, &ports, bus, source, sink)?;
+        let asked = self.asked(to_issue);
+        let sampled = access(asked.mem, asked.at, &asked.ports, bus, source, sink)?;
         // What the fetch unit samples was tested before the access.
-        let _ = self.advance(to_issue, values, ports.pc, sampled, bus);
+        let _ = self.advance(to_issue, values, asked.ports.pc, sampled, bus);
         Ok(())
+    }
+
+    /// The edge where it needs neither a source nor a sink. Returns whether it was done; otherwise nothing was.
+    #[inline(always)]
+    pub fn edge_inside(
+        &mut self,
+        to_issue: Option<OperandSlot>,
+        values: &Computed,
+        bus: &mut Bus,
+    ) -> bool
+        requires latches { AreLatches self.old.latches }
+        requires there { bytes_leaving (in_operand to_issue) ≤ length self.old.latches.unit.bytes }
+        requires values { values.now ≡ values_of (in_operand self.old.operand) }
+        ensures latches { AreLatches self.new.latches }
+        ensures edge { result ≡ true → (word : ℕ) → in_operand to_issue ≡ issued (statement_of Mic2 word) (pipeline_in self.old) →
+            IsEdgeInside mic3_meaning word (pipeline_in self.old) bus.old (pipeline_in self.new) bus.new }
+        ensures moved { result ≡ true → HasMoved (in_operand to_issue) (pipeline_in self.old) (pipeline_in self.new) }
+        ensures ended { bus.new.console.ended ≡ bus.old.console.ended }
+        ensures none { result ≡ false → (pipeline_in self.new ≡ pipeline_in self.old) × (bus.new ≡ bus.old) }
+    {
+        let asked = self.asked(to_issue);
+        let Some(sampled) = access_inside(asked.mem, asked.at, &asked.ports, bus) else {
+            return false;
+        };
+        let _ = self.advance(to_issue, values, asked.ports.pc, sampled, bus);
+        true
     }
 }

@@ -1,29 +1,14 @@
-use Rattle.std.proofs.Common.{◌≤◌, ◌∙◌, ℕ, Option, length, sym, ap, subst}
+use Rattle.std.proofs.Common.{◌∙◌, sym, ap}
 use Rattle.mic_words.specs.declared.machine.Machine.TheVariants as machines
 use Rattle.micro_word.specs.Coding.{statement_of}
-use Rattle.mic_clock.specs.declared.buses.Drive.{Drive}
-use Rattle.mic3_datapath.specs.Pipeline.{Pipeline, Issued}
-use Rattle.mic3_datapath.specs.Cycle.{bytes_leaving, issued}
-use Rattle.mic3_datapath.specs.Mic3.{driven, driven_by}
+use Rattle.mic3_datapath.specs.Cycle.{issued}
 use Rattle.mic3_datapath.specs.Slots.{in_operand, pipeline_in}
-use Rattle.mic3_datapath.proofs.Steps.{issued_there, over_failed, over_told, seen_after, seen_kept}
+use Rattle.mic3_datapath.proofs.Steps.{over_failed, over_told, seen_after, seen_kept, stalled_by}
 use Rattle.mic3_datapath.proofs.mic3.Mic3Clocked.clock.Goals as goal
 
-pub edge-requires-clause-there : goal.edge-requires-clause-there
-edge-requires-clause-there g c =
-    let p = pipeline_in c.args.self.now.pipeline in
-    let unit_is = c.issue-to_issue.ensures.pipeline in
-    (subst (λ (q : Pipeline). bytes_leaving (in_operand c.issue-to_issue.result) ≤ length q.micro.unit.bytes) (sym unit_is)
-    (subst (λ (x : Option Issued). bytes_leaving x ≤ length p.micro.unit.bytes) (sym c.issue-to_issue.ensures.value)
-    (issued_there (statement_of machines.Mic2 c.of-control.result.word) p)))
-
 pub returns-clause-stalled : goal.returns-clause-stalled
-unfolding driven
 returns-clause-stalled g c =
-    let p = pipeline_in c.args.self.now.pipeline in
-    ap (λ (d : Drive). d.stalled)
-    (c.driven_by-drive.ensures ∙ ap driven_by c.issue-to_issue.ensures.value
-    ∙ ap (λ (w : ℕ). driven_by (issued (statement_of machines.Mic2 w) p)) c.of-control.ensures)
+    stalled_by _ c.of-control.result.word c.of-control.ensures (pipeline_in c.args.self.now.pipeline) _ _ c.issue-to_issue.ensures.value c.driven_by-drive.ensures
 
 pub returns-clause-seen : goal.returns-clause-seen
 returns-clause-seen g c =

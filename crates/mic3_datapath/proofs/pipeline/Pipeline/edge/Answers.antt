@@ -1,25 +1,17 @@
-use Rattle.std.proofs.Common.{Result, sym, ap, subst}
+use Rattle.std.proofs.Common.{Result, sym, subst}
 use Rattle.std.specs.Prelude.{⊤}
 use Rattle.console_port.specs.declared.fault.BusFault.{BusFault}
 use Rattle.mic_clock.specs.Edge.{IsEdge}
-use Rattle.mic_datapath.specs.declared.ports.Ports.{Ports}
 use Rattle.mic3_datapath.specs.Mic3.{mic3_meaning}
 use Rattle.mic3_datapath.specs.Slots.{in_operand, pipeline_in}
-use Rattle.mic3_datapath.proofs.Steps.{edge_done, edge_fails, edge_waits, handed_on, is_asked, moved, samples_clear, unrefused}
+use Rattle.mic3_datapath.proofs.Steps.{edge_done, edge_fails, edge_waits, handed_on, moved, samples_clear, unrefused}
 use Rattle.mic3_datapath.proofs.pipeline.Pipeline.edge.Goals as goal
-
-pub advance-requires-clause-pc : goal.advance-requires-clause-pc
-advance-requires-clause-pc g c =
-    let h = is_asked c.args.self.now (in_operand c.args.to_issue) _ _ _ _ _ c.bytes_leaving-taken.ensures c.ports-ports.ensures c.mem_in-mem.ensures c.jumps_now-jumps.ensures
-    c.will_fetch-at.ensures.refusal c.will_fetch-at.ensures.value in
-    ap (λ (q : Ports). q.pc) h.given
 
 pub returns-clause-edge : goal.returns-clause-edge
 returns-clause-edge g c =
     let i = in_operand c.args.to_issue in
     let p = pipeline_in c.args.self.now in
-    let h = is_asked c.args.self.now i _ _ _ _ _ c.bytes_leaving-taken.ensures c.ports-ports.ensures c.mem_in-mem.ensures c.jumps_now-jumps.ensures
-    c.will_fetch-at.ensures.refusal c.will_fetch-at.ensures.value in
+    let h = c.asked-asked.ensures in
     let a = c.in_ok-sampled.ensures.access in
     λ word issues. record {
       edge =
@@ -32,17 +24,14 @@ pub returns-clause-moved : goal.returns-clause-moved
 returns-clause-moved g c =
     let i = in_operand c.args.to_issue in
     let p = pipeline_in c.args.self.now in
-    let h = is_asked c.args.self.now i _ _ _ _ _ c.bytes_leaving-taken.ensures c.ports-ports.ensures c.mem_in-mem.ensures c.jumps_now-jumps.ensures
-    c.will_fetch-at.ensures.refusal c.will_fetch-at.ensures.value in
     let a = c.in_ok-sampled.ensures.access in
-    moved i p _ _ _ (unrefused _ _ c.advance.ensures.err (samples_clear i p _ h _ _ a.others.0 a.allowed) c.advance.ensures.ok)
+    moved i p _ _ _ (unrefused _ _ c.advance.ensures.err (samples_clear i p _ c.asked-asked.ensures _ _ a.others.0 a.allowed) c.advance.ensures.ok)
 
 pub returns-in_err-sampled-clause-edge : goal.returns-in_err-sampled-clause-edge
 returns-in_err-sampled-clause-edge g c =
     let i = in_operand c.args.to_issue in
     let p = pipeline_in c.args.self.now in
-    let h = is_asked c.args.self.now i _ _ _ _ _ c.bytes_leaving-taken.ensures c.ports-ports.ensures c.mem_in-mem.ensures c.jumps_now-jumps.ensures
-    c.will_fetch-at.ensures.refusal c.will_fetch-at.ensures.value in
+    let h = c.asked-asked.ensures in
     λ word issues.
     let edge = edge_fails word i p _ (sym issues) h _ _ c.args.bus.now c.console_law.ensures _ _ _ c.access.new.bus c.in_err-sampled.field-0.0 c.in_err-sampled.ensures.access in
     record {

@@ -1,6 +1,8 @@
 use Rattle.std.proofs.Common.{◌≡◌, ◌≤◌, ℕ, Bool, false, length, Some, None, if◌then◌else◌, subst, sym, ap, ◌∙◌}
 use Rattle.mic_words.specs.declared.machine.Machine.TheVariants as machines
 use Rattle.micro_word.specs.Coding.{statement_of}
+use Rattle.mic2_datapath.specs.Micro.{Micro}
+use Rattle.mic2_datapath.specs.Microstep.{demand}
 use Rattle.mic3_datapath.specs.Cycle.{issued_by, waits}
 use Rattle.mic3_datapath.specs.Slots.{pipeline_in}
 use Rattle.mic3_datapath.proofs.Steps.{enough}
@@ -29,3 +31,9 @@ returns-clause-value c =
     let goes : waits s p ≡ false = sym c.waits-waits.ensures ∙ c.if-waits.false in
     (λ j. Some (record { statement = s; a = c.operands-a.ensures.a j; b = c.operands-a.ensures.b j; byte = c.dispatched-byte.ensures j }))
     ∙ sym (ap (λ (b : Bool). if b then None else Some (issued_by s p)) goes)
+
+pub returns-clause-there : goal.returns-clause-there
+returns-clause-there c =
+    let s = statement_of machines.Mic2 c.args.control.now.word in
+    let there = enough s (pipeline_in c.args.self.now) (sym c.waits-waits.ensures ∙ c.if-waits.false) in
+    subst (λ (m : Micro). demand s ≤ length m.unit.bytes) (sym c.operands-a.ensures.micro) there
