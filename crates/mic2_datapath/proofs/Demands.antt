@@ -1,8 +1,7 @@
 -- The bytes that a statement demands, by what stands in its word.
-use Rattle.std.proofs.Common.{◌≡◌, ℕ, zero, suc, ◌+◌, ◌-◌, ◌/◌, ◌≤◌, ◌<◌, ◌^◌, ◌%◌, ◌==◌, ◌||◌, ◌&&◌, ◌≢◌, Bool, true, false, IsTrue, List, Option, Some, None, if◌then◌else◌, refl, sym, ap, ◌∙◌, arith}
+use Rattle.std.proofs.Common.{◌≡◌, ℕ, ◌+◌, ◌-◌, ◌/◌, ◌≤◌, ◌%◌, ◌==◌, ◌||◌, ◌&&◌, ◌≢◌, Bool, true, false, IsTrue, List, Option, Some, None, if◌then◌else◌, refl, sym, ap, ◌∙◌, arith}
 use Rattle.std.specs.Prelude.{nat_lt}
 use Rattle.std.proofs.lemmas.Bool.Decides.{nat_tests}
-use Rattle.mic_words.specs.Arithmetic.{wrap}
 use Rattle.mic_words.specs.declared.machine.Machine.TheVariants.{Mic2}
 use Rattle.micro_word.specs.Words.{Valid, fits_side, is_byte, is_pair, may_be_b}
 use Rattle.micro_word.specs.Coding.{jam_bits, mem_bits, row}
@@ -17,7 +16,7 @@ use Rattle.micro_word.specs.declared.statement.Test.TheVariants as tests
 use Rattle.mic_datapath.specs.Next.{next_address}
 use Rattle.micro_word.specs.declared.statement.Placed.{Placed}
 use Rattle.mic2_datapath.specs.Latches.{access_by}
-use Rattle.mic2_datapath.specs.Microstep.{advanced, demand, dispatch_bytes, unit_after, unit_samples}
+use Rattle.mic2_datapath.specs.Microstep.{demand, dispatch_bytes, unit_after, unit_samples}
 use Rattle.mic2_fetch_unit.specs.FetchUnit.{Prefetch, jump}
 
 pub not_here : (used : Bool) → IsTrue (used && false) → ⊥
@@ -50,17 +49,6 @@ dispatch_bits (nexts.Goto to) = refl
 dispatch_bits (nexts.Dispatch high) = refl
 dispatch_bits (nexts.Branch tests.N low) = refl
 dispatch_bits (nexts.Branch tests.Z low) = refl
-
-pub goes_behind : (taken pc : ℕ) → pc < 2 ^ 32 → (pc + taken) % 4294967296 ≡ advanced taken pc
-unfolding wrap
-goes_behind zero pc h = omega arith
-goes_behind (suc taken) pc h = refl
-
-pub less : (a b : ℕ) → a < b → nat_lt a b ≡ true
-less a b h = grind (arith, nat_tests)
-
-pub not_less : (a b : ℕ) → b ≤ a → nat_lt a b ≡ false
-not_less a b h = grind (arith, nat_tests)
 
 -- the bytes of the operands, by what each side names
 abbrev pub bytes_by : Bool → Bool → Bool → Bool → ℕ

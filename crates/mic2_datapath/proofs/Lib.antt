@@ -3,3 +3,4 @@ pub mod Buses
 pub mod Demands
 pub mod Sources
 pub mod Steps
+pub mod Tried

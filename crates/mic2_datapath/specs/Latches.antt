@@ -1,6 +1,7 @@
 -- What the latches of Mic-2 mean: the microstep's state, and what its buses carry between its calls.
 use Rattle.std.specs.Prelude.{◌≡◌, ℕ, ◌*◌, ◌+◌, ◌<◌, ◌≤◌, Bool, true, false, IsTrue, length, slice_index, Option, None, is_some}
 use Rattle.console_port.specs.View.{BusView}
+use Rattle.mic_clock.specs.Edge.{IsEdgeInside}
 use Rattle.mic_words.specs.Arithmetic.{signed_byte, signed_pair}
 use Rattle.mic_words.specs.declared.machine.Machine.TheVariants.{Mic2}
 use Rattle.micro_word.specs.Coding.{mem_of, statement_of}
@@ -19,6 +20,7 @@ use Rattle.mic_datapath.specs.Places.{registers_at}
 use Rattle.mic_datapath.specs.Registers.{NineRegisters, loaded}
 use Rattle.mic_datapath.specs.declared.ports.Ports.{Ports}
 use Rattle.mic2_fetch_unit.specs.FetchUnit.{sample_refusal}
+use Rattle.mic2_datapath.specs.Mic2.{mic2_meaning}
 use Rattle.mic2_datapath.specs.Micro.{Micro}
 use Rattle.mic2_datapath.specs.Microstep.{demand, is_stalled, result_of, unit_samples}
 use Rattle.mic2_datapath.specs.declared.latches.Latches.{Latches}
@@ -86,3 +88,9 @@ pub record IsInside (word c taken : ℕ) (l : Latches) (bus bus' : BusView) (wor
       LeadsInside bus bus' (λ w v. IsTransfer (length bus.words) (access_by (is_some word_read)) p w word_read v)
   pub samples : is_some word_read ≡ false → sample_refusal (length bus.words) (unit_samples (names (fields_of Mic2 word).c 2) c taken l.unit) ≡ None
   pub same : is_some word_read ≡ true → bus' ≡ bus
+
+-- an edge that needs no source and no sink is done, or all is as it was
+pub record IsTried (word : ℕ) (m : Micro) (bus : BusView) (m' : Micro) (bus' : BusView) (done : Bool) : Type 0 where
+  pub edge : done ≡ true → IsEdgeInside mic2_meaning word m bus m' bus'
+  pub ended : bus'.console.ended ≡ bus.console.ended
+  pub none : done ≡ false → (m' ≡ m) × (bus' ≡ bus)

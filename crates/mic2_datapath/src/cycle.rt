@@ -5,7 +5,7 @@ ghost use Rattle.console_port.specs.Streams.{StreamsGoOn};
 ghost use Rattle.mic_words.specs.declared.machine.Machine.TheVariants.{Mic2};
 ghost use Rattle.micro_word.specs.Coding.{statement_of};
 ghost use Rattle.mic_clock.specs.Edge.{IsEdgeOver};
-ghost use Rattle.mic2_datapath.specs.Latches.{AreLatches, HasComputed, IsDecoded, micro_in};
+ghost use Rattle.mic2_datapath.specs.Latches.{AreLatches, HasComputed, IsDecoded, IsTried, micro_in};
 ghost use Rattle.mic2_datapath.specs.Mic2.{driven, mic2_meaning};
 ghost use Rattle.mic2_datapath.specs.Microstep.{is_stalled};
 
@@ -51,6 +51,33 @@ impl Latches {
             b,
             stalled: false,
         }
+    }
+
+    /// The edge of a cycle that reaches only memory, or writes to a console that has room. For any other, nothing is done.
+    #[inline(always)]
+    pub fn edge_inside(
+        &mut self,
+        word: u64,
+        lines: &Lines,
+        value: u32,
+        c: u32,
+        bus: &mut Bus,
+    ) -> bool
+        requires latches { AreLatches self.old }
+        requires there { lines.now.takes ≤ length self.old.unit.bytes }
+        requires decoded { IsDecoded word lines.now }
+        requires computed { HasComputed (statement_of Mic2 word) (micro_in self.old) false value c }
+        ensures latches { AreLatches self.new }
+        ensures tried { IsTried word (micro_in self.old) bus.old (micro_in self.new) bus.new result }
+    {
+        // Most words access nothing, and most others what is in memory.
+        if is_quiet(word) {
+            return self.advance(word, lines, value, c, None, bus).is_ok();
+        }
+        if let Some(sampled) = self.access_inside(word, c, lines.takes, bus) {
+            return self.advance(word, lines, value, c, sampled, bus).is_ok();
+        }
+        false
     }
 
     /// The edge of any cycle. Few cycles stall, or access something else than memory.
@@ -137,14 +164,8 @@ impl Latches {
         ensures streams { StreamsGoOn S.left S.faults K.held K.passed K.faults bus.old source.old sink.old
             bus.new source.new sink.new result }
     {
-        if !stalled {
-            // Most words access nothing, and most others what is in memory.
-            if is_quiet(word) {
-                return self.advance(word, lines, value, c, None, bus);
-            }
-            if let Some(sampled) = self.access_inside(word, c, lines.takes, bus) {
-                return self.advance(word, lines, value, c, sampled, bus);
-            }
+        if !stalled && self.edge_inside(word, lines, value, c, bus) {
+            return Ok(());
         }
         self.rare_edge(word, lines, stalled, value, c, bus, source, sink)
     }

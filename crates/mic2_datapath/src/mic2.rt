@@ -180,6 +180,25 @@ impl Clocked for Mic2 {
         Ok(false)
     }
 
+    #[inline(always)]
+    fn clock_inside(&mut self, store: &Store, bus: &mut Bus) -> Option<bool> {
+        let (word, lines) = decoded_at(store, self.latches.mpc);
+        if self.latches.waits(word, lines) {
+            return None;
+        }
+        let Operands { a, b } = self.latches.operands(word, lines);
+        let value = operate_for(word, lines, a, b);
+        let c = shift_for(word, value);
+        if !self.latches.edge_inside(word, lines, value, c, bus) {
+            return None;
+        }
+        self.past = Past::Clocked;
+        self.last_word = word;
+        self.last_a = a;
+        self.last_b = b;
+        Some(false)
+    }
+
     fn last_drive(&self) -> Drive {
         match self.past {
             Past::Nothing => Drive::ZERO,

@@ -1,0 +1,17 @@
+-- An edge that needs no source and no sink, which is done or refused.
+use Rattle.std.proofs.Common.{◌≡◌, ℕ, Bool, List, Option, None, Result, Ok, Err}
+use Rattle.std.specs.Prelude.{⊤, OnErr, is_ok}
+use Rattle.console_port.specs.View.{BusView}
+use Rattle.console_port.specs.declared.fault.BusFault.{BusFault}
+use Rattle.mic_clock.specs.Edge.{IsEdge}
+use Rattle.mic2_datapath.specs.Latches.{IsTried}
+use Rattle.mic2_datapath.specs.Mic2.{mic2_meaning}
+use Rattle.mic2_datapath.specs.Micro.{Micro}
+
+pub tried : (word : ℕ) (m m' : Micro) (bus bus' : BusView) (r : Result ⊤ BusFault) (done : Bool) → done ≡ is_ok r →
+    ((left held : Option (List ℕ)) → IsEdge mic2_meaning word m left held bus {T = ⊤} m' left held bus' r) →
+    bus'.console.ended ≡ bus.console.ended → OnErr r (bus' ≡ bus) → IsTried word m bus m' bus' done
+tried word m m' bus bus' (Ok x) done is edge ended same =
+    record { edge = λ yes. edge; ended = ended; none = λ no. absurd (cc) }
+tried word m m' bus bus' (Err e) done is edge ended same =
+    record { edge = λ yes. absurd (cc); ended = ended; none = λ no. ((edge None None).state, same) }
