@@ -34,7 +34,7 @@ pub struct Mic1 {
     value: u32,
     /// What is on the C bus.
     c: u32,
-    /// The operands of the word that `clock` clocked last. The latches keep the word.
+    /// The operands of the word that `clock` or `clock_inside` clocked last. The latches keep the word.
     last_a: u32,
     last_b: u32,
     ghost kept: { AreLatches latches },

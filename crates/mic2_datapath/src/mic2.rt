@@ -18,7 +18,7 @@ use mic_clock::{Clocked, Computed, Drive, Registers, Start, Tail};
 use mic_datapath::Stage;
 use micro_word::{Machine, Store, Word2};
 
-/// What the cycle that `clock` did last was.
+/// What the cycle that `clock` or `clock_inside` did last was.
 #[derive(Clone, Copy, Debug, PartialEq, Eq)]
 enum Past {
     /// There was none since the reset.

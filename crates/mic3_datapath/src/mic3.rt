@@ -28,7 +28,7 @@ pub struct Mic3 {
     /// What leaves the ALU and the shifter for the word in the operand slot.
     values: Computed,
     pipeline: Pipeline,
-    /// Whether nothing issued in the cycle that `clock` did last.
+    /// Whether nothing issued in the cycle that `clock` or `clock_inside` did last.
     stalled: bool,
     /// What left the ALU in that cycle. What else was on the buses is in the slots after it.
     value: u32,

@@ -226,11 +226,6 @@ IsReached-compose state m left held left' held' left'' held'' bound a b c same f
     Leads-on state m bound left held a left' held' b left'' c (λ (words : List ℕ). ShowsRun state left'' held'' c) a.store.words
     (ap (λ s. s.words) same) first next
 
--- an end leaves the bus values
-pub buses_of-ended : {State : Type 0} (m : Meaning State) (words : List ℕ) (s : State) (old : Buses) (end : Option End) → IsSome end → buses_of m words s old end ≡ old
-buses_of-ended m words s old (Some e) over = refl
-buses_of-ended m words s old None over = cc
-
 module _ {M State : Type 0} (state : M → State) (m : Meaning State) (bound : ℕ) (left held : Option (List ℕ)) (board : BoardView M) where
   -- no turn leads where the board is
   pub Leads-start : IsLedTo state left held board left board
@@ -250,21 +245,6 @@ module _ {M State : Type 0} (state : M → State) (m : Meaning State) (bound : �
   module _ (held' : Option (List ℕ)) (board' : BoardView M) (same_end : board'.bus.console.ended ≡ board.bus.console.ended) where
     fitting : (rest : List ℕ) → Untaken left board'.bus.console.ended rest → Untaken left board.bus.console.ended rest
     fitting rest fits = subst (λ (b : Bool). Untaken left b rest) same_end fits
-
-    -- the bound ends a board
-    pub IsTurned-ended : IsSome board'.end → (NoFault board.end board'.end → ShowsAs state held board held' board' (bounded m (Some bound))) →
-        IsTurned state m left held board left held' board' (Some bound)
-    IsTurned-ended over shows plain rest fits = (
-      rest,
-      fitting rest fits,
-      λ r s e.
-          let b = bounded m (Some bound) r in
-          let there = shows plain left r s in
-          let still : turn m board.store.words b ≡ b = turn_by_ended m board.store.words b.end b (subst IsSome (sym there.its_end) over) in (
-            subst (λ (x : MicroRun State). ShowsRun state left held' board' x) (sym still) there,
-            ap (λ (x : MicroRun State). x.world.untaken) still ∙ untaken_same r rest e,
-          ),
-    )
 
     -- the flush at the bound fails
     pub bound-cut : board.end ≡ None → board'.end ≡ Some ends.WriteFault → board'.buses ≡ board.buses → BoundIsCutByWrite state m left held board left held' board' bound →

@@ -88,14 +88,6 @@ iterate-suc : {A : Type 0} (h : A → A) (n : ℕ) (x : A) → iterate h (suc n)
 iterate-suc h zero x = refl
 iterate-suc h (suc n) x = iterate-suc h n (h x)
 
-pub bounded_by-state : {State : Type 0} (m : Meaning State) (bound : ℕ) (end : Option End) (r : MicroRun State) → (bounded_by m end bound r).state ≡ r.state
-bounded_by-state m bound (Some e) r = refl
-bounded_by-state m bound None r = search rules
-
-pub bounded-state : {State : Type 0} (m : Meaning State) (bound : Option ℕ) (r : MicroRun State) → (bounded m bound r).state ≡ r.state
-bounded-state m None r = refl
-bounded-state m (Some bound) r = bounded_by-state m bound r.end r
-
 pub bounded-world : {State : Type 0} (m : Meaning State) (bound : Option ℕ) (r : MicroRun State) → (bounded m bound r).world ≡ r.world
 bounded-world m None r = refl
 bounded-world m (Some bound) r = by_end r.end

@@ -295,7 +295,7 @@ module _ {M State : Type 0} (state : M → State) (m : Meaning State) (board boa
     pub input : board'.bus.console.ended ≡ board.bus.console.ended
     pub store : board'.store ≡ board.store
 
--- A board on which nothing was done. Beside its state, its machine may be another.
+-- A board on which nothing was done. The state of its machine is the same; what else the machine keeps may differ.
 pub record IsStill {M State : Type 0} (state : M → State) (board board' : BoardView M) : Type 0 where
   pub its_state : state board'.machine ≡ state board.machine
   pub same : board' ≡ record board { machine = board'.machine }

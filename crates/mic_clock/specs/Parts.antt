@@ -1,4 +1,4 @@
--- A board in its parts, between which the turns of an instruction go on.
+-- A board in its parts, over which its turns go.
 use Rattle.std.specs.Prelude.{◌≡◌, Bool}
 use Rattle.console_port.specs.View.{BusView}
 use Rattle.micro_word.specs.ControlStore.{ControlStore}

@@ -9,7 +9,7 @@ ghost use Rattle.console_port.specs.Streams.{SinkGoesOn};
 ghost use Rattle.mic_clock.specs.Edge.{LetsBytesWait};
 ghost use Rattle.mic_clock.specs.Run.{MicroRun, start_counts, start_buses, bounded, word_at};
 ghost use Rattle.mic_clock.specs.Board.{ShowsAs, IsReset, NoFault, HasEndCause, tick_of, IsTurned, IsCutByFault, IsReached, IsRun, RunIsCutByRead, RunIsCutByWrite, BoundIsCutByWrite, IsLegRun, LegIsCutByRead, LegIsCutByWrite};
-ghost use Rattle.mic_clock.specs.Board.{IsAtBoundary, IsBelow, IsNear, AreCounts, EndsInTime, ChangesAtMar, EndsUnwritten, IsOnlyFlushed, GoesOn, IsCountedTurn, KeepsInTime, ComesInTime, TurnIsCut, IsRunInside};
+ghost use Rattle.mic_clock.specs.Board.{IsBelow, IsNear, AreCounts, EndsInTime, ChangesAtMar, EndsUnwritten, IsOnlyFlushed, GoesOn, IsCountedTurn, KeepsInTime, ComesInTime, TurnIsCut, IsRunInside};
 
 use crate::buses::{Computed, Drive};
 use crate::clocked::Clocked;

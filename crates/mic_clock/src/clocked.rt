@@ -35,7 +35,7 @@ pub trait Clocked {
     /// The word that was set up last.
     ghost word: { Self → ℕ };
 
-    /// What was on the buses in the cycle that `clock` did last. The four calls do not keep it.
+    /// What was on the buses in the cycle that `clock` or `clock_inside` did last. The four calls do not keep it.
     ghost seen: { Self → Buses };
 
     fn machine(&self) -> Machine
@@ -105,22 +105,23 @@ pub trait Clocked {
             bus.new source.new sink.new result };
 
     /// A cycle that needs neither a source nor a sink, because it reaches only memory, or writes to a console that has
-    /// room. Returns whether it was a stall. At None nothing was done, and the cycle is one for `clock`.
+    /// room. Returns whether it was a stall. At None nothing was done, and the cycle is one for `clock`; any cycle may be.
     fn clock_inside(&mut self, store: &Store, bus: &mut Bus) -> Option<bool>
         requires phase { phase self.old ≡ AtRest }
         requires machine { store.now.machine ≡ meaning.machine }
         ensures phase { phase self.new ≡ AtRest }
         ensures stalled { IfSome result (λ s. s ≡ (meaning.drives (word_at meaning store.now.words (state self.old)) (state self.old)).stalled) }
         ensures seen { IfSome result (λ _. seen self.new ≡ buses_of meaning store.now.words (state self.old) (seen self.old) None) }
-        ensures edge { IfSome result (λ _. IsEdgeInside meaning (word_at meaning store.now.words (state self.old)) (state self.old) bus.old (state self.new) bus.new) }
+        ensures edge { IfSome result (λ _. IsEdgeInside meaning (word_at meaning store.now.words (state self.old)) (state self.old) bus.old
+            (state self.new) bus.new) }
         ensures ended { bus.new.console.ended ≡ bus.old.console.ended }
         ensures none { IfNone result ((state self.new ≡ state self.old) × (seen self.new ≡ seen self.old) × (bus.new ≡ bus.old)) };
 
-    /// What drove the operand buses in the cycle that `clock` did last.
+    /// What drove the operand buses in the cycle that `clock` or `clock_inside` did last.
     fn last_drive(&self) -> Drive
         ensures { result ≡ (seen self.now).drive };
 
-    /// What the ALU and the shifter gave in the cycle that `clock` did last.
+    /// What the ALU and the shifter gave in the cycle that `clock` or `clock_inside` did last.
     fn last_computed(&self) -> Computed
         ensures { result ≡ (seen self.now).computed };
 

@@ -1,4 +1,4 @@
-//! The turns of an instruction, over the parts of a board.
+//! The turns of a board, over its parts.
 
 ghost use Rattle.std.specs.Prelude.{◌≡◌, ◌≤◌, ◌+◌, ◌^◌, if◌then◌else◌, None, true, false};
 ghost use Rattle.mic_clock.specs.Board.{tick_of, IsTurned, IsCutByFault, GoesOn, IsLegRun, LegIsCutByRead, LegIsCutByWrite, ComesInTime, IsTurnedInside, IsRunInside, IsStill};
@@ -73,7 +73,8 @@ pub fn turn_once<M: Clocked, S: Source, K: Sink>(
     }
 }
 
-/// A turn that needs neither a source nor a sink, and does not end. Returns whether it was done. Where it was not, nothing was.
+/// One turn, where `clock_inside` does its cycle and no end comes before it. Returns whether it was done; if not, the board
+/// is as it was.
 #[inline(always)]
 pub fn turn_inside<M: Clocked>(
     machine: &mut M,
@@ -102,7 +103,7 @@ pub fn turn_inside<M: Clocked>(
     }
 }
 
-/// Turns as long as they need neither a source nor a sink, end nothing, and begin below the bound.
+/// Turns below the bound, as long as `turn_inside` does them.
 #[inline(always)]
 pub fn turns_inside<M: Clocked>(
     machine: &mut M,
