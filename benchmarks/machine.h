@@ -1,8 +1,8 @@
 /* What mic1.c and mic2.c share: memory, console, files, the ends of a run and its counts.
  *
  * The console does what that of `mic` does. Written bytes are kept until there are 4,096, or the program asks for
- * input, or the run ends, and then go out by one call. Each byte is read by a call of its own, so that no byte is taken
- * that the program does not ask for. After the end of input nothing is asked again.
+ * input, or the run ends, and then go out by one call. A file is read ahead, and the run ends at the byte after the last
+ * one that the program asked for; any other input is read byte by byte. After the end of input nothing is asked again.
  */
 #ifndef MACHINE_H
 #define MACHINE_H
@@ -60,6 +60,10 @@ static void fail(const char *what) {
 
 static unsigned char kept[MOST_KEPT];
 static size_t kept_count;
+
+/* Bytes of the input that the program did not ask for yet. */
+static unsigned char ahead[1 << 16];
+static size_t ahead_at, ahead_end, most_ahead;
 static int input_ended;
 
 static int flush_kept(void) {
@@ -83,25 +87,36 @@ static inline int give(uint32_t it) {
     return 1;
 }
 
+/* 0 where the input failed. */
+static SELDOM int read_ahead(void) {
+    ssize_t count;
+    if (!most_ahead) most_ahead = lseek(0, 0, SEEK_CUR) < 0 ? 1 : sizeof ahead;
+    do count = read(0, ahead, most_ahead);
+    while (count < 0 && errno == EINTR);
+    if (count < 0) return 0;
+    ahead_at = 0;
+    ahead_end = (size_t)count;
+    input_ended = count == 0;
+    return 1;
+}
+
 /* 0 where a stream failed; `end` is then which. */
-static int take(uint32_t *it, enum end *end) {
-    unsigned char byte = 0;
-    ssize_t count = 0;
+static inline int take(uint32_t *it, enum end *end) {
     if (kept_count && !flush_kept()) {
         *end = WRITE_FAULT;
         return 0;
     }
-    if (!input_ended) {
-        do count = read(0, &byte, 1);
-        while (count < 0 && errno == EINTR);
-        if (count < 0) {
-            *end = READ_FAULT;
-            return 0;
-        }
-        input_ended = count == 0;
+    if (unlikely(ahead_at == ahead_end) && !input_ended && !read_ahead()) {
+        *end = READ_FAULT;
+        return 0;
     }
-    *it = byte;
+    *it = input_ended ? 0 : ahead[ahead_at++];
     return 1;
+}
+
+/* Goes back to the byte after the last one that the program asked for. */
+static void leave_the_rest(void) {
+    if (ahead_at != ahead_end) (void)lseek(0, -(off_t)(ahead_end - ahead_at), SEEK_CUR);
 }
 
 /* Why an access outside of memory is refused. */

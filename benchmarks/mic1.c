@@ -59,6 +59,7 @@ struct machine {
 static SELDOM int ended(enum end end, const struct word *w, struct machine *m, uint32_t left) {
     const uint32_t *r = m->r;
     m->run.end = flush_kept() ? end : WRITE_FAULT;
+    leave_the_rest();
     int status = report(&m->run, DRIFT - left);
     fprintf(stderr, "MAR %08" PRIx32 " MDR %08" PRIx32 " PC %08" PRIx32 " MBR %02" PRIx32, r[MAR], r[MDR], r[PC], r[MBRU]);
     fprintf(stderr, " SP %08" PRIx32 " LV %08" PRIx32 " CPP %08" PRIx32 " TOS %08" PRIx32, r[SP], r[LV], r[CPP], r[TOS]);

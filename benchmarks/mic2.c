@@ -60,6 +60,7 @@ static SELDOM int ended(enum end end, STATE) {
     const uint32_t *r = m->r;
     (void)word;
     m->run.end = flush_kept() ? end : WRITE_FAULT;
+    leave_the_rest();
     int status = report(&m->run, DRIFT - left);
     fprintf(stderr, "MAR %08" PRIx32 " MDR %08" PRIx32 " PC %08" PRIx32 " BYTES ", r[MAR], r[MDR], r[PC]);
     if (!have) fprintf(stderr, "-");
