@@ -9,7 +9,7 @@ use std::process::ExitCode;
 use std::{env, io};
 
 /// The words after the program's name.
-// In a function of its own, so that the loops of the clock begin at multiples of 32, where they run a tenth faster.
+// In a function of its own, so that the loops of the clock begin at multiples of 32 (benchmarks/README.md).
 #[inline(never)]
 fn words_of(rt: &HostRuntime) -> io::Result<Vec<String>> {
     let mut words = Vec::new(rt.alloc());
