@@ -1,7 +1,6 @@
 -- What a read did, by what its answer became.
 use Rattle.std.proofs.Common.{◌≡◌, ℕ, true, false, List, Option, Some, None, Result, Ok, Err, refl, sym, subst}
-use Rattle.std.specs.Prelude.{[], IfOk, IfSome, IsErr}
-use Rattle.std.specs.Io.KnownBytes.{IsAtEnd}
+use Rattle.std.specs.Prelude.{IfOk, IsErr}
 use Rattle.mic_base.specs.Streams.{ReadsNext}
 
 pub reads_as : {D E : Type 0} (old new : Option (List ℕ)) (answer : Result (Option ℕ) D) (result : Result (Option ℕ) E) →
@@ -10,8 +9,3 @@ reads_as {E = E} old new (Ok None) result is failed h = subst (λ (r : Result (O
 reads_as {E = E} old new (Ok (Some byte)) result is failed h = subst (λ (r : Result (Option ℕ) E). ReadsNext old r new) (sym is) h
 reads_as old new (Err d) (Ok next) is failed h = absurd (let no : false ≡ true = failed refl in cc)
 reads_as old new (Err d) (Err e) is failed h = h
-
--- a reader that shows no byte has none left
-pub at_end : (left : Option (List ℕ)) (P : Type 0) → IfSome left (λ bytes. P → bytes ≡ []) → P → IsAtEnd left
-at_end None P ends shown = tt
-at_end (Some bytes) P ends shown = ends shown

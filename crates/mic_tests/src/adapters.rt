@@ -5,20 +5,18 @@ use mic_base::{
 };
 use std::fs;
 use std::fs::File;
-use std::io::BufReader;
 use std::test::Fail;
 
 #[test]
 fn a_reader_is_a_source(rt: HostRuntime) -> Result<(), Fail> {
     let name = "mic_tests.reader";
     fs::write(&rt, name, b"ab".as_slice())?;
-    let alloc = rt.alloc();
-    let mut source = StdSource::new(BufReader::new(alloc, File::open(&rt, name)?)?);
+    let mut source = StdSource::new(File::open(&rt, name)?);
     for next in [Some(b'a'), Some(b'b'), None, None] {
         assert_eq!(rt; source.get(), Ok(next));
     }
     // This file is open for writing alone.
-    let mut unreadable = StdSource::new(BufReader::new(alloc, File::create(&rt, name)?)?);
+    let mut unreadable = StdSource::new(File::create(&rt, name)?);
     for _ in 0..2 {
         assert_eq!(rt; unreadable.get(), Err(SourceFailed));
     }

@@ -1,6 +1,9 @@
 //! The program `mic`: one call, with the words, the files and the streams that the system has.
 #![tactic(auto)]
 
+mod ahead;
+
+use ahead::ReadAhead;
 use cli_call::{mic_main, misused};
 use cli_outside::no_memory;
 use mic_base::{StdFiles, StdSink, StdSource};
@@ -26,7 +29,7 @@ fn main(rt: HostRuntime) -> ExitCode {
             rt.alloc(),
             &words,
             &mut StdFiles::new(&rt),
-            &mut StdSource::new(rt.stdin().lock()),
+            &mut StdSource::new(ReadAhead::new(rt.stdin().lock())),
             &mut StdSink::new(rt.stdout()),
             &mut err,
         ),

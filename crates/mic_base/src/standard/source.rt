@@ -1,4 +1,4 @@
-//! A source over any buffered reader, such as a lock on standard input.
+//! A source over any reader, such as standard input.
 
 ghost use Rattle.std.specs.Prelude.{◌≡◌, None};
 ghost use Rattle.mic_base.specs.Causes.{HasCause};
@@ -7,9 +7,9 @@ ghost use Rattle.mic_base.specs.Streams.{ReadsNext, Takes};
 use super::answers::byte_read;
 use crate::source::{Source, SourceFailed};
 use std::io;
-use std::io::{BufRead, ErrorKind};
+use std::io::{ErrorKind, Read};
 
-/// The bytes of a buffered reader, such as a lock on standard input. What the reader holds ahead stays its own.
+/// The bytes of a reader, such as standard input.
 #[derive(Drop)]
 pub struct StdSource<R> {
     reader: R,
@@ -27,7 +27,7 @@ impl<R> StdSource<R> {
     }
 }
 
-impl<R: BufRead> Source for StdSource<R> {
+impl<R: Read> Source for StdSource<R> {
     ghost use Rattle.mic_base.specs.Standard.{reader_faults, reader_of};
 
     ghost left = { λ s. None };
@@ -46,13 +46,15 @@ impl<R: BufRead> Source for StdSource<R> {
 }
 
 /// The reader's next byte, or none at its end. A read that a signal interrupts is tried again.
-fn next_byte<R: BufRead>(reader: &mut R) -> io::Result<Option<u8>>
+fn next_byte<R: Read>(reader: &mut R) -> io::Result<Option<u8>>
     ensures { ReadsNext (R.remaining reader.old) result (R.remaining reader.new) }
 {
     // A loop is proved to end, so this one counts its turns.
     for _ in 0..u64::MAX {
-        match byte_ahead(reader) {
-            Ok(next) => return Ok(next),
+        let mut byte = [0];
+        match reader.read(&mut byte) {
+            Ok(0) => return Ok(None),
+            Ok(_) => return Ok(Some(byte[0])),
             Err(error) => {
                 if error.kind() != ErrorKind::Interrupted {
                     return Err(error);
@@ -61,17 +63,4 @@ fn next_byte<R: BufRead>(reader: &mut R) -> io::Result<Option<u8>>
         }
     }
     Err(io::Error::from(ErrorKind::TimedOut))
-}
-
-/// The next byte of those that the reader holds ahead, or none at its end. Where it holds none, it is asked once.
-fn byte_ahead<R: BufRead>(reader: &mut R) -> io::Result<Option<u8>>
-    ensures { ReadsNext (R.remaining reader.old) result (R.remaining reader.new) }
-{
-    let ahead = reader.fill_buf()?;
-    if ahead.is_empty() {
-        return Ok(None);
-    }
-    let byte = ahead[0];
-    reader.consume(1);
-    Ok(Some(byte))
 }
