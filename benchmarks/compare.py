@@ -9,10 +9,14 @@
     --compilers gcc,clang    what builds the C machines; those that are not installed are left out
     --flags=-O2              with which flags
     --plain                  builds them with PLAIN too: one function that tests the control lines in each cycle
+    --alike                  builds them with ALIKE too: as PLAIN, and all that mic does and a run does not show
+    --other NAME=COMMAND     times another program beside them, once for each option; COMMAND has {machine}, {image}, {locals}
+                             (how many main has) and {bound} where they belong
     --no-instructions        does not count host instructions
     --bound N                cycles of a run (100000000); echo runs to its end
 
-It prints a table and ends with status 1 if any output, report or status differs from that of mic.
+It prints a table and ends with status 1 if any output, report or status differs from that of mic. The report of another
+program is its own, and is not compared.
 """
 import argparse
 import os
@@ -95,7 +99,7 @@ def store_of(mic, machine, made):
     return store, re.search(r"^([0-9a-f]{3}) [0-9a-f]+ Main1 ", addresses, re.M).group(1)
 
 
-def compared(machine, name, given, runs, kinds, bound, rounds, count):
+def compared(machine, name, given, runs, kinds, others, bound, rounds, count):
     """Prints a row, and gives whether all did the same."""
     seconds, seen = {who: [] for who in runs}, {}
     for _ in range(rounds):
@@ -104,7 +108,8 @@ def compared(machine, name, given, runs, kinds, bound, rounds, count):
             # A run of few cycles can have no measured time at all.
             seconds[who].append(max(user, 1e-6))
             seen.setdefault(who, did)
-            if did != seen["mic"]:
+            told_alike = 2 if who in others else 3
+            if did[:told_alike] != seen["mic"][:told_alike]:
                 print(f"{machine} {name}: what {who} wrote, or its status, differs from that of mic", file=sys.stderr)
                 return False
     cycles = int(re.search(rb"^cycles (\d+)", seen["mic"][2], re.M).group(1))
@@ -136,6 +141,8 @@ def asked():
     words.add_argument("--compilers", default="gcc,clang")
     words.add_argument("--flags", default="-O2")
     words.add_argument("--plain", action="store_true")
+    words.add_argument("--alike", action="store_true")
+    words.add_argument("--other", action="append", default=[], metavar="NAME=COMMAND")
     words.add_argument("--no-instructions", action="store_true")
     words.add_argument("--bound", type=int, default=100_000_000)
     return words.parse_args()
@@ -151,13 +158,19 @@ def main():
     kinds = {"": given.flags.split()}
     if given.plain:
         kinds[" plain"] = [*given.flags.split(), "-DPLAIN"]
-    columns = ["mic", *(compiler + kind for kind in kinds for compiler in compilers)]
+    if given.alike:
+        kinds[" alike"] = [*given.flags.split(), "-DALIKE"]
+    others = dict(other.split("=", 1) for other in given.other)
+    groups = {f"C{kind}": [compiler + kind for compiler in compilers] for kind in kinds}
+    if others:
+        groups["the other"] = list(others)
+    columns = ["mic", *(who for group in groups.values() for who in group)]
     count, counts = (None, "nothing") if given.no_instructions else counter()
-    print(f"Million cycles a second by the best user time of {given.rounds} rounds; the speed of mic, of that of the faster C, by the best")
+    print(f"Million cycles a second by the best user time of {given.rounds} rounds; the speed of mic, of that of the fastest of a kind, by the best")
     print("and by the median" + (f"; host instructions a cycle, counted by {counts}" if count else "") + f". The C is built with {given.flags}.")
     print()
     heads = ["machine", "program", *columns]
-    heads += [word for kind in kinds for word in (f"mic, of C{kind}", "by the median")]
+    heads += [word for group in groups for word in (f"mic, of {group}", "by the median")]
     heads += ["instructions: mic", *columns[1:]] if count else []
     print("| " + " | ".join(heads) + " |")
     print("|---" * len(heads) + "|", flush=True)
@@ -175,9 +188,12 @@ def main():
                 runs = {"mic": lambda bound: [mic, "run", image, "--machine", machine, "--bound", str(bound)]}
                 for who, program in programs.items():
                     runs[who] = lambda bound, program=program: [program, store, entry, local, image, str(bound)]
+                for who, command in others.items():
+                    runs[who] = lambda bound, command=command: [
+                        word.format(machine=machine, image=image, locals=local, bound=bound) for word in command.split()
+                    ]
                 source, bound = (INPUT, ECHO_BOUND) if name == "echo" else (b"", given.bound)
-                whose = [[compiler + kind for compiler in compilers] for kind in kinds]
-                same &= compared(machine, name, source, runs, whose, bound, given.rounds, count)
+                same &= compared(machine, name, source, runs, groups.values(), others, bound, given.rounds, count)
         print()
         start(mic, built("memory", compilers[0], ["-O2"], f"{made}/memory"))
     sys.exit(0 if same else 1)

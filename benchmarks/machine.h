@@ -19,7 +19,7 @@
 #define SELDOM __attribute__((noinline, cold))
 #define unlikely(it) __builtin_expect(!!(it), 0)
 
-#ifdef PLAIN
+#if defined PLAIN || defined ALIKE
 enum { BY_SHAPE = 0 };
 #else
 enum { BY_SHAPE = 1 };
@@ -124,12 +124,46 @@ static enum end refusal(int is_write, uint32_t address) {
     return is_write && address < 0x80000000u ? STACK_LIMIT : OUT_OF_MAP;
 }
 
-/* The byte at a byte address of memory; the first of a word is its most significant. */
-INLINED uint32_t byte_at(const uint32_t *memory, uint32_t at) {
-#if defined __BYTE_ORDER__ && __BYTE_ORDER__ == __ORDER_LITTLE_ENDIAN__
-    return ((const unsigned char *)memory)[at ^ 3];
+/* The memory. With ALIKE it is in pages as that of `mic` is: a page gets a frame of its own when it is first written,
+ * and until then reads the first frame, which stays 0. */
+#ifdef ALIKE
+enum { PAGE = 1024 };
+
+struct memory {
+    uint32_t frames[STACK_END + PAGE];
+    size_t page[STACK_END / PAGE]; /* where the frame of each page begins */
+    size_t made;
+};
+
+static SELDOM void add_frame(struct memory *memory, uint32_t page) {
+    memory->made += PAGE;
+    memory->page[page] = memory->made;
+}
+
+INLINED uint32_t word_at(const struct memory *memory, uint32_t at) {
+    return memory->frames[memory->page[at / PAGE] + at % PAGE];
+}
+
+INLINED void set_word(struct memory *memory, uint32_t at, uint32_t it) {
+    if (unlikely(!memory->page[at / PAGE])) add_frame(memory, at / PAGE);
+    memory->frames[memory->page[at / PAGE] + at % PAGE] = it;
+}
 #else
-    return memory[at / 4] >> 8 * (3 - at % 4) & 255;
+struct memory {
+    uint32_t words[STACK_END];
+};
+
+INLINED uint32_t word_at(const struct memory *memory, uint32_t at) { return memory->words[at]; }
+
+INLINED void set_word(struct memory *memory, uint32_t at, uint32_t it) { memory->words[at] = it; }
+#endif
+
+/* The byte at a byte address of memory; the first of a word is its most significant. */
+INLINED uint32_t byte_at(const struct memory *memory, uint32_t at) {
+#if !defined ALIKE && defined __BYTE_ORDER__ && __BYTE_ORDER__ == __ORDER_LITTLE_ENDIAN__
+    return ((const unsigned char *)memory->words)[at ^ 3];
+#else
+    return word_at(memory, at / 4) >> 8 * (3 - at % 4) & 255;
 #endif
 }
 
@@ -182,11 +216,43 @@ static int is_more(const struct value *it) {
     return it->logic || it->left_by || it->right_by || it->others;
 }
 
+/* With ALIKE a sum is that of 32 slices, as in `mic`: each hands on a carry that is made in it or passes through it. In
+ * most sums none is handed on twice. */
+INLINED uint32_t sum_of(uint32_t a, uint32_t b, uint32_t carry) {
+#ifdef ALIKE
+    uint32_t passed = a | b, made = (a & b) | (passed & carry);
+    if (passed & made << 1) {
+        made |= passed & made << 1, passed &= passed << 1;
+        made |= passed & made << 2, passed &= passed << 2;
+        made |= passed & made << 4, passed &= passed << 4;
+        made |= passed & made << 8, passed &= passed << 8;
+        made |= passed & made << 16;
+    }
+    return a ^ b ^ (made << 1 | carry);
+#else
+    return a + b + carry;
+#endif
+}
+
 /* The value of the ALU. */
 INLINED uint32_t alu_of(const struct value *it, const uint32_t *r, int more) {
     uint32_t a = r[it->a] ^ it->invert, b = r[it->b];
     if (more && it->logic) return it->logic == '&' ? a & b : a | b;
-    return a + b + it->carry;
+    return sum_of(a, b, it->carry);
+}
+
+/* With ALIKE, what was on the buses is kept, as in `mic`. */
+struct buses {
+    const void *word;
+    uint32_t a, b;
+};
+
+INLINED void keep(struct buses *buses, const void *word, const struct value *it, const uint32_t *r) {
+#ifdef ALIKE
+    *buses = (struct buses){word, r[it->a], r[it->b]};
+#else
+    (void)buses, (void)word, (void)it, (void)r;
+#endif
 }
 
 INLINED uint32_t shifted(const struct value *it, uint32_t alu, int more) {
@@ -224,7 +290,7 @@ static void read_store(const char *name, const char *magic, uint64_t words[WORDS
     }
 }
 
-static void read_image(const char *name, uint32_t *memory) {
+static void read_image(const char *name, struct memory *memory) {
     static unsigned char bytes[1 << 20];
     size_t size = read_all(name, bytes, sizeof bytes), at = 4;
     if (size < 4 || four(bytes) != 0x1DEADFAD) fail("no image");
@@ -232,8 +298,10 @@ static void read_image(const char *name, uint32_t *memory) {
         uint32_t origin = four(bytes + at), length = four(bytes + at + 4);
         const unsigned char *p = bytes + at + 8;
         if (length > 0x10000 || at + 8 + length > size) fail("image is cut off");
-        for (uint32_t i = 0; i < length; i++)
-            memory[(origin ? POOL : 0) + i / 4] |= (uint32_t)p[i] << (8 * (3 - i % 4));
+        for (uint32_t i = 0; i < length; i++) {
+            uint32_t word = (origin ? POOL : 0) + i / 4;
+            set_word(memory, word, word_at(memory, word) | (uint32_t)p[i] << (8 * (3 - i % 4)));
+        }
         at += 8 + length;
     }
 }

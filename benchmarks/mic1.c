@@ -1,6 +1,6 @@
 /* Mic-1 in C, as fast as we could make it: the opponent of `mic run` in this folder's comparison.
  *
- *     cc -O2 -o mic1 mic1.c                cc -O2 -DPLAIN -o mic1 mic1.c
+ *     cc -O2 -o mic1 mic1.c                cc -O2 -DPLAIN -o mic1 mic1.c                cc -O2 -DALIKE -o mic1 mic1.c
  *     mic1 STORE ENTRY LOCALS IMAGE BOUND
  *
  * STORE is a file that `mic micro` wrote, ENTRY the address of Main1 in hexadecimal, LOCALS the number of main's
@@ -14,7 +14,8 @@
  * cycle is the count of cycles since the boundary, and each address. An access outside of memory goes to a slow
  * function. Without the compiler's tail calls (-O0) the calls would fill the stack.
  *
- * With PLAIN all words are clocked by one function, which tests the decoded control lines in each cycle.
+ * With PLAIN all words are clocked by one function, which tests the decoded control lines in each cycle. With ALIKE it
+ * also does what `mic` does and a run does not show: sums by 32 slices, memory in pages, and the buses are kept.
  */
 #include "machine.h"
 
@@ -53,7 +54,8 @@ struct machine {
     struct run run;
     function *entry[ARRIVALS]; /* what clocks the word of the boundary */
     struct word store[WORDS];
-    uint32_t memory[STACK_END];
+    struct memory memory;
+    struct buses buses;
 };
 
 static SELDOM int ended(enum end end, const struct word *w, struct machine *m, uint32_t left) {
@@ -76,6 +78,7 @@ INLINED int cycle(unsigned access, unsigned fetch, unsigned jam, int more, unsig
     if (unlikely(left == 0)) return ended(ADRIFT, w, m, left);
 
     uint32_t alu = alu_of(&w->value, r, more), c = shifted(&w->value, alu, more);
+    keep(&m->buses, w, &w->value, r);
     uint32_t mar = access == READ_NEW || access == WRITE_NEW ? c : r[MAR];
     uint32_t pc = fetch == FETCH_NEW ? c : r[PC];
     if (access && unlikely(mar >= STACK_END)) {
@@ -102,9 +105,9 @@ INLINED int cycle(unsigned access, unsigned fetch, unsigned jam, int more, unsig
         r[MBR] = (uint32_t)(int32_t)(int8_t)byte;
         r[MBRU] = byte;
     }
-    if (writes && !console) m->memory[mar] = arrives & A_WORD ? word : r[MDR];
-    if (reads && !console) read_word = m->memory[mar];
-    if (fetch) read_byte = byte_at(m->memory, pc);
+    if (writes && !console) set_word(&m->memory, mar, arrives & A_WORD ? word : r[MDR]);
+    if (reads && !console) read_word = word_at(&m->memory, mar);
+    if (fetch) read_byte = byte_at(&m->memory, pc);
 
     const struct word *next = w->next;
     if (jam == JAM_BYTE) next = &m->store[w->addr | (arrives & A_BYTE ? byte : r[MBRU])];
@@ -189,7 +192,7 @@ int main(int count, char **words) {
     struct word *entry = &m->store[strtoul(words[2], NULL, 16) % WORDS];
     memcpy(m->entry, entry->clock, sizeof m->entry);
     memcpy(entry->clock, boundary, sizeof boundary);
-    read_image(words[4], m->memory);
+    read_image(words[4], &m->memory);
     m->run.bound = strtoull(words[5], NULL, 10);
     m->r[PC] = UINT32_MAX;
     m->r[SP] = FRAME + (uint32_t)strtoul(words[3], NULL, 10) - 1;

@@ -1,16 +1,16 @@
 /* Mic-2 in C, as fast as we could make it: the opponent of `mic run --machine mic2` in this folder's comparison.
  *
- *     cc -O2 -o mic2 mic2.c                cc -O2 -DPLAIN -o mic2 mic2.c
+ *     cc -O2 -o mic2 mic2.c                cc -O2 -DPLAIN -o mic2 mic2.c                cc -O2 -DALIKE -o mic2 mic2.c
  *     mic2 STORE ENTRY LOCALS IMAGE BOUND
  *
  * STORE is a file that `mic micro --machine mic2` wrote, ENTRY the address of Main1 in hexadecimal, LOCALS the number
  * of main's locals. It clocks any control store word by word, and its output, report and status are those of `mic run`.
  *
  * It is made as mic1.c is: a function for each usual shape of word and what arrives at its edge, and tail calls from
- * one to the next; or, with PLAIN, one function for all words. What arrives is here a word that was read, and the fetch
- * unit's pending word: none, one, or the first after a jump. The unit reads whenever at most two bytes are left. So
- * where no word is pending, the queue has three bytes or more, and no demand stalls. Where a word arrives that is not
- * the first after a jump, more than two bytes are left, and none is read. Neither is tested.
+ * one to the next; or, with PLAIN or ALIKE, one function for all words. What arrives is here a word that was read, and
+ * the fetch unit's pending word: none, one, or the first after a jump. The unit reads whenever at most two bytes are
+ * left. So where no word is pending, the queue has three bytes or more, and no demand stalls. Where a word arrives that
+ * is not the first after a jump, more than two bytes are left, and none is read. Neither is tested.
  */
 #include "machine.h"
 
@@ -53,7 +53,8 @@ struct machine {
     uint32_t imar;
     struct run run;
     struct word store[WORDS];
-    uint32_t memory[STACK_END];
+    struct memory memory;
+    struct buses buses;
 };
 
 static SELDOM int ended(enum end end, STATE) {
@@ -84,7 +85,7 @@ INLINED uint32_t bytes_of(uint32_t it) {
 INLINED void arrive(unsigned arrives, const struct machine *m, uint64_t *queue, uint32_t *have, uint32_t *imar) {
     uint32_t skip = arrives >= AFTER_JUMP ? m->r[PC] % 4 : 0;
     if (arrives < PENDING) return;
-    *queue |= (uint64_t)(bytes_of(m->memory[*imar]) >> 8 * skip) << 8 * *have;
+    *queue |= (uint64_t)(bytes_of(word_at(&m->memory, *imar)) >> 8 * skip) << 8 * *have;
     *have += 4 - skip;
     *imar += 1;
 }
@@ -119,6 +120,7 @@ INLINED int cycle(unsigned access, unsigned bytes, unsigned jam, int more, int j
         r[MBR2] = (uint32_t)(int32_t)(int16_t)r[MBR2U];
     }
     uint32_t alu = alu_of(&w->value, r, more), c = shifted(&w->value, alu, more);
+    keep(&m->buses, w, &w->value, r);
 
     uint64_t rest = queue >> 8 * demand;
     uint32_t stay = have - demand;
@@ -148,8 +150,8 @@ INLINED int cycle(unsigned access, unsigned bytes, unsigned jam, int more, int j
     if (arrives & A_WORD) r[MDR] = word;
     if (demand && !jumps) r[PC] += demand;
     if (jumps || arrives >= PENDING) m->imar = imar;
-    if (writes && !console) m->memory[mar] = arrives & A_WORD ? word : r[MDR];
-    if (reads && !console) read_word = m->memory[mar];
+    if (writes && !console) set_word(&m->memory, mar, arrives & A_WORD ? word : r[MDR]);
+    if (reads && !console) read_word = word_at(&m->memory, mar);
 
     const struct word *next = w->next;
     if (jam == JAM_BOUNDARY) next = &m->store[dispatch];
@@ -238,7 +240,7 @@ int main(int count, char **words) {
     read_store(words[1], "MIC2", bits);
     for (unsigned at = 0; at < WORDS; at++) decode(m, at, bits[at]);
     const struct word *entry = &m->store[strtoul(words[2], NULL, 16) % WORDS];
-    read_image(words[4], m->memory);
+    read_image(words[4], &m->memory);
     m->run.bound = strtoull(words[5], NULL, 10);
     m->r[SP] = FRAME + (uint32_t)strtoul(words[3], NULL, 10) - 1;
     m->r[LV] = FRAME;
