@@ -1,12 +1,13 @@
 //! Standard input, read from what it holds ahead.
 
-ghost use Rattle.std.specs.Prelude.{◌≡◌, [], ◌∷◌, IfNone, IfOk, IfSome, OnErr};
+ghost use Rattle.std.specs.Prelude.{◌≡◌, ◌<◌, IfOk, OnErr, length, take};
+ghost use Rattle.std.specs.Io.{ReadsAtMost};
 ghost use Rattle.std.specs.Io.KnownBytes.{Consumes, IsAtEnd, Keeps};
 
 use std::io;
 use std::io::{BufRead, Read};
 
-/// A buffered reader that gives one byte at a call, of those that it holds ahead. What it holds stays its own.
+/// A buffered reader that is filled before each read, so that most reads only take what it holds ahead.
 #[derive(Drop)]
 pub struct ReadAhead<R> {
     reader: R,
@@ -21,31 +22,17 @@ impl<R> ReadAhead<R> {
 }
 
 impl<R: BufRead> Read for ReadAhead<R> {
-    fn read(&mut self, buf: &mut [u8]) -> io::Result<usize> {
-        if buf.is_empty() {
+    /// The next bytes of the reader, or none at its end. A reader that shows its end is not asked again: at a terminal,
+    /// that would be for a second end.
+    fn read(&mut self, buf: &mut [u8]) -> io::Result<usize>
+        ensures bound { ReadsAtMost result buf.new }
+        ensures bytes { IfOk result (λ n. Consumes (R.remaining self.old.reader) (R.remaining self.new.reader) (take n buf.new)) }
+        ensures end { IfOk result (λ n. n ≡ 0 → 0 < length buf.new → IsAtEnd (R.remaining self.old.reader)) }
+        ensures failed { OnErr result (Keeps (R.remaining self.old.reader) (R.remaining self.new.reader)) }
+    {
+        if self.reader.fill_buf()?.is_empty() {
             return Ok(0);
         }
-        match byte_ahead(&mut self.reader)? {
-            Some(byte) => {
-                buf[0] = byte;
-                Ok(1)
-            }
-            None => Ok(0),
-        }
+        self.reader.read(buf)
     }
-}
-
-/// The next byte of those that the reader holds ahead, or none at its end. Where it holds none, it is asked once.
-fn byte_ahead<R: BufRead>(reader: &mut R) -> io::Result<Option<u8>>
-    ensures byte { IfOk result (λ next. IfSome next (λ byte. Consumes (R.remaining reader.old) (R.remaining reader.new) (byte ∷ []))) }
-    ensures end { IfOk result (λ next. IfNone next (Keeps (R.remaining reader.old) (R.remaining reader.new) × IsAtEnd (R.remaining reader.old))) }
-    ensures failed { OnErr result (Keeps (R.remaining reader.old) (R.remaining reader.new)) }
-{
-    let ahead = reader.fill_buf()?;
-    if ahead.is_empty() {
-        return Ok(None);
-    }
-    let byte = ahead[0];
-    reader.consume(1);
-    Ok(Some(byte))
 }
