@@ -1,13 +1,12 @@
 -- The cursor among kept cycles that are known by where the first of them began.
-use Rattle.std.proofs.Common.{◌≡◌, ◌∙◌, sym, ap, subst, refl, ℕ, suc, ◌+◌, ◌-◌, ◌<◌, ◌≤◌, List, [], ◌∷◌, ◌++◌, length, take, drop, arith, Bool, true, false, nat_lt, if◌then◌else◌, Some, None}
+use Rattle.std.proofs.Common.{◌≡◌, ◌∙◌, sym, ap, subst, refl, ℕ, suc, ◌+◌, ◌-◌, ◌<◌, ◌≤◌, List, [], ◌∷◌, ◌++◌, length, take, drop, arith, Some, None}
 use Rattle.std.proofs.lemmas.Grind.{common_steps}
-use Rattle.std.proofs.lemmas.Bool.{ltb-true, ltb-false}
 use Rattle.std.specs.List.{slice_get}
 use Rattle.circular_buffer.specs.Buffer.{Buffer, buffer, keep_last}
 use Rattle.mic_clock.specs.Board.{tick_of}
 use Rattle.mic_rewind.specs.declared.kept_cycle.KeptCycle.{KeptCycle}
 use Rattle.mic_rewind.specs.declared.moment.Moment.{Moment}
-use Rattle.mic_rewind.specs.States.{Cycle, Fits, undone, redone, begun, cycles_from, led_from, begin_after}
+use Rattle.mic_rewind.specs.States.{Cycle, Fits, undone, redone, begun, cycles_from, led_from}
 use Rattle.mic_rewind.specs.View.{AreKept, GoesBack, IsHistory, appended, begun_at, moment_at, view_from, view_of}
 use Rattle.mic_rewind.proofs.Begun.{begun-length, begun-get, led-get, begun-snoc, led-snoc, begun-drop, led-drop}
 use Rattle.mic_rewind.proofs.Zipping.{is_back, went_back, is_on, went_on, ticked, is_ahead, went_ahead}
@@ -66,34 +65,13 @@ module _ (first : Moment) (b : Buffer KeptCycle) (behind : ℕ) (words : List �
 take_all : (cs : List KeptCycle) → take (length cs - 0) cs ≡ cs
 take_all cs = grind (arith, common_steps)
 
--- the first of the items, if they are more than there may be
-one_taken : (first : Moment) (cs : List KeptCycle) (c : KeptCycle) → led_from first (take 1 (cs ++ c ∷ [])) ≡ begin_after (slice_get (cs ++ c ∷ []) 0) first
-one_taken first [] c = refl
-one_taken first (d ∷ ds) c = refl
-
-begins : (first : Moment) (cs : List KeptCycle) (c : KeptCycle) (room : ℕ) (is : Bool) → nat_lt (length cs) room ≡ is → length cs ≤ room →
-    begin_after (if is then None else slice_get (cs ++ c ∷ []) 0) first ≡ led_from first (take (length (cs ++ c ∷ []) - room) (cs ++ c ∷ []))
-begins first cs c room true e within =
-    let l = ltb-true (length cs) room e in
-    let k : length (cs ++ c ∷ []) - room ≡ 0 = grind (arith, common_steps) in
-    rw (k) refl
-begins first cs c room false e within =
-    let l = ltb-false (length cs) room e in
-    let k : length (cs ++ c ∷ []) - room ≡ 1 = grind (arith, common_steps) in
-    rw (k) (sym (one_taken first cs c))
-
 -- a cycle that leads on from the newest state, and what it drops
 module _ (first : Moment) (b : Buffer KeptCycle) (words words' : List ℕ) (c : KeptCycle)
     (h : AreKept first b 0 words)
     (f : Fits (begun (moment_at first b.items 0) c) (moment_at first b.items 0) c.after words words')
-    (first' : Moment) (e : first' ≡ begin_after (if nat_lt (length b.items) b.capacity then None else slice_get (b.items ++ c ∷ []) 0) first) where
+    (first' : Moment) (first_is : first' ≡ led_from first (take (length (b.items ++ c ∷ []) - b.capacity) (b.items ++ c ∷ []))) where
   abbrev pub kept : List KeptCycle
   kept = keep_last b.capacity (b.items ++ c ∷ [])
-
-  first_is : first' ≡ led_from first (take (length (b.items ++ c ∷ []) - b.capacity) (b.items ++ c ∷ []))
-  first_is =
-      let within : length b.items ≤ b.capacity = subst (λ (n : ℕ). n ≤ b.capacity) (begun-length first b.items) h.within in
-      e ∙ begins first b.items c b.capacity (nat_lt (length b.items) b.capacity) refl within
 
   all_is : cycles_from first (b.items ++ c ∷ []) ≡ cycles_from first b.items ++ begun (moment_at first b.items 0) c ∷ []
   all_is = begun-snoc first b.items c ∙ ap (λ (ds : List KeptCycle). cycles_from first b.items ++ begun (led_from first ds) c ∷ []) (sym (take_all b.items))

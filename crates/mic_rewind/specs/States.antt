@@ -32,11 +32,6 @@ abbrev pub led_from : Moment → List KeptCycle → Moment
 led_from m [] = m
 led_from m (c ∷ cs) = led_from c.after cs
 
--- where kept cycles begin from which this one was dropped
-abbrev pub begin_after : Option KeptCycle → Moment → Moment
-begin_after None m = m
-begin_after (Some c) m = c.after
-
 -- the words with this one at an address, where there is one
 abbrev pub stored : ℕ → Option ℕ → List ℕ → List ℕ
 stored at None words = words

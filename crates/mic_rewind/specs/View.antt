@@ -74,3 +74,15 @@ view_from first b behind words = view_of (begun_at first b) behind (moment_at fi
 
 abbrev pub AreKept : Moment → Buffer KeptCycle → ℕ → List ℕ → Type 0
 AreKept first b behind words = IsHistory (begun_at first b) behind (moment_at first b.items behind) words
+
+-- how many of a buffer's cycles, the first ones, serve only to tell where the next one began: none, or one
+abbrev pub spare : Buffer KeptCycle → ℕ
+spare b = length b.items - (b.capacity - 1)
+
+-- the others, which can be gone back over
+abbrev pub kept_in : Buffer KeptCycle → Buffer KeptCycle
+kept_in b = buffer (drop (spare b) b.items) (b.capacity - 1)
+
+-- where the first of these began, if the first of all began there
+abbrev pub first_in : Moment → Buffer KeptCycle → Moment
+first_in first b = led_from first (take (spare b) b.items)

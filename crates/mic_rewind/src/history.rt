@@ -2,8 +2,8 @@
 
 ghost use Rattle.std.specs.Prelude.{◌≡◌, ◌≤◌, ◌<◌, [], ◌∷◌, length, slice_get, true, false, None, IfOk};
 ghost use Rattle.mic_clock.specs.Board.{tick_of};
-ghost use Rattle.mic_rewind.specs.States.{begin_after, snapshot_after};
-ghost use Rattle.mic_rewind.specs.View.{GoesBack, appended, history_of};
+ghost use Rattle.mic_rewind.specs.States.{snapshot_after};
+ghost use Rattle.mic_rewind.specs.View.{GoesBack, appended, history_of, kept_in};
 
 use crate::kept_cycle::KeptCycle;
 use crate::memory::{redo, take_over, undo};
@@ -19,8 +19,9 @@ pub const MOST_DEPTH: u32 = 65_536;
 /// The last cycles, and a memory of its own, as it was at the cursor.
 #[derive(Drop)]
 pub struct History {
-    /// Where the oldest of the cycles began; with none, the newest state.
+    /// Where the first of all cycles began.
     first: Moment,
+    /// One more than can be gone back over, because each began where the one before it led.
     cycles: HeapCircularBuffer<KeptCycle>,
     /// The cycles from the cursor to the newest state.
     behind: usize,
@@ -28,21 +29,24 @@ pub struct History {
 }
 
 impl Model for History {
-    ghost use Rattle.mic_rewind.specs.View.{AreKept, HistoryView, view_from};
+    ghost use Rattle.mic_rewind.specs.View.{AreKept, HistoryView, first_in, kept_in, view_from};
 
     ghost Value = { HistoryView };
 
-    ghost view = { λ h. view_from h.first h.cycles h.behind h.memory.items };
+    ghost view = { λ h. view_from (first_in h.first h.cycles) (kept_in h.cycles) h.behind h.memory.items };
 
-    ghost invariant = { λ h. AreKept h.first h.cycles h.behind h.memory.items };
+    ghost invariant = { λ h. AreKept (first_in h.first h.cycles) (kept_in h.cycles) h.behind h.memory.items };
 }
 
-/// Where a cycle was dropped, those after it begin where it led.
-fn begin_after(first: &mut Moment, dropped: Option<KeptCycle>)
-    ensures { first.new ≡ begin_after dropped first.old }
+/// How many of a buffer's cycles can be gone back over.
+fn count_in(cycles: &HeapCircularBuffer<KeptCycle>) -> usize
+    requires { 0 < cycles.now.capacity }
+    ensures { result ≡ length (kept_in cycles.now).items }
 {
-    if let Some(dropped) = dropped {
-        *first = dropped.after;
+    if cycles.is_full() {
+        cycles.len() - 1
+    } else {
+        cycles.len()
     }
 }
 
@@ -59,7 +63,7 @@ impl History {
     {
         Ok(History {
             first: here,
-            cycles: HeapCircularBuffer::with_capacity(alloc, depth as usize)?,
+            cycles: HeapCircularBuffer::with_capacity(alloc, depth as usize + 1)?,
             behind: 0,
             memory,
         })
@@ -70,7 +74,7 @@ impl History {
         ensures is { result ≡ length self.now.before }
         ensures most { result ≤ 65536 }
     {
-        self.cycles.len() - self.behind
+        count_in(&self.cycles) - self.behind
     }
 
     /// The number of kept cycles from the cursor to the newest state.
@@ -85,11 +89,11 @@ impl History {
     pub fn here(&self) -> &Moment
         ensures { result.now ≡ self.now.here.moment }
     {
-        let kept = self.cycles.len() - self.behind;
-        if kept == 0 {
+        let place = self.cycles.len() - self.behind;
+        if place == 0 {
             return &self.first;
         }
-        &self.cycles.get(kept - 1).unwrap().after
+        &self.cycles.get(place - 1).unwrap().after
     }
 
     /// The memory word at the cursor, or none where there is no memory.
@@ -100,18 +104,18 @@ impl History {
     }
 
     /// Keeps a cycle that led from the newest state to this moment, and left this word at MAR.
+    #[inline(always)]
     pub fn append(&mut self, after: Moment, tick: Tick, word: Option<u32>)
         requires newest { self.old.after ≡ [] }
         requires tick { tick ≡ tick_of self.old.here.moment.counts after.counts None }
         ensures { self.new ≡ appended self.old (snapshot_after after word self.old.here.words) }
     {
         let written = take_over(&mut self.memory, after.registers.mar, word);
-        let dropped = self.cycles.push_back(KeptCycle {
+        self.cycles.push_back(KeptCycle {
             after,
             tick,
             written,
         });
-        begin_after(&mut self.first, dropped);
     }
 
     /// Goes back over the kept cycle before the cursor, and returns whether there was one.
@@ -119,11 +123,11 @@ impl History {
         ensures went { result ≡ true → GoesBack self.old self.new }
         ensures stayed { result ≡ false → (self.old.before ≡ []) × (self.new ≡ self.old) }
     {
-        let kept = self.cycles.len() - self.behind;
-        if kept == 0 {
+        if self.kept() == 0 {
             return false;
         }
-        let cycle = self.cycles.get(kept - 1).unwrap();
+        let place = self.cycles.len() - self.behind;
+        let cycle = self.cycles.get(place - 1).unwrap();
         undo(&mut self.memory, cycle.written);
         self.behind += 1;
         true

@@ -1,70 +1,87 @@
-use Rattle.std.proofs.Common.{◌≡◌, ◌∙◌, sym, ap, subst, refl, ℕ, List, [], ◌∷◌, ◌++◌, length, arith, Option, None, nat_lt, if◌then◌else◌, slice_get}
-use Rattle.circular_buffer.specs.Buffer.{Buffer, buffer, keep_last}
+use Rattle.std.proofs.Common.{◌≡◌, ◌∙◌, sym, ap, subst, refl, ℕ, ◌<◌, ◌-◌, List, [], ◌∷◌, ◌++◌, length, arith, None}
+use Rattle.circular_buffer.specs.Buffer.{Buffer, buffer}
 use Rattle.mic_clock.specs.Board.{tick_of}
 use Rattle.mic_rewind.specs.declared.kept_cycle.KeptCycle.{KeptCycle}
 use Rattle.mic_rewind.specs.declared.moment.Moment.{Moment}
-use Rattle.mic_rewind.specs.States.{Fits, begin_after, begun, stored}
-use Rattle.mic_rewind.specs.View.{AreKept, HistoryView, appended, begun_at, moment_at, view_from}
+use Rattle.mic_rewind.specs.States.{Fits, begun, stored}
+use Rattle.mic_rewind.specs.View.{AreKept, HistoryView, appended, begun_at, first_in, kept_in, moment_at, view_from}
 use Rattle.mic_rewind.proofs.Zipping.{behind-length}
 use Rattle.mic_rewind.proofs.Placed.{placed_ahead, goes_ahead}
+use Rattle.mic_rewind.proofs.Spare.{rolled, rolled_first, rolled_kept}
 use Rattle.mic_rewind.proofs.history.History.append.Goals as goal
-use Rattle.mic_rewind.proofs.history.History.append.Goals.{After-begin_after}
+use Rattle.mic_rewind.proofs.history.History.append.Goals.{After-push_back}
 
 -- the cycle that is kept
-abbrev cycle : After-begin_after → KeptCycle
+abbrev cycle : After-push_back → KeptCycle
 cycle c = record { after = c.args.after; tick = c.args.tick; written = c.take_over-written.result }
 
+-- the cycles that can be gone back over, and where they begin
+abbrev cycles : After-push_back → Buffer KeptCycle
+cycles c = kept_in c.self.inside.cycles
+
+abbrev first : After-push_back → Moment
+first c = first_in c.self.inside.first c.self.inside.cycles
+
+-- the buffer with the cycle in it, and where its cycles begin
+abbrev grown : After-push_back → Buffer KeptCycle
+grown c = rolled c.self.inside.first c.self.inside.cycles (cycle c) c.self.invariant.some
+
+abbrev first_grown : After-push_back → Moment
+first_grown c = first_in c.self.inside.first (grown c)
+
 -- the cursor is at the newest state
-none : (c : After-begin_after) → c.self.inside.behind ≡ 0
+none : (c : After-push_back) → c.self.inside.behind ≡ 0
 none c =
     let h = c.self.inside in
-    let no : length (view_from h.first h.cycles h.behind h.memory.items).after ≡ 0 =
+    let no : length (view_from (first c) (cycles c) h.behind h.memory.items).after ≡ 0 =
     ap (λ (v : HistoryView). length v.after) c.self.view_is ∙ ap length c.requires.newest in
-    let l = behind-length (begun_at h.first h.cycles) h.behind h.memory.items c.self.invariant.cursor in
+    let l = behind-length (begun_at (first c) (cycles c)) h.behind h.memory.items c.self.invariant.cursor in
     omega arith
 
-is : (c : After-begin_after) → AreKept c.self.inside.first c.self.inside.cycles 0 c.self.inside.memory.items
-is c = subst (λ (n : ℕ). AreKept c.self.inside.first c.self.inside.cycles n c.self.inside.memory.items) (none c) c.self.invariant
+is : (c : After-push_back) → AreKept (first c) (cycles c) 0 c.self.inside.memory.items
+is c = subst (λ (n : ℕ). AreKept (first c) (cycles c) n c.self.inside.memory.items) (none c) c.self.invariant
 
 -- the cycle leads on from there
-abbrev newest : After-begin_after → Moment
-newest c = moment_at c.self.inside.first c.self.inside.cycles.items 0
+abbrev newest : After-push_back → Moment
+newest c = moment_at (first c) (cycles c).items 0
 
-fits : (c : After-begin_after) → Fits (begun (newest c) (cycle c)) (newest c) c.args.after c.self.inside.memory.items c.take_over-written.new.memory.items
+fits : (c : After-push_back) → Fits (begun (newest c) (cycle c)) (newest c) c.args.after c.self.inside.memory.items c.take_over-written.new.memory.items
 fits c =
-    let h = c.self.inside in
     record {
       before_is = refl;
       after_is = refl;
       undoes = c.take_over-written.ensures.undoes;
       redoes = c.take_over-written.ensures.redoes;
-      tick = subst (λ (n : ℕ). c.args.tick ≡ tick_of (moment_at h.first h.cycles.items n).counts c.args.after.counts None) (none c)
+      tick = subst (λ (n : ℕ). c.args.tick ≡ tick_of (moment_at (first c) (cycles c).items n).counts c.args.after.counts None) (none c)
           (c.requires.tick ∙ ap (λ (v : HistoryView). tick_of v.here.moment.counts c.args.after.counts None) (sym c.self.view_is));
     }
 
-first : (c : After-begin_after) → c.begin_after.new.first ≡ begin_after
-    (if nat_lt (length c.self.inside.cycles.items) c.self.inside.cycles.capacity then None else slice_get (c.self.inside.cycles.items ++ cycle c ∷ []) 0)
-    c.self.inside.first
-first c = c.begin_after.ensures ∙ ap (λ (o : Option KeptCycle). begin_after o c.self.inside.first) c.push_back-dropped.ensures.value
-
 pub invariant_of-self : goal.invariant_of-self
 invariant_of-self c =
-    let made = (goal.at.invariant_of-self c).After-begin_after in
+    let made = (goal.at.invariant_of-self c).After-push_back in
     let h = c.self.inside in
-    let ahead = placed_ahead h.first h.cycles h.memory.items c.take_over-written.new.memory.items (cycle made) (is made) (fits made) c.begin_after.new.first (first made) in
-    subst (λ (b : Buffer KeptCycle). AreKept c.begin_after.new.first b h.behind c.take_over-written.new.memory.items) (sym c.push_back-dropped.ensures.items)
-    (subst (λ (n : ℕ). AreKept c.begin_after.new.first (buffer (keep_last h.cycles.capacity (h.cycles.items ++ cycle made ∷ [])) h.cycles.capacity) n c.take_over-written.new.memory.items) (sym (none made)) ahead)
+    let words = c.take_over-written.new.memory.items in
+    let some = c.self.invariant.some in
+    let ahead = placed_ahead (first made) (cycles made) h.memory.items words (cycle made) (is made) (fits made)
+    (first_grown made) (rolled_first h.first h.cycles (cycle made) some) in
+    subst (λ (b : Buffer KeptCycle). AreKept (first_in h.first b) (kept_in b) h.behind words) (sym c.push_back.ensures.items)
+    (subst (λ (n : ℕ). AreKept (first_grown made) (kept_in (grown made)) n words) (sym (none made))
+    (subst (λ (b : Buffer KeptCycle). AreKept (first_grown made) b 0 words) (sym (rolled_kept h.first h.cycles (cycle made) some)) ahead))
 
 pub returns : goal.returns
 returns c =
-    let made = (goal.at.returns c).After-begin_after in
+    let made = (goal.at.returns c).After-push_back in
     let h = c.self.inside in
-    let ahead = goes_ahead h.first h.cycles h.memory.items c.take_over-written.new.memory.items (cycle made) (is made) (fits made) c.begin_after.new.first (first made) in
-    let words : c.take_over-written.new.memory.items ≡ stored c.args.after.registers.mar c.args.word c.args.self.now.here.words =
+    let words = c.take_over-written.new.memory.items in
+    let some = c.self.invariant.some in
+    let ahead = goes_ahead (first made) (cycles made) h.memory.items words (cycle made) (is made) (fits made)
+    (first_grown made) (rolled_first h.first h.cycles (cycle made) some) in
+    let stored_is : words ≡ stored c.args.after.registers.mar c.args.word c.args.self.now.here.words =
     c.take_over-written.ensures.words ∙ ap (λ (v : HistoryView). stored c.args.after.registers.mar c.args.word v.here.words) c.self.view_is in
-    ap (λ (b : Buffer KeptCycle). view_from c.begin_after.new.first b h.behind c.take_over-written.new.memory.items) c.push_back-dropped.ensures.items
-    ∙ (ap (λ (n : ℕ). view_from c.begin_after.new.first (buffer (keep_last h.cycles.capacity (h.cycles.items ++ cycle made ∷ [])) h.cycles.capacity) n c.take_over-written.new.memory.items) (none made)
+    ap (λ (b : Buffer KeptCycle). view_from (first_in h.first b) (kept_in b) h.behind words) c.push_back.ensures.items
+    ∙ (ap (λ (n : ℕ). view_from (first_grown made) (kept_in (grown made)) n words) (none made)
+    ∙ (ap (λ (b : Buffer KeptCycle). view_from (first_grown made) b 0 words) (rolled_kept h.first h.cycles (cycle made) some)
     ∙ (ahead
-    ∙ (ap (λ (v : HistoryView). appended v (record { moment = c.args.after; words = c.take_over-written.new.memory.items }))
-    (ap (λ (n : ℕ). view_from h.first h.cycles n h.memory.items) (sym (none made)) ∙ c.self.view_is)
-    ∙ ap (λ (ws : List ℕ). appended c.args.self.now (record { moment = c.args.after; words = ws })) words)))
+    ∙ (ap (λ (v : HistoryView). appended v (record { moment = c.args.after; words = words }))
+    (ap (λ (n : ℕ). view_from (first made) (cycles made) n h.memory.items) (sym (none made)) ∙ c.self.view_is)
+    ∙ ap (λ (ws : List ℕ). appended c.args.self.now (record { moment = c.args.after; words = ws })) stored_is))))
