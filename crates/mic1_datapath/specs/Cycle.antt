@@ -1,4 +1,5 @@
--- What a cycle of Mic-1 has before its edge: a word with its control lines, and what leaves the ALU and the shifter; and an edge that needs no source and no sink.
+-- What a cycle of Mic-1 has before its edge: a word with its control lines, and what leaves the ALU and the shifter.
+-- And an edge that needs no source and no sink.
 use Rattle.std.specs.Prelude.{◌≡◌, ℕ, Bool, true, false, IsTrue, Option}
 use Rattle.console_port.specs.View.{BusView}
 use Rattle.mic_clock.specs.Edge.{IsEdgeInside}

@@ -80,7 +80,8 @@ access_by false = mems.Write
 abbrev pub loaded_in : ℕ → ℕ → Latches → NineRegisters
 loaded_in word c l = loaded (fields_of Mic2 word).c c l.word (registers_at l.places)
 
--- The read or the write of a word was done, and needed no source and no sink: this is what a read sampled. A write is done only where the unit's fetch is not refused.
+-- The read or the write of a word was done, and needed no source and no sink: this is what a read sampled.
+-- A write is done only where the unit's fetch is not refused.
 pub record IsInside (word c taken : ℕ) (l : Latches) (bus bus' : BusView) (word_read : Option ℕ) : Type 0 where
   pub accesses : mem_of (fields_of Mic2 word).mem ≡ access_by (is_some word_read)
   pub clear : memory_refusal (length bus.words) (access_by (is_some word_read)) (loaded_in word c l).mar ≡ None

@@ -1,4 +1,6 @@
-//! Tests of what neither a contract nor a case shows: the adapters over real files, the memory page by page, runs that must agree, command lines with empty words, and each public call that may be out of memory and that no command makes, with ample memory.
+//! Tests of what neither a contract nor a case shows: the adapters over real files, the memory page by page, runs that
+//! must agree, command lines with empty words, and each public call that may be out of memory and that no command makes,
+//! with ample memory.
 #![tactic(auto)]
 
 #[cfg(test)]
