@@ -190,7 +190,8 @@ static void decode_alu(struct value *it, unsigned bits, uint8_t a, uint8_t b, ui
     it->left_by = bits & 128 ? 8 : 0;
     it->right_by = bits & 64 ? 1 : 0;
     if (operation == 0) it->logic = '&';
-    if (operation == 1 && ena && enb) it->logic = '|';
+    /* Where one side of an OR is 0, it is a sum. */
+    if (operation == 1 && enb && (ena || it->invert)) it->logic = '|';
     if (operation == 2) {
         it->a = it->b;
         it->b = zero;
