@@ -6,3 +6,4 @@ mod Flows
 mod Runs
 mod Ends
 mod AsMeant
+mod Growing

@@ -1,2 +1,3 @@
 pub mod AsMeant
+pub mod Growing
 pub mod Performs

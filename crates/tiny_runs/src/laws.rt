@@ -1,5 +1,6 @@
 //! What holds of the runs of every image in which a Tiny program is laid out.
 
+ghost use Rattle.std.specs.Prelude.{ℕ, List};
 ghost use Rattle.ijvm_image.specs.Image.{ImageView};
 ghost use Rattle.mic_words.specs.declared.machine.Machine.{Machine};
 ghost use Rattle.ijvm_meaning.specs.Cost.{timing_of};
@@ -8,6 +9,7 @@ ghost use Rattle.tiny_tree.specs.Named.{IsNamed};
 ghost use Rattle.tiny_code.specs.Code.{Places};
 ghost use Rattle.tiny_code.specs.Laid.{IsLaidOut};
 ghost use Rattle.tiny_runs.specs.AsMeant.{Advances};
+ghost use Rattle.tiny_runs.specs.Growing.{GrowsWithTurns};
 ghost use Rattle.tiny_runs.specs.Performs.{Performs};
 
 use ijvm_meaning::runs_end_once;
@@ -21,3 +23,8 @@ pub fn images_run_as_meant()
     laid_out_programs_hold();
     runs_end_once();
 }
+
+/// A program means one thing: with more turns, what has ended stays so, and the output only grows.
+pub fn meanings_grow()
+    ensures { (p : Program) (input : List ℕ) (n : ℕ) → GrowsWithTurns p input n }
+{}

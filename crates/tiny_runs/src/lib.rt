@@ -3,4 +3,4 @@
 
 mod laws;
 
-pub use laws::images_run_as_meant;
+pub use laws::{images_run_as_meant, meanings_grow};
