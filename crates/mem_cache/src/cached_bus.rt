@@ -17,9 +17,6 @@ use mic_base::{Sink, Source};
 use std::alloc::{AllocError, Global};
 use std::marker::Model;
 
-/// The most lines of a cache.
-pub const MOST_LINES: u16 = 4096;
-
 /// A bus, and blocks of its memory in lines. A read or fetch of a memory word loads a block that its line does not hold.
 /// A write goes through to memory, changes a block that is held, and loads none. Accesses of the console and
 /// refused accesses bypass the lines.

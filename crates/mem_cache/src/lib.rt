@@ -7,6 +7,6 @@ pub mod counts;
 mod laws;
 mod lines;
 
-pub use cached_bus::{CachedBus, MOST_LINES};
+pub use cached_bus::CachedBus;
 pub use counts::CacheCounts;
 pub use laws::counts_are_those_of_the_accesses;

@@ -303,14 +303,6 @@ impl<M: Clocked> Board<M> {
         self.machine.mpc()
     }
 
-    /// The word at MPC, which the next cycle sets up.
-    pub fn microinstruction(&self) -> M::Word
-        ensures { M.Word.number result ≡ word_at M.meaning self.now.store.words (M.state self.now.machine) }
-    {
-        word_law(self.machine.machine());
-        M::Word::from_bits(self.store.word(self.machine.mpc())).unwrap()
-    }
-
     pub fn counts(&self) -> Counts
         ensures { result ≡ self.now.counts }
     {

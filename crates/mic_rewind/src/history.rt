@@ -13,9 +13,6 @@ use mic_clock::Tick;
 use std::alloc::{AllocError, Global};
 use std::marker::Model;
 
-/// The most cycles that a history keeps.
-pub const MOST_DEPTH: u32 = 65_536;
-
 /// The last cycles, and a memory of its own, as it was at the cursor.
 #[derive(Drop)]
 pub struct History {

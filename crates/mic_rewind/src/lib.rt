@@ -9,7 +9,7 @@ mod memory;
 pub mod moment;
 pub mod rewind;
 
-pub use history::{History, MOST_DEPTH};
+pub use history::History;
 pub use kept_cycle::{KeptCycle, WrittenWord};
 pub use laws::{going_back_restores, kept_states_are_of_the_run};
 pub use moment::Moment;

@@ -35,11 +35,4 @@ impl Destination {
             Destination::Mar => 0b0_0000_0001,
         }
     }
-
-    /// Whether a field C names it.
-    pub fn is_loaded(self, c: u16) -> bool
-        ensures { result ≡ loads c self }
-    {
-        c / self.bit() % 2 == 1
-    }
 }

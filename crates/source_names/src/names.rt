@@ -73,10 +73,4 @@ impl NameList {
         self.names.push(name).unwrap();
         Ok(())
     }
-
-    pub fn into_names(self) -> Vec<Name>
-        ensures { result.items ≡ self }
-    {
-        self.names
-    }
 }

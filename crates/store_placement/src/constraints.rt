@@ -59,14 +59,6 @@ impl Constraints {
         self.pairs.push(pair);
     }
 
-    /// The number of statements.
-    pub fn statement_count(&self) -> u16
-        ensures count { result ≡ length self.now.fixed }
-        ensures within { AreWithin self.now.fixed self.now.pairs }
-    {
-        self.fixed.len() as u16
-    }
-
     /// The number of statements that are fixed.
     pub fn fixed_count(&self) -> u16
         ensures { result ≡ fixed_count self.now }
