@@ -1,8 +1,12 @@
 -- What the adapters stand on, and the counts of their faults.
 use Rattle.std.specs.Prelude.{ℕ}
+use Rattle.mic_base.specs.declared.standard.ahead.ReadAhead.{ReadAhead}
 use Rattle.mic_base.specs.declared.standard.source.StdSource.{StdSource}
 use Rattle.mic_base.specs.declared.standard.sink.StdSink.{StdSink}
 use Rattle.mic_base.specs.declared.standard.files.StdFiles.{StdFiles}
+
+abbrev pub read_ahead_of : {R : Type 0} → ReadAhead R → R
+read_ahead_of r = r.reader
 
 abbrev pub reader_of : {R : Type 0} → StdSource R → R
 reader_of s = s.reader

@@ -1,9 +1,11 @@
 //! The trusted edge: readers, writers and real files. What they hold is not known.
+pub mod ahead;
 mod answers;
 pub mod files;
 pub mod sink;
 pub mod source;
 
+pub use ahead::ReadAhead;
 pub use files::StdFiles;
 pub use sink::StdSink;
 pub use source::StdSource;

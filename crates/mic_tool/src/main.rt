@@ -1,12 +1,9 @@
 //! The program `mic`: one call, with the words, the files and the streams that the system has.
 #![tactic(auto)]
 
-mod ahead;
-
-use ahead::ReadAhead;
 use cli_call::{mic_main, misused};
 use cli_outside::no_memory;
-use mic_base::{StdFiles, StdSink, StdSource};
+use mic_base::{ReadAhead, StdFiles, StdSink, StdSource};
 use std::io::Lock;
 use std::process::ExitCode;
 use std::{env, io};

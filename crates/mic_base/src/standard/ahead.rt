@@ -1,4 +1,4 @@
-//! Standard input, read from what it holds ahead.
+//! A reader, such as standard input, read from what it holds ahead.
 
 ghost use Rattle.std.specs.Prelude.{◌≡◌, ◌<◌, IfOk, OnErr, length, take};
 ghost use Rattle.std.specs.Io.{ReadsAtMost};
@@ -14,21 +14,25 @@ pub struct ReadAhead<R> {
 }
 
 impl<R> ReadAhead<R> {
+    ghost use Rattle.mic_base.specs.Standard.{read_ahead_of};
+
     pub fn new(reader: R) -> ReadAhead<R>
-        ensures { result.reader ≡ reader }
+        ensures { read_ahead_of result ≡ reader }
     {
         ReadAhead { reader }
     }
 }
 
 impl<R: BufRead> Read for ReadAhead<R> {
+    ghost use Rattle.mic_base.specs.Standard.{read_ahead_of};
+
     /// The next bytes of the reader, or none at its end. A reader that shows its end is not asked again: at a terminal,
     /// that would be for a second end.
     fn read(&mut self, buf: &mut [u8]) -> io::Result<usize>
         ensures bound { ReadsAtMost result buf.new }
-        ensures bytes { IfOk result (λ n. Consumes (R.remaining self.old.reader) (R.remaining self.new.reader) (take n buf.new)) }
-        ensures end { IfOk result (λ n. n ≡ 0 → 0 < length buf.new → IsAtEnd (R.remaining self.old.reader)) }
-        ensures failed { OnErr result (Keeps (R.remaining self.old.reader) (R.remaining self.new.reader)) }
+        ensures bytes { IfOk result (λ n. Consumes (R.remaining (read_ahead_of self.old)) (R.remaining (read_ahead_of self.new)) (take n buf.new)) }
+        ensures end { IfOk result (λ n. n ≡ 0 → 0 < length buf.new → IsAtEnd (R.remaining (read_ahead_of self.old))) }
+        ensures failed { OnErr result (Keeps (R.remaining (read_ahead_of self.old)) (R.remaining (read_ahead_of self.new))) }
     {
         if self.reader.fill_buf()?.is_empty() {
             return Ok(0);

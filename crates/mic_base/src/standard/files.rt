@@ -37,6 +37,7 @@ impl<R: rt::Files> Files for StdFiles<R> {
         counted(answer, &mut self.faults)
     }
 
+    // No clause says what a file of the system holds: that this one then holds these bytes is tested (`real_files_are_files`).
     fn write_file(&mut self, _alloc: Global, name: &str, bytes: &[u8]) -> Result<(), FileError> {
         let answer = file_written(fs::write(&self.rt, name, bytes));
         counted(answer, &mut self.faults)

@@ -1,6 +1,7 @@
 //! A source over any reader, such as standard input.
 
-ghost use Rattle.std.specs.Prelude.{◌≡◌, None};
+ghost use Rattle.std.specs.Prelude.{◌≡◌, ◌≢◌, None, IfErr};
+ghost use Rattle.std.specs.IoError.{error_kind};
 ghost use Rattle.mic_base.specs.Causes.{HasCause};
 ghost use Rattle.mic_base.specs.Streams.{ReadsNext, Takes};
 
@@ -47,7 +48,8 @@ impl<R: Read> Source for StdSource<R> {
 
 /// The reader's next byte, or none at its end. A read that a signal interrupts is tried again.
 fn next_byte<R: Read>(reader: &mut R) -> io::Result<Option<u8>>
-    ensures { ReadsNext (R.remaining reader.old) result (R.remaining reader.new) }
+    ensures uninterrupted { IfErr result (λ e. error_kind e ≢ ErrorKind.Interrupted) }
+    ensures read { ReadsNext (R.remaining reader.old) result (R.remaining reader.new) }
 {
     // A loop is proved to end, so this one counts its turns.
     for _ in 0..u64::MAX {
