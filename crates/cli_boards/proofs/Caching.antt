@@ -29,8 +29,8 @@ says_code same says = rw (← same) says
 -- the cache of a run counts its accesses
 abbrev pub CountsRuns : Type 0
 CountsRuns =
-    (machine : Machine) (words : List ℕ) (lines size : ℕ) (cs : List Cycle) → 0 < lines → length cs < 2 ^ 62 →
-    (kept_of_cycles machine words lines size cs).tally.counts ≡ counts_of lines size (accesses_of machine words cs)
+    (machine : Machine) (words : List ℕ) (lines : ℕ) (memory : List ℕ) (cs : List Cycle) → 0 < lines → length cs < 2 ^ 62 →
+    (kept_of_cycles machine words lines memory cs).tally.counts ≡ counts_of lines (length memory) (accesses_of machine words cs)
 
 module _ {M State : Type 0} (state : M → State) (m : Meaning State) (lines bound : ℕ) (micro : MalView) (program : VerifiedView) (l : Loaded)
     (last : BoardView M) (cycles : List Cycle) (end : End) (old new : OutsideView) (through : RunsThrough state m bound micro l program cycles last (Some end) old new)
@@ -42,14 +42,15 @@ module _ {M State : Type 0} (state : M → State) (m : Meaning State) (lines bou
       omega (arith, long, start, growth, small)
 
   -- what the cache counted, after the report
-  pub cached : CountsRuns → 0 < lines → l.store.machine ≡ m.machine → (kept : CacheKept) →
-      kept ≡ kept_of_cycles l.store.machine l.store.words lines program.map.stack_end cycles → (line : List ℕ) → line ≡ cache_line lines kept.tally.counts →
+  pub cached : CountsRuns → 0 < lines → l.store.machine ≡ m.machine → (kept : CacheKept) (memory : List ℕ) →
+      length memory ≡ program.map.stack_end → kept ≡ kept_of_cycles l.store.machine l.store.words lines memory cycles → (line : List ℕ) → line ≡ cache_line lines kept.tally.counts →
       (status : ℕ) → Says old.err new.err (report_on state m end last ++ line) (status_of end) status → IsCached state m lines bound micro program old new status
-  cached law some machine kept is line prints status says =
+  cached law some machine kept memory size is line prints status says =
       let counts : kept.tally.counts ≡ counts_of lines program.map.stack_end (accesses_of m.machine l.store.words cycles) =
       ap (λ (k : CacheKept). k.tally.counts) is
-      ∙ (law l.store.machine l.store.words lines program.map.stack_end cycles some short_run
-      ∙ ap (λ (x : Machine). counts_of lines program.map.stack_end (accesses_of x l.store.words cycles)) machine) in
+      ∙ (law l.store.machine l.store.words lines memory cycles some short_run
+      ∙ (ap (λ (n : ℕ). counts_of lines n (accesses_of l.store.machine l.store.words cycles)) size
+      ∙ ap (λ (x : Machine). counts_of lines program.map.stack_end (accesses_of x l.store.words cycles)) machine)) in
       Ran l last cycles end through
       (subst (λ (t : List ℕ). Says old.err new.err (report_on state m end last ++ t) (status_of end) status)
       (prints ∙ ap (λ (c : CacheCounts). cache_line lines c) counts) says)

@@ -1,5 +1,6 @@
 -- How the run of an accepted program ends with a cache beside it: the report, and then what the cache counted; or less, where a fault cut it.
-use Rattle.std.specs.Prelude.{ℕ, List, ◌++◌, Some}
+use Rattle.std.specs.Prelude.{ℕ, List, ◌++◌, Some, replicate}
+use Rattle.console_port.specs.Loading.{IsLoaded}
 use Rattle.mic_clock.specs.declared.end.End.{End}
 use Rattle.mic_clock.specs.Meaning.{Meaning}
 use Rattle.mic_clock.specs.View.{BoardView}
@@ -13,6 +14,10 @@ use Rattle.cli_outside.specs.Messages.{out_of_memory}
 use Rattle.cli_outside.specs.Outside.{OutsideView, Says, TellsOnErr}
 use Rattle.cli_run_texts.specs.Ends.{status_of}
 use Rattle.cli_boards.specs.Runs.{RunsThrough, report_on}
+
+-- a memory that begins with zeros has a program's image loaded
+abbrev pub HasImage : VerifiedView → List ℕ → Type 0
+HasImage program words = IsLoaded program.image.text program.image.pool (replicate program.map.stack_end 0) words
 
 module _ {M State : Type 0} (state : M → State) (m : Meaning State) where
   -- the run of this microprogram over an accepted program, with a cache of this many lines

@@ -28,6 +28,6 @@ module _ {M State : Type 0} (state : M → State) (m : Meaning State) where
         Says old.err new.err (profile_text (profile_of_cycles rows cycles) (unwrap_or last.end end) last.counts
         ++ report_on state m end last) (status_of end) status →
         IsProfiled bound micro program old new status
-    -- `err` failed before the profile was put, and the run was stopped there: `err` has got nothing
+    -- `err` failed before the profile was put, and the run was stopped there, before it came to an end: `err` has got nothing
     Stopped : (l : Loaded) (last : BoardView M) (cycles : List Cycle) → RunsThrough state m bound micro l program cycles last None old new →
-        Got old.err.held [] new.err.held → Rose old.err.faults new.err.faults → status ≡ exits.sink → IsProfiled bound micro program old new status
+        last.end ≡ None → Got old.err.held [] new.err.held → Rose old.err.faults new.err.faults → status ≡ exits.sink → IsProfiled bound micro program old new status

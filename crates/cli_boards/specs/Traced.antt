@@ -33,8 +33,8 @@ module _ {M State : Type 0} (state : M → State) (m : Meaning State) where
     Whole : (l : Loaded) (last : BoardView M) (cycles : List Cycle) (end : End) (lines : List ℕ) →
         RunsThrough state m bound micro l program cycles last (Some end) old new → AreTraceLines (traced_of micro l program buses) cycles lines →
         Says old.err new.err (lines ++ report_on state m end last) (status_of end) status → IsTraced bound buses micro program old new status
-    -- `err` failed, and the run was stopped there: it has a front of the lines of these cycles
+    -- `err` failed, and the run was stopped there, before it came to an end: `err` has got a front of the lines of these cycles
     Stopped : (l : Loaded) (last : BoardView M) (cycles : List Cycle) (lines : List ℕ) →
-        RunsThrough state m bound micro l program cycles last None old new → AreTraceLines (traced_of micro l program buses) cycles lines →
+        RunsThrough state m bound micro l program cycles last None old new → last.end ≡ None → AreTraceLines (traced_of micro l program buses) cycles lines →
         GotInPart old.err.held lines new.err.held → Rose old.err.faults new.err.faults → status ≡ exits.sink →
         IsTraced bound buses micro program old new status

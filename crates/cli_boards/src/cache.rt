@@ -2,7 +2,7 @@
 
 ghost use Rattle.std.specs.Prelude.{◌≡◌, ◌≤◌, ◌<◌, ◌%◌, ◌^◌, IfOk, length};
 ghost use Rattle.cli_watchers.specs.Cached.{kept_in, start_kept};
-ghost use Rattle.cli_boards.specs.Cached.{IsCached};
+ghost use Rattle.cli_boards.specs.Cached.{HasImage, IsCached};
 ghost use Rattle.cli_boards.specs.Runs.{OverPrepared};
 
 use crate::microprogram::Microprogram;
@@ -25,6 +25,7 @@ use std::alloc::{AllocError, Global};
 /// A memory with an image loaded, which is whole blocks of four words.
 #[tactic(auto, using(crate::proofs::Caching::whole_blocks))]
 fn loaded_bus(alloc: Global, program: &VerifiedImage) -> Result<Bus, AllocError>
+    ensures loaded { IfOk result (λ bus. HasImage program.now bus.words) }
     ensures size { IfOk result (λ bus. length bus.words ≡ program.now.map.stack_end) }
     ensures whole { IfOk result (λ bus. length bus.words % 4 ≡ 0) }
 {
@@ -41,7 +42,9 @@ fn cache_watcher(
     program: &VerifiedImage,
 ) -> Result<CacheWatcher, AllocError>
     requires { (0 < lines) × (lines ≤ 4096) }
-    ensures { IfOk result (λ w. kept_in w ≡ start_kept store.now.machine store.now.words lines program.now.map.stack_end) }
+    ensures kept { IfOk result (λ w. kept_in w ≡ start_kept store.now.machine store.now.words lines w.cache.bus.words) }
+    ensures loaded { IfOk result (λ w. HasImage program.now w.cache.bus.words) }
+    ensures size { IfOk result (λ w. length w.cache.bus.words ≡ program.now.map.stack_end) }
 {
     let accesses = accesses_in(alloc, store)?;
     let bus = loaded_bus(alloc, program)?;

@@ -1,8 +1,8 @@
 -- A cache counts the accesses of a run, and a run leaves it room.
 use Rattle.std.proofs.Common.{◌≡◌, ◌∙◌, ℕ, ◌+◌, ◌*◌, ◌/◌, ◌^◌, ◌<◌, ◌≤◌, Bool, true, false, if◌then◌else◌, List, [], ◌∷◌, ◌++◌, map, length, Option, Some, None, refl, sym, ap, subst, arith, get_or, replicate}
-use Rattle.std.specs.Prelude.{nat_lt, slice_index}
+use Rattle.std.specs.Prelude.{nat_lt, slice_index, slice_set}
 use Rattle.std.proofs.lemmas.Bool.{lt-ltb}
-use Rattle.std.proofs.lemmas.List.{length-replicate}
+use Rattle.std.proofs.lemmas.List.{length-replicate, length-set}
 use Rattle.std.proofs.lemmas.Option.{unwrap_or-slice_get}
 use Rattle.std.proofs.Math.ListN as lists
 use Rattle.mic_words.specs.declared.machine.Machine.{Machine}
@@ -19,7 +19,7 @@ use Rattle.mem_cache.specs.Accesses.{Access, Read, Write, Fetch, asks_for, hits_
 use Rattle.mem_cache.specs.Tally.{Tally, after_asking, after_hit, after_miss, counted, empty_tally, has_block}
 use Rattle.mem_cache.specs.View.{AllLead, CacheView, answered}
 use Rattle.cli_watchers.specs.declared.cache.WordAccess.{WordAccess}
-use Rattle.cli_watchers.specs.Cached.{CacheKept, SaysNothing, access_at, access_in, accesses_by, accesses_of, all_counted, at_mar, at_pc, counts_of, has_room, kept_after, kept_of_cycles}
+use Rattle.cli_watchers.specs.Cached.{CacheKept, SaysNothing, access_at, access_in, accesses_by, accesses_of, after_access, after_cycle, all_counted, at_mar, at_pc, counts_of, has_room, kept_after, kept_of_cycles}
 
 -- ---- one access
 
@@ -95,26 +95,41 @@ few_by_cycle size access r t =
     record { hits = omega (arith, first.hits, second.hits); misses = omega (arith, first.misses, second.misses); both = omega (arith, first.both, second.both) } in
     subst (IsFew 2 t) (sym (all_counted-append size (at_mar access.mem r.mar) (at_pc access.fetch r.pc) t)) both
 
-module _ (machine : Machine) (words : List ℕ) (size : ℕ) where
-  abbrev kept_with : Tally → CacheKept
-  kept_with t = record { accesses = map (access_in machine) words; size = size; tally = t }
+-- a write makes no word more or less
+same_size : (mem : Mem) (mar mdr : ℕ) (words : List ℕ) → length (after_access mem mar mdr words) ≡ length words
+same_size mems.None mar mdr words = refl
+same_size mems.Read mar mdr words = refl
+same_size mems.Write mar mdr words = by (nat_lt mar (length words))
+  where
+    by : (b : Bool) → length (if b then slice_set words mar mdr else words) ≡ length words
+    by true = length-set words mar mdr
+    by false = refl
 
-  abbrev after_cycle : Tally → Cycle → Tally
-  after_cycle t c = all_counted size (accesses_by (access_in machine (slice_index words c.mpc)) c.registers) t
+module _ (machine : Machine) (words : List ℕ) where
+  abbrev kept_with : List ℕ → Tally → CacheKept
+  kept_with memory t = record { accesses = map (access_in machine) words; words = memory; tally = t }
 
-  with_room : (t : Tally) (c : Cycle) → has_room t.counts ≡ true → kept_after (kept_with t) c ≡ kept_with (after_cycle t c)
-  with_room t c room = rw room (ap (λ (a : WordAccess). kept_with (all_counted size (accesses_by a c.registers) t)) (word_asks machine words c.mpc))
+  abbrev access_of : Cycle → WordAccess
+  access_of c = access_in machine (slice_index words c.mpc)
+
+  with_room : (memory : List ℕ) (t : Tally) (c : Cycle) → has_room t.counts ≡ true →
+      kept_after (kept_with memory t) c ≡ after_cycle (access_of c) c.registers (kept_with memory t)
+  with_room memory t c room = rw room (ap (λ (a : WordAccess). after_cycle a c.registers (kept_with memory t)) (word_asks machine words c.mpc))
 
   -- the cycles of a run are counted one after the other
-  all_cycles : (cs : List Cycle) (t : Tally) → t.counts.hits + t.counts.misses + 2 * length cs < 0x7FFF_FFFF_FFFF_FFFF →
-      (kept_of kept_after SaysNothing (kept_with t) cs).tally ≡ all_counted size (accesses_of machine words cs) t
-  all_cycles [] t h = refl
-  all_cycles (c ∷ cs) t h =
-      let few : IsFew 2 t (after_cycle t c) = few_by_cycle size (access_in machine (slice_index words c.mpc)) c.registers t in
+  all_cycles : (cs : List Cycle) (memory : List ℕ) (t : Tally) → t.counts.hits + t.counts.misses + 2 * length cs < 0x7FFF_FFFF_FFFF_FFFF →
+      (kept_of kept_after SaysNothing (kept_with memory t) cs).tally ≡ all_counted (length memory) (accesses_of machine words cs) t
+  all_cycles [] memory t h = refl
+  all_cycles (c ∷ cs) memory t h =
+      let access : WordAccess = access_of c in
+      let next : Tally = all_counted (length memory) (accesses_by access c.registers) t in
+      let written : List ℕ = after_access access.mem c.registers.mar c.registers.mdr memory in
+      let few : IsFew 2 t next = few_by_cycle (length memory) access c.registers t in
       let room : has_room t.counts ≡ true = room_when t.counts (omega arith) in
-      ap (λ (k : CacheKept). (kept_of kept_after SaysNothing k cs).tally) (with_room t c room)
-      ∙ (all_cycles cs (after_cycle t c) (omega (arith, few.both))
-      ∙ sym (all_counted-append size (accesses_by (access_in machine (slice_index words c.mpc)) c.registers) (accesses_of machine words cs) t))
+      ap (λ (k : CacheKept). (kept_of kept_after SaysNothing k cs).tally) (with_room memory t c room)
+      ∙ (all_cycles cs written next (omega (arith, few.both))
+      ∙ (ap (λ (n : ℕ). all_counted n (accesses_of machine words cs) next) (same_size access.mem c.registers.mar c.registers.mdr memory)
+      ∙ sym (all_counted-append (length memory) (accesses_by access c.registers) (accesses_of machine words cs) t)))
 
 -- ---- accesses as calls of a cache that were answered
 
@@ -150,8 +165,8 @@ counts_all law lines size accesses some =
     let same : (t (length bus.words)).counts ≡ counts_of lines (length bus.words) accesses = λ i. record { hits = hits i; misses = misses i } in
     subst (λ (n : ℕ). (all_counted n accesses (empty_tally lines)).counts ≡ counts_of lines n accesses) long same
 
-pub run_counted : CountsAnswered → (machine : Machine) (words : List ℕ) (lines size : ℕ) (cs : List Cycle) → 0 < lines → length cs < 2 ^ 62 →
-    (kept_of_cycles machine words lines size cs).tally.counts ≡ counts_of lines size (accesses_of machine words cs)
-run_counted law machine words lines size cs some short =
-    ap (λ (t : Tally). t.counts) (all_cycles machine words size cs (empty_tally lines) (omega arith))
-    ∙ counts_all law lines size (accesses_of machine words cs) some
+pub run_counted : CountsAnswered → (machine : Machine) (words : List ℕ) (lines : ℕ) (memory : List ℕ) (cs : List Cycle) → 0 < lines → length cs < 2 ^ 62 →
+    (kept_of_cycles machine words lines memory cs).tally.counts ≡ counts_of lines (length memory) (accesses_of machine words cs)
+run_counted law machine words lines memory cs some short =
+    ap (λ (t : Tally). t.counts) (all_cycles machine words cs memory (empty_tally lines) (omega arith))
+    ∙ counts_all law lines (length memory) (accesses_of machine words cs) some

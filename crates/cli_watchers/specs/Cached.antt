@@ -1,5 +1,5 @@
 -- The accesses of a run, in the order of its cycles, and what a cache counts of them.
-use Rattle.std.specs.Prelude.{◌≡◌, ℕ, ◌&&◌, ◌++◌, nat_lt, if◌then◌else◌, Bool, false, List, [], ◌∷◌, codes, length, map, slice_get, slice_index, unwrap_or}
+use Rattle.std.specs.Prelude.{◌≡◌, ℕ, ◌&&◌, ◌++◌, nat_lt, if◌then◌else◌, Bool, false, List, [], ◌∷◌, codes, length, map, slice_get, slice_index, slice_set, unwrap_or}
 use Rattle.std.specs.Fmt.{decimal}
 use Rattle.mic_words.specs.declared.machine.Machine.{Machine}
 use Rattle.micro_word.specs.declared.statement.Mem.{Mem}
@@ -54,12 +54,12 @@ cache_line lines counts =
 pub record CacheKept : Type 0 where
   -- what the word at each address asks of memory
   pub accesses : List WordAccess
-  -- the words of memory
-  pub size : ℕ
+  -- the memory behind the cache, which has the words of the run's
+  pub words : List ℕ
   pub tally : Tally
 
 abbrev pub kept_in : CacheWatcher → CacheKept
-kept_in w = record { accesses = w.accesses.items; size = length w.cache.bus.words; tally = w.cache.tally }
+kept_in w = record { accesses = w.accesses.items; words = w.cache.bus.words; tally = w.cache.tally }
 
 -- what the word at an address asks of memory
 abbrev pub access_at : List WordAccess → ℕ → WordAccess
@@ -78,19 +78,32 @@ all_counted size (access ∷ accesses) t = all_counted size accesses (counted si
 abbrev pub CountsAll : List Access → CacheView → CacheView → Type 0
 CountsAll accesses old new = new.tally ≡ all_counted (length old.bus.words) accesses old.tally
 
--- after a cycle
+-- the words after a word is written at an address, which changes none where memory has no word
+abbrev pub after_write : List ℕ → ℕ → ℕ → List ℕ
+after_write words at value = if nat_lt at (length words) then slice_set words at value else words
+
+-- the words after the access at MAR
+abbrev pub after_access : Mem → ℕ → ℕ → List ℕ → List ℕ
+after_access mems.None mar mdr words = words
+after_access mems.Read mar mdr words = words
+after_access mems.Write mar mdr words = after_write words mar mdr
+
+-- after a cycle: what was written is in the memory, and the accesses are counted
+abbrev pub after_cycle : WordAccess → Registers → CacheKept → CacheKept
+after_cycle access r k =
+    record k { words = after_access access.mem r.mar r.mdr k.words; tally = all_counted (length k.words) (accesses_by access r) k.tally }
+
 abbrev pub kept_after : CacheKept → Cycle → CacheKept
-kept_after k c =
-    if has_room k.tally.counts then record k { tally = all_counted k.size (accesses_by (access_at k.accesses c.mpc) c.registers) k.tally } else k
+kept_after k c = if has_room k.tally.counts then after_cycle (access_at k.accesses c.mpc) c.registers k else k
 
 -- nothing is printed of a cycle
 abbrev pub SaysNothing : CacheKept → Cycle → List ℕ → Type 0
 SaysNothing k c text = text ≡ []
 
--- before the first cycle, with a control store, lines and words of memory
-abbrev pub start_kept : Machine → List ℕ → ℕ → ℕ → CacheKept
-start_kept machine words lines size = record { accesses = map (access_in machine) words; size = size; tally = empty_tally lines }
+-- before the first cycle, with a control store, lines and a memory
+abbrev pub start_kept : Machine → List ℕ → ℕ → List ℕ → CacheKept
+start_kept machine words lines memory = record { accesses = map (access_in machine) words; words = memory; tally = empty_tally lines }
 
 -- what is kept after these cycles
-abbrev pub kept_of_cycles : Machine → List ℕ → ℕ → ℕ → List Cycle → CacheKept
-kept_of_cycles machine words lines size cs = kept_of kept_after SaysNothing (start_kept machine words lines size) cs
+abbrev pub kept_of_cycles : Machine → List ℕ → ℕ → List ℕ → List Cycle → CacheKept
+kept_of_cycles machine words lines memory cs = kept_of kept_after SaysNothing (start_kept machine words lines memory) cs

@@ -31,6 +31,6 @@ HasAllCycles cs e = AreClockedAfter 0 cs →
     boot_cycles (boundaries_of cs) (length cs) + cycles_of (completed_by cs e) + cut_by cs e ≡ length cs
 
 -- a cache that begins empty, and on which the accesses of these cycles are repeated, has their hits and misses
-abbrev pub HasItsCounts : Machine → List ℕ → ℕ → ℕ → List Cycle → Type 0
-HasItsCounts machine words lines size cs = 0 < lines → length cs < 2 ^ 62 →
-    (kept_of_cycles machine words lines size cs).tally.counts ≡ counts_of lines size (accesses_of machine words cs)
+abbrev pub HasItsCounts : Machine → List ℕ → ℕ → List ℕ → List Cycle → Type 0
+HasItsCounts machine words lines memory cs = 0 < lines → length cs < 2 ^ 62 →
+    (kept_of_cycles machine words lines memory cs).tally.counts ≡ counts_of lines (length memory) (accesses_of machine words cs)

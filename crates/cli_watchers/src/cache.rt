@@ -3,7 +3,7 @@
 ghost use Rattle.std.specs.Prelude.{◌≡◌, ◌≤◌, ◌<◌, ◌+◌, ◌^◌, IfOk, length, map, true};
 ghost use Rattle.mem_cache.specs.Accesses.{Access};
 ghost use Rattle.mem_cache.specs.View.{Counts};
-ghost use Rattle.cli_watchers.specs.Cached.{CountsAll, access_at, access_in, accesses_by, at_mar, at_pc, cache_line, has_room};
+ghost use Rattle.cli_watchers.specs.Cached.{CountsAll, access_at, access_in, accesses_by, after_access, after_write, at_mar, at_pc, cache_line, has_room};
 
 use cli_outside::number;
 use mem_cache::{CacheCounts, CachedBus};
@@ -92,6 +92,7 @@ fn fetch(cache: &mut CachedBus, byte: u32)
 /// Repeats a write of a memory word.
 fn write(cache: &mut CachedBus, at: u32, value: u32)
     ensures size { length cache.new.bus.words ≡ length cache.old.bus.words }
+    ensures words { cache.new.bus.words ≡ after_write cache.old.bus.words at value }
     ensures counted { Counts (Access.Write at) cache.old cache.new }
 {
     if cache.has(at) {
@@ -103,6 +104,7 @@ fn write(cache: &mut CachedBus, at: u32, value: u32)
 fn repeat_at_mar(cache: &mut CachedBus, mem: Mem, mar: u32, mdr: u32)
     requires { (cache.old.tally.counts.hits < 2 ^ 63) × (cache.old.tally.counts.misses < 2 ^ 63) }
     ensures size { length cache.new.bus.words ≡ length cache.old.bus.words }
+    ensures words { cache.new.bus.words ≡ after_access mem mar mdr cache.old.bus.words }
     ensures counted { CountsAll (at_mar mem mar) cache.old cache.new }
 {
     match mem {
@@ -115,7 +117,7 @@ fn repeat_at_mar(cache: &mut CachedBus, mem: Mem, mar: u32, mdr: u32)
 /// Repeats the access at PC.
 fn repeat_at_pc(cache: &mut CachedBus, is_fetched: bool, pc: u32)
     requires { (cache.old.tally.counts.hits < 2 ^ 63) × (cache.old.tally.counts.misses < 2 ^ 63) }
-    ensures size { length cache.new.bus.words ≡ length cache.old.bus.words }
+    ensures words { cache.new.bus.words ≡ cache.old.bus.words }
     ensures counted { CountsAll (at_pc is_fetched pc) cache.old cache.new }
 {
     if is_fetched {
@@ -126,7 +128,7 @@ fn repeat_at_pc(cache: &mut CachedBus, is_fetched: bool, pc: u32)
 /// Repeats the accesses of a word, with the registers as they are after its edge.
 fn repeat(cache: &mut CachedBus, access: WordAccess, registers: &Registers)
     requires { has_room cache.old.tally.counts ≡ true }
-    ensures size { length cache.new.bus.words ≡ length cache.old.bus.words }
+    ensures words { cache.new.bus.words ≡ after_access access.mem registers.now.mar registers.now.mdr cache.old.bus.words }
     ensures counted { CountsAll (accesses_by access registers.now) cache.old cache.new }
 {
     repeat_at_mar(cache, access.mem, registers.mar, registers.mdr);

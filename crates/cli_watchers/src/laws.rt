@@ -18,7 +18,7 @@ pub fn a_profile_counts_the_run()
 
 /// A cache that begins empty, and on which the accesses of these cycles are repeated, has their hits and misses.
 pub fn a_cache_counts_the_run()
-    ensures { (m : Machine) (words : List ℕ) (lines size : ℕ) (cs : List Cycle) → HasItsCounts m words lines size cs }
+    ensures { (m : Machine) (words : List ℕ) (lines : ℕ) (memory : List ℕ) (cs : List Cycle) → HasItsCounts m words lines memory cs }
 {
     counts_are_those_of_the_accesses();
 }

@@ -20,7 +20,7 @@ returns g c =
     let end = c.in-Ok-run_watched.end in
     let watched = c.in-Ok-run_watched.ensures.watched in
     let watcher = c.run_watched.new.watcher in
-    let kept : CacheKept = record { accesses = watcher.accesses.items; size = length watcher.cache.bus.words; tally = watcher.cache.tally } in
+    let kept : CacheKept = record { accesses = watcher.accesses.items; words = watcher.cache.bus.words; tally = watcher.cache.tally } in
     let printed : c.bytes.result.now ≡ report_on g.M.Clocked.state g.M.Clocked.meaning end last =
     c.bytes.ensures.value ∙ c.clocked_report-report.ensures
     ∙ (ap (λ (k : Counts). report_of end k c.registers.result) c.counts.ensures ∙ ap (λ (r : Registers). report_of end last.counts r) c.registers.ensures.value) in
@@ -42,7 +42,8 @@ returns g c =
           })
           c.requires.bound c.in-Ok-run_watched.ensures.growth c.a_cache_counts_the_run.ensures c.requires.lines.0
           (c.args.prepared.micro.is_loaded.machine ∙ c.requires.machine) kept
-          (watched.saw.kept ∙ ap (λ (k : CacheKept). kept_of kept_after SaysNothing k watched.cycles) c.in-Ok.ensures)
+          c.in-Ok.watcher.cache.bus.words c.in-Ok.ensures.size
+          (watched.saw.kept ∙ ap (λ (k : CacheKept). kept_of kept_after SaysNothing k watched.cycles) c.in-Ok.ensures.kept)
           c.bytes-in-Ok-run_watched.result.now line c.say_behind.result.0
           (says_code c.status_of.ensures (c.say_behind.ensures _ (report_on g.M.Clocked.state g.M.Clocked.meaning end last) put c.put-said.ensures.cause)));
     }

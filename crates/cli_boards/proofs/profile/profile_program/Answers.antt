@@ -62,5 +62,5 @@ returns g c =
             kept = tt;
             left = record { files = refl; cause = cause_of c.in-Err-run_watched.ensures.goes_on c.in-Ok-reset_board.ensures.reset.end; flushed = tt };
           })
-          held c.in-Err-run_watched.ensures.said.failed refl);
+          c.in-Err-run_watched.ensures.not_ended held c.in-Err-run_watched.ensures.said.failed refl);
     }

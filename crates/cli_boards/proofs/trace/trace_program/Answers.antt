@@ -43,5 +43,5 @@ returns g c =
             kept = tt;
             left = record { files = refl; cause = cause_of c.in-Err-run_watched.ensures.goes_on c.in-Ok.ensures.reset.end; flushed = tt };
           })
-          watched.saw.says watched.saw.said c.in-Err-run_watched.ensures.said.failed refl);
+          c.in-Err-run_watched.ensures.not_ended watched.saw.says watched.saw.said c.in-Err-run_watched.ensures.said.failed refl);
     }
