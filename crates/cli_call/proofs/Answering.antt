@@ -66,7 +66,7 @@ use Rattle.cli_session.specs.Goes as lines_of
 use Rattle.cli_session.specs.Input.{EndsWithInput, IsNoInput}
 use Rattle.cli_session.specs.Input as inputs
 use Rattle.cli_session.specs.Lines.{most_lines}
-use Rattle.cli_session.specs.Meaning.{Gone, place}
+use Rattle.cli_session.specs.Meaning.{AreDone, place}
 use Rattle.cli_soak.specs.SoakEnds.{SoakEnds}
 use Rattle.cli_soak.specs.SoakEnds as soaking
 use Rattle.cli_call.specs.ClockedEnd.{ClockedEnd}
@@ -262,7 +262,7 @@ module _ (asks : Option Asked) (old new : OutsideView) (status : ℕ) where
     ran_traced : Stays asks old new state m bound micro program → (buses : Bool) → IsTraced state m bound buses micro program old new status → Answer
     ran_traced stays buses (traced.NoRoom h) = short h
     ran_traced stays buses (traced.Whole l last cycles end lines run are says) = on_err_well _ _ says (run_end end runs (stays l last cycles end run) run.left.cause run.left.files)
-    ran_traced stays buses (traced.Stopped l last cycles lines run are front rose is) = SinkFailed (inr rose) is
+    ran_traced stays buses (traced.Stopped l last cycles lines run running are front rose is) = SinkFailed (inr rose) is
 
     ran_cached : Stays asks old new state m bound micro program → (lines : ℕ) → IsCached state m lines bound micro program old new status → Answer
     ran_cached stays lines (cached.NoRoom h) = short h
@@ -272,7 +272,7 @@ module _ (asks : Option Asked) (old new : OutsideView) (status : ℕ) where
     ran_profiled : Stays asks old new state m bound micro program → IsProfiled state m bound micro program old new status → Answer
     ran_profiled stays (profiled.NoRoom h) = short h
     ran_profiled stays (profiled.Whole l last cycles end rows run are says) = on_err_well _ _ says (run_end end runs (stays l last cycles end run) run.left.cause run.left.files)
-    ran_profiled stays (profiled.Stopped l last cycles run got rose is) = SinkFailed (inr rose) is
+    ran_profiled stays (profiled.Stopped l last cycles run running got rose is) = SinkFailed (inr rose) is
 
   -- `debug` and `rewind`
   no_input : (name : Option (List ℕ)) → ((one : List ℕ) → name ≡ Some one → HasFileRead asks one) → IsNoInput name old new status → Answer
@@ -288,22 +288,22 @@ module _ (asks : Option Asked) (old new : OutsideView) (status : ℕ) where
       IsDebugged state m bound micro program input old new status → Answer
   debugged state m bound micro program input (debugging.NoRoom h) = short h
   debugged state m bound micro program input (debugging.Left l first lines last start gone all same h) =
-      behind_err_well last.seen.err _ _ gone.err h.says
+      behind_err_well last.seen.err _ _ gone.whole.err h.says
       (λ err. Done (record {
-        files = ap (λ (f : FilesState). f.faults) (h.files ∙ gone.files);
+        files = ap (λ (f : FilesState). f.faults) (h.files ∙ gone.whole.files);
         console = same;
-        out = ap (λ (o : SinkState). o.faults) h.out ∙ gone.out;
+        out = ap (λ (o : SinkState). o.faults) h.out ∙ gone.whole.out;
         err = err;
       }))
-  debugged state m bound micro program input (debugging.Cut l first lines last start gone cut rose h) = behind_err last.seen.err _ _ gone.err h.says (ConsoleFailed rose)
+  debugged state m bound micro program input (debugging.Cut l first lines last start gone cut rose h) = behind_err last.seen.err _ _ gone.whole.err h.says (ConsoleFailed rose)
   debugged state m bound micro program input (debugging.Stopped l first lines line mid start gone front cut same is) =
-      SinkFailed (either_of mid.seen.out.faults old.out.faults mid.seen.err.faults old.err.faults new.out.faults new.err.faults gone.out gone.err cut.rose) is
+      SinkFailed (either_of mid.seen.out.faults old.out.faults mid.seen.err.faults old.err.faults new.out.faults new.err.faults gone.whole.out gone.whole.err cut.rose) is
 
   -- lines were done whole, and nothing after them
   gone_well : {M S : Type 0} (state : M → S) (m : Meaning S) (first last : RewindingView M) (lines : List (List ℕ)) →
-      Gone (rewinding state m) lines (place first old) (place last new) → new.console.faults ≡ old.console.faults → status ≡ exits.done → Answer
+      AreDone (rewinding state m) lines (place first old) (place last new) → new.console.faults ≡ old.console.faults → status ≡ exits.done → Answer
   gone_well state m first last lines gone same =
-      Done (record { files = ap (λ (f : FilesState). f.faults) gone.files; console = same; out = gone.out; err = gone.err })
+      Done (record { files = ap (λ (f : FilesState). f.faults) gone.whole.files; console = same; out = gone.whole.out; err = gone.whole.err })
 
   went : {M S : Type 0} (state : M → S) (m : Meaning S) (first last : RewindingView M) (step : Step) →
       Goes (rewinding state m) most_lines 0 (place first old) (place last new) step → status ≡ status_after step → Answer
@@ -311,7 +311,7 @@ module _ (asks : Option Asked) (old new : OutsideView) (status : ℕ) where
   went state m first last _ (lines_of.Over lines gone same left) is = gone_well state m first last lines gone same is
   went state m first last _ (lines_of.ConsoleFailed lines gone rose left) is = ConsoleFailed rose is
   went state m first last _ (lines_of.SinkFailed lines line mid gone same left cut) is =
-      SinkFailed (either_of mid.seen.out.faults old.out.faults mid.seen.err.faults old.err.faults new.out.faults new.err.faults gone.out gone.err cut.rose) is
+      SinkFailed (either_of mid.seen.out.faults old.out.faults mid.seen.err.faults old.err.faults new.out.faults new.err.faults gone.whole.out gone.whole.err cut.rose) is
 
   rewound : {M S : Type 0} (state : M → S) (m : Meaning S) (depth : ℕ) (micro : MalView) (program : VerifiedView) (input : List ℕ) →
       IsRewound state m depth micro program input old new status → Answer

@@ -19,7 +19,7 @@ use Rattle.cli_boards.specs.Runs.{IsFirstBoard}
 use Rattle.cli_boards.specs.declared.preparing.Prepared.{Prepared}
 use Rattle.cli_session.specs.Input.{EndsWithInput}
 use Rattle.cli_session.specs.Lines.{IsCutIn, IsNext, IsReadOut, most_lines}
-use Rattle.cli_session.specs.Meaning.{Gone, IsCutShort, Place, place}
+use Rattle.cli_session.specs.Meaning.{AreDone, IsCutShort, Place, place}
 use Rattle.cli_debug.specs.Stand.{is_quit}
 use Rattle.cli_debug.specs.Debugging.{DebuggingView, debugging, debugging_view}
 
@@ -42,20 +42,20 @@ module _ {M State : Type 0} (state : M → State) (m : Meaning State) where
     NoRoom : TellsOnErr out_of_memory exits.memory old new status → IsDebugged bound micro program input old new status
     -- the lines of the console were done and none after them was asked for; then the place where the session stands was reported
     Left : (l : Loaded) (first : SessionView M) (lines : List (List ℕ)) (last : Place (DebuggingView M)) →
-        IsStart bound micro l program first → Gone (debugging state m) lines (place (debugging_view first input) old) last →
+        IsStart bound micro l program first → AreDone (debugging state m) lines (place (debugging_view first input) old) last →
         IfSome old.console.left (λ bytes.
         IsReadOut (is_quit program.map.stack_end) most_lines bytes lines new.console.left) →
         new.console.faults ≡ old.console.faults →
         TellsOnErr (report_in last.session.session) exits.done last.seen new status → IsDebugged bound micro program input old new status
     -- the console failed: the place where the session stands was reported after the whole lines before that
     Cut : (l : Loaded) (first : SessionView M) (lines : List (List ℕ)) (last : Place (DebuggingView M)) →
-        IsStart bound micro l program first → Gone (debugging state m) lines (place (debugging_view first input) old) last →
+        IsStart bound micro l program first → AreDone (debugging state m) lines (place (debugging_view first input) old) last →
         IfSome old.console.left (λ bytes. IsCutIn (is_quit program.map.stack_end) most_lines bytes lines new.console.left) →
         Rose old.console.faults new.console.faults →
         TellsOnErr (report_in last.session.session) exits.console last.seen new status → IsDebugged bound micro program input old new status
     -- `out` or `err` failed in the line after these
     Stopped : (l : Loaded) (first : SessionView M) (lines : List (List ℕ)) (line : List ℕ) (mid : Place (DebuggingView M)) →
-        IsStart bound micro l program first → Gone (debugging state m) lines (place (debugging_view first input) old) mid →
+        IsStart bound micro l program first → AreDone (debugging state m) lines (place (debugging_view first input) old) mid →
         IfSome old.console.left (λ bytes. IsNext (is_quit program.map.stack_end) most_lines bytes lines line) →
         IsCutShort (debugging state m) line mid new → new.console.faults ≡ old.console.faults → status ≡ exits.sink →
         IsDebugged bound micro program input old new status

@@ -1,5 +1,5 @@
 -- Lines that are done one after the other.
-use Rattle.std.proofs.Common.{◌≡◌, ◌≢◌, ◌<◌, ◌+◌, ◌-◌, ◌∙◌, ℕ, zero, suc, Bool, true, false, List, [], ◌∷◌, ◌++◌, length, Option, Some, None, refl, sym, ap, subst, append_assoc, arith}
+use Rattle.std.proofs.Common.{◌≡◌, ◌≢◌, ◌<◌, ◌≤◌, ◌+◌, ◌-◌, ◌∙◌, ℕ, zero, suc, Bool, true, false, List, [], ◌∷◌, ◌++◌, length, Option, Some, None, refl, sym, ap, subst, append_assoc, arith}
 use Rattle.std.specs.Prelude.{if◌then◌else◌, IfSome, Ok}
 use Rattle.std.specs.Option.{option_map}
 use Rattle.std.proofs.lemmas.List.{append-nil, length-append}
@@ -12,7 +12,7 @@ use Rattle.cli_session.specs.declared.lines.Step.{Step}
 use Rattle.cli_session.specs.declared.lines.Step.TheVariants as steps
 use Rattle.cli_session.specs.Told.{IsCutLine, IsFirstLine, ReadsLineOf, behind_line, line_in}
 use Rattle.cli_session.specs.Lines.{IsReadOn, IsReadOut, MayGoOn, left_after, lines_of}
-use Rattle.cli_session.specs.Meaning.{DoesAll, Gone, IsCutShort, Place, SessionMeaning}
+use Rattle.cli_session.specs.Meaning.{AreDone, AtOnce, DoesAll, Gone, IsCutShort, Place, SessionMeaning, Then}
 use Rattle.cli_session.specs.Goes.{ConsoleFailed, Goes, On, Over, SinkFailed, step_behind}
 
 -- ---- what is printed
@@ -174,22 +174,29 @@ module _ {Seen Rules Stand : Type 0} {m : SessionMeaning Seen Rules Stand} where
         err = rest.err ∙ first.err;
       }
 
+  done_more : (lines more : List (List ℕ)) (old mid new : Place Seen) → AreDone m lines old mid → AreDone m more mid new → AreDone m (lines ++ more) old new
+  done_more lines more old mid new first rest =
+      record { whole = gone_more lines more old mid new first.whole rest.whole; each = Then lines more old mid new first.each rest.each }
+
+  at_once : {lines : List (List ℕ)} {old new : Place Seen} → length lines ≤ 1 → Gone m lines old new → AreDone m lines old new
+  at_once {lines = lines} {old = old} {new = new} few done = record { whole = done; each = AtOnce lines old new few done }
+
   -- ---- how it goes on
 
   pub goes_start : (most : ℕ) {p : Place Seen} → m.waiting p.session ≡ [] → Goes m most most p p steps.On
-  goes_start most {p = p} none = On [] (gone_none refl refl refl refl none) refl (here p.seen.console.left)
+  goes_start most {p = p} none = On [] (at_once (omega arith) (gone_none refl refl refl refl none)) refl (here p.seen.console.left)
     where
       here : (left : Option (List ℕ)) → IfSome left (λ bytes. (rest : List ℕ) × (left ≡ Some rest) × IsReadOn (m.quits p.session) most most bytes [] rest)
       here None = tt
       here (Some bytes) = (bytes, refl, record { open_end = opened (m.quits p.session) most; whole = refl; rest_is = refl })
 
-  go_on : (most n : ℕ) (old mid new : Place Seen) (step : Step) (lines : List (List ℕ)) → Gone m lines old mid → mid.seen.console.faults ≡ old.seen.console.faults →
+  go_on : (most n : ℕ) (old mid new : Place Seen) (step : Step) (lines : List (List ℕ)) → AreDone m lines old mid → mid.seen.console.faults ≡ old.seen.console.faults →
       IfSome old.seen.console.left (λ bytes. (rest : List ℕ) × (mid.seen.console.left ≡ Some rest) × IsReadOn (m.quits old.session) most (suc n) bytes lines rest) →
       Goes m (suc n) n mid new step → Goes m most n old new step
   go_on most n old mid new step lines done quiet told (On more done' quiet' told') =
       let quits = m.quits old.session in
-      let same : m.quits mid.session ≡ quits = done.quits in
-      On (lines ++ more) (gone_more lines more old mid new done done') (quiet' ∙ quiet)
+      let same : m.quits mid.session ≡ quits = done.whole.quits in
+      On (lines ++ more) (done_more lines more old mid new done done') (quiet' ∙ quiet)
       (then_told old.seen.console.left mid.seen.console.left (λ bytes rest. IsReadOn quits most (suc n) bytes lines rest) _ _ told told'
       (λ bytes rest e q. (
         q.0,
@@ -203,16 +210,16 @@ module _ {Seen Rules Stand : Type 0} {m : SessionMeaning Seen Rules Stand} where
       )))
   go_on most n old mid new step lines done quiet told (Over more done' quiet' told') =
       let quits = m.quits old.session in
-      let same : m.quits mid.session ≡ quits = done.quits in
-      Over (lines ++ more) (gone_more lines more old mid new done done') (quiet' ∙ quiet)
+      let same : m.quits mid.session ≡ quits = done.whole.quits in
+      Over (lines ++ more) (done_more lines more old mid new done done') (quiet' ∙ quiet)
       (then_told old.seen.console.left mid.seen.console.left (λ bytes rest. IsReadOn quits most (suc n) bytes lines rest) _ _ told told'
       (λ bytes rest e q.
       let later : IsReadOut quits (suc n) rest more new.seen.console.left = subst (λ (k : List ℕ → Bool). IsReadOut k (suc n) rest more new.seen.console.left) same q in
       record { whole = ap (λ (x : List (List ℕ)). lines ++ x) later.whole ∙ sym e.whole; left_is = later.left_is ∙ ap Some (sym e.rest_is) }))
   go_on most n old mid new step lines done quiet told (ConsoleFailed more done' rose told') =
       let quits = m.quits old.session in
-      let same : m.quits mid.session ≡ quits = done.quits in
-      ConsoleFailed (lines ++ more) (gone_more lines more old mid new done done') (subst (λ (k : ℕ). Rose k new.seen.console.faults) quiet rose)
+      let same : m.quits mid.session ≡ quits = done.whole.quits in
+      ConsoleFailed (lines ++ more) (done_more lines more old mid new done done') (subst (λ (k : ℕ). Rose k new.seen.console.faults) quiet rose)
       (then_told old.seen.console.left mid.seen.console.left (λ bytes rest. IsReadOn quits most (suc n) bytes lines rest) _ _ told told'
       (λ bytes rest e q. record {
         before = q.before;
@@ -228,8 +235,8 @@ module _ {Seen Rules Stand : Type 0} {m : SessionMeaning Seen Rules Stand} where
       }))
   go_on most n old mid new step lines done quiet told (SinkFailed more line at done' quiet' told' cut) =
       let quits = m.quits old.session in
-      let same : m.quits mid.session ≡ quits = done.quits in
-      SinkFailed (lines ++ more) line at (gone_more lines more old mid at done done') (quiet' ∙ quiet)
+      let same : m.quits mid.session ≡ quits = done.whole.quits in
+      SinkFailed (lines ++ more) line at (done_more lines more old mid at done done') (quiet' ∙ quiet)
       (then_told old.seen.console.left mid.seen.console.left (λ bytes rest. IsReadOn quits most (suc n) bytes lines rest) _ _ told told'
       (λ bytes rest e q. (
         q.0,
@@ -251,7 +258,7 @@ module _ {Seen Rules Stand : Type 0} {m : SessionMeaning Seen Rules Stand} where
   pub goes_nowhere : (n : ℕ) {old new : Place Seen} → Gone m [] old new → new.seen.console.faults ≡ old.seen.console.faults →
       IfSome old.seen.console.left (λ told. (told ≡ []) × (new.seen.console.left ≡ Some [])) → Goes m (suc n) n old new steps.Over
   goes_nowhere n {old = old} {new = new} done quiet told =
-      Over [] done quiet
+      Over [] (at_once (omega arith) done) quiet
       (told_as old.seen.console.left _ _ told
       (λ bytes e. record {
         whole = ap (lines_of (m.quits old.session) (suc n)) (sym e.0);
@@ -262,7 +269,7 @@ module _ {Seen Rules Stand : Type 0} {m : SessionMeaning Seen Rules Stand} where
   pub goes_cut : (n : ℕ) {old new : Place Seen} (line : List ℕ) → Gone m [] old new → Rose old.seen.console.faults new.seen.console.faults →
       IfSome old.seen.console.left (λ told. IsCutLine told line new.seen.console.left) → Goes m (suc n) n old new steps.ConsoleFailed
   goes_cut n {old = old} {new = new} line done rose told =
-      ConsoleFailed [] done rose
+      ConsoleFailed [] (at_once (omega arith) done) rose
       (told_as old.seen.console.left _ _ told
       (λ bytes cut. record {
         before = suc n;
@@ -281,7 +288,7 @@ module _ {Seen Rules Stand : Type 0} {m : SessionMeaning Seen Rules Stand} where
       new.seen.console.faults ≡ old.seen.console.faults → IfSome old.seen.console.left (λ told. ReadsLineOf {E = E} told line (Ok read) new.seen.console.left) →
       IsCutShort m line mid new.seen → Goes m (suc n) n old new steps.SinkFailed
   goes_wrong E n {old = old} {mid = mid} {new = new} line read other done quiet told cut =
-      SinkFailed [] line mid done quiet (told_as old.seen.console.left _ _ told (λ bytes q. (_, by read other bytes q))) cut
+      SinkFailed [] line mid (at_once (omega arith) done) quiet (told_as old.seen.console.left _ _ told (λ bytes q. (_, by read other bytes q))) cut
     where
       first_is : (bytes : List ℕ) → IsFirstLine bytes line new.seen.console.left →
           lines_of (m.quits old.session) (suc n) bytes ≡ line ∷ (if m.quits old.session line then [] else lines_of (m.quits old.session) n (behind_line 256 bytes))
@@ -298,15 +305,15 @@ module _ {Seen Rules Stand : Type 0} {m : SessionMeaning Seen Rules Stand} where
       Gone m (line ∷ []) old new → new.seen.console.faults ≡ old.seen.console.faults →
       IfSome old.seen.console.left (λ told. ReadsLineOf {E = E} told line (Ok read) new.seen.console.left) → Goes m (suc n) n old new (step_behind read stops)
   goes_one E n {old = old} {new = new} line reads.Line true is other done quiet told =
-      Over (line ∷ []) done quiet (told_as old.seen.console.left _ _ told (λ bytes first. quit_at (m.quits old.session) n bytes line new.seen.console.left (sym is) first))
+      Over (line ∷ []) (at_once (omega arith) done) quiet (told_as old.seen.console.left _ _ told (λ bytes first. quit_at (m.quits old.session) n bytes line new.seen.console.left (sym is) first))
   goes_one E n {old = old} {new = new} line reads.Last true is other done quiet told =
-      Over (line ∷ []) done quiet (told_as old.seen.console.left _ _ told (λ bytes first. quit_at (m.quits old.session) n bytes line new.seen.console.left (sym is) first.0))
+      Over (line ∷ []) (at_once (omega arith) done) quiet (told_as old.seen.console.left _ _ told (λ bytes first. quit_at (m.quits old.session) n bytes line new.seen.console.left (sym is) first.0))
   goes_one E n {old = old} {new = new} line reads.Line false is other done quiet told =
-      On (line ∷ []) done quiet
+      On (line ∷ []) (at_once (omega arith) done) quiet
       (told_as old.seen.console.left _ _ told
       (λ bytes first. (behind_line 256 bytes, first.rest, on_at (m.quits old.session) n bytes line new.seen.console.left (sym is) first)))
   goes_one E n {old = old} {new = new} line reads.Last false is other done quiet told =
-      Over (line ∷ []) done quiet
+      Over (line ∷ []) (at_once (omega arith) done) quiet
       (told_as old.seen.console.left _ _ told (λ bytes first. last_at (m.quits old.session) n bytes line new.seen.console.left (sym is) first.0 first.1))
   goes_one E n {old = old} {new = new} line reads.Nothing stops is other done quiet told = absurd (other refl)
 
@@ -314,7 +321,7 @@ module _ {Seen Rules Stand : Type 0} {m : SessionMeaning Seen Rules Stand} where
 
   -- nothing waits for `out` where a session goes on
   pub kept_on : (most n : ℕ) (old new : Place Seen) (step : Step) → step ≡ steps.On → Goes m most n old new step → m.waiting new.session ≡ []
-  kept_on most n old new step e (On lines done quiet told) = done.waiting
+  kept_on most n old new step e (On lines done quiet told) = done.whole.waiting
   kept_on most n old new step e _ = absurd (cc)
 
   -- where a session does not go on, it does not matter how many lines might have followed

@@ -7,7 +7,7 @@ use Rattle.cli_session.specs.declared.line.Read.TheVariants as reads
 use Rattle.cli_session.specs.declared.lines.Step.{Step}
 use Rattle.cli_session.specs.declared.lines.Step.TheVariants as steps
 use Rattle.cli_session.specs.Lines.{IsCutIn, IsNext, IsReadOn, IsReadOut}
-use Rattle.cli_session.specs.Meaning.{Gone, IsCutShort, Place, SessionMeaning, place}
+use Rattle.cli_session.specs.Meaning.{AreDone, IsCutShort, Place, SessionMeaning, place}
 
 abbrev pub step_of : Read → Step
 step_of reads.Line = steps.On
@@ -22,17 +22,17 @@ step_behind read false = step_of read
 module _ {Seen Rules Stand : Type 0} (m : SessionMeaning Seen Rules Stand) where
   -- the lines by which a session comes to a place, of at most `most`, where at most `more` may follow
   pub data Goes (most more : ℕ) (old new : Place Seen) : Step → Type 0 where
-    On : (lines : List (List ℕ)) → Gone m lines old new → new.seen.console.faults ≡ old.seen.console.faults →
+    On : (lines : List (List ℕ)) → AreDone m lines old new → new.seen.console.faults ≡ old.seen.console.faults →
         IfSome old.seen.console.left (λ bytes. (rest : List ℕ) × (new.seen.console.left ≡ Some rest)
         × IsReadOn (m.quits old.session) most more bytes lines rest) → Goes most more old new steps.On
-    Over : (lines : List (List ℕ)) → Gone m lines old new → new.seen.console.faults ≡ old.seen.console.faults →
+    Over : (lines : List (List ℕ)) → AreDone m lines old new → new.seen.console.faults ≡ old.seen.console.faults →
         IfSome old.seen.console.left (λ bytes. IsReadOut (m.quits old.session) most bytes lines new.seen.console.left) →
         Goes most more old new steps.Over
-    ConsoleFailed : (lines : List (List ℕ)) → Gone m lines old new → Rose old.seen.console.faults new.seen.console.faults →
+    ConsoleFailed : (lines : List (List ℕ)) → AreDone m lines old new → Rose old.seen.console.faults new.seen.console.faults →
         IfSome old.seen.console.left (λ bytes. IsCutIn (m.quits old.session) most bytes lines new.seen.console.left) →
         Goes most more old new steps.ConsoleFailed
     -- a sink failed in the line after these
-    SinkFailed : (lines : List (List ℕ)) (line : List ℕ) (mid : Place Seen) → Gone m lines old mid →
+    SinkFailed : (lines : List (List ℕ)) (line : List ℕ) (mid : Place Seen) → AreDone m lines old mid →
         new.seen.console.faults ≡ old.seen.console.faults →
         IfSome old.seen.console.left (λ bytes. IsNext (m.quits old.session) most bytes lines line) →
         IsCutShort m line mid new.seen → Goes most more old new steps.SinkFailed

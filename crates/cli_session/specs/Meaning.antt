@@ -1,5 +1,5 @@
 -- What the lines of a session do: where they lead it, one after the other, and what a failing sink leaves.
-use Rattle.std.specs.Prelude.{◌≡◌, ◌⊎◌, ℕ, suc, Bool, List, [], ◌∷◌, ◌++◌, Option, IfSome}
+use Rattle.std.specs.Prelude.{◌≡◌, ◌≤◌, ◌⊎◌, ℕ, suc, Bool, List, [], ◌∷◌, ◌++◌, length, Option, IfSome}
 use Rattle.mic_base.specs.Causes.{Rose}
 use Rattle.mic_base.specs.Streams.{KeepsFront}
 use Rattle.console_port.specs.Console.{StaysFlushed}
@@ -70,6 +70,17 @@ module _ {Seen Rules Stand : Type 0} (m : SessionMeaning Seen Rules Stand) where
     pub files : new.seen.files ≡ old.seen.files
     pub out : new.seen.out.faults ≡ old.seen.out.faults
     pub err : new.seen.err.faults ≡ old.seen.err.faults
+
+  -- lines one by one: at most one, or some and then the others, so that between any two both sinks have passed on all that they hold
+  pub data OneByOne : List (List ℕ) → Place Seen → Place Seen → Type 0 where
+    AtOnce : (lines : List (List ℕ)) (old new : Place Seen) → length lines ≤ 1 → Gone lines old new → OneByOne lines old new
+    Then : (first others : List (List ℕ)) (old mid new : Place Seen) → OneByOne first old mid → OneByOne others mid new →
+        OneByOne (first ++ others) old new
+
+  -- these lines were done
+  pub record AreDone (lines : List (List ℕ)) (old new : Place Seen) : Type 0 where
+    pub whole : Gone lines old new
+    pub each : OneByOne lines old new
 
   -- `out` or `err` failed in this line: both hold all that they held before it, and then fronts of what it gives and prints
   pub record IsCutShort (line : List ℕ) (old : Place Seen) (new : OutsideView) : Type 0 where
