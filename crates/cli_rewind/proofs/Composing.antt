@@ -65,6 +65,7 @@ module _ {State : Type 0} (m : Meaning State) (words : List ℕ) where
         mid = q.mid;
         gone = gone;
         few = below;
+        uses = q.uses;
         out = q.out;
         whole = cut_whole m words (a + q.made) n s q.mid held gone below q.out;
       }

@@ -3,8 +3,8 @@ use Rattle.std.proofs.Common.{◌≡◌, ◌≢◌, ◌≤◌, ◌⊎◌, inl, i
 use Rattle.console_port.specs.declared.fault.BusFault.TheVariants as faults
 use Rattle.mic_clock.specs.declared.end.End.{End}
 use Rattle.mic_clock.specs.declared.end.End.TheVariants as ends
-use Rattle.mic_clock.specs.Meaning.{Meaning}
-use Rattle.mic_clock.specs.Run.{MicroRun, turn}
+use Rattle.mic_clock.specs.Meaning.{Meaning, UsesConsole}
+use Rattle.mic_clock.specs.Run.{MicroRun, turn, word_at}
 use Rattle.mic_clock.specs.View.{BoardView}
 use Rattle.micro_word.specs.ControlStore.{ControlStore}
 use Rattle.mic_clock.specs.Board.{IsCutByFault, IsTurned, NoFault, ShowsRun}
@@ -285,7 +285,8 @@ module _ {M State : Type 0} (state : M → State) (m : Meaning State) (left left
       (s : Stand State) → StandsAt state m (Some left) held v s → IsCutForward m words 1 s held'
   step_cuts none cut fault s here =
       let shown = subst (λ (o : Option End). ShowsRun state (Some left) held v.board (shown_run m words s o)) none here.run in
-      let lost = (cut faults.WriteFault none tt fault).world.lost refl in
+      let at = cut faults.WriteFault none tt fault in
+      let lost = at.world.lost refl in
       let front : IsFrontOf held' (run_at m words s.start s.clocked).world.given =
       front_lost held held' v.board.bus.console.kept v'.board.bus.console.kept (run_at m words s.start s.clocked).world.given lost shown.world.given in
       record {
@@ -293,6 +294,9 @@ module _ {M State : Type 0} (state : M → State) (m : Meaning State) (left left
         mid = s;
         gone = goes_nowhere s here;
         few = omega arith;
+        uses =
+            subst (λ (x : State). UsesConsole m (word_at m words x) x (run_at m words s.start s.clocked).world) (sym shown.its_state)
+            (at.uses refl (run_at m words s.start s.clocked).world shown.world);
         out = front;
         whole = cut_whole m words 0 1 s s held' (goes_nowhere s here) (omega arith) front;
       }

@@ -38,6 +38,8 @@ module _ {M State : Type 0} (state : M → State) (m : Meaning State) where
     pub reset : IsFirstBoard state m micro l program d.rewind.board
     pub depth_is : d.rewind.history.depth ≡ depth
     pub memory : d.memory ≡ program.map.stack_end
+    -- whatever is left and held, it shows a world, so there is such a stand
+    pub shown : (left held : Option (List ℕ)) → (w : World) × Shows left held d.rewind.board.bus w
     pub stands : (left held : Option (List ℕ)) (w : World) → Shows left held d.rewind.board.bus w →
         StandsAt state m left held d.rewind (at_reset (reset_run m l.entry program.main_locals w))
 

@@ -1,8 +1,8 @@
 -- Where a session stands, and what a line does there: the definition of rewinding.
 use Rattle.std.specs.Prelude.{◌≡◌, ◌<◌, ◌≤◌, ℕ, zero, suc, ◌+◌, ◌-◌, min, max, nat_le, List, [], ◌∷◌, Option, Some, None, Result, Ok, Err}
 use Rattle.mic_clock.specs.declared.end.End.{End}
-use Rattle.mic_clock.specs.Meaning.{Meaning}
-use Rattle.mic_clock.specs.Run.{MicroRun, turns}
+use Rattle.mic_clock.specs.Meaning.{Meaning, UsesConsole}
+use Rattle.mic_clock.specs.Run.{MicroRun, turns, word_at}
 use Rattle.mic_clock.specs.Board.{ShowsRun}
 use Rattle.mic_rewind.specs.States.{Snapshot}
 use Rattle.mic_rewind.specs.View.{HistoryView}
@@ -117,12 +117,13 @@ module _ {State : Type 0} (m : Meaning State) (words : List ℕ) where
 
   -- ---- what a failing sink leaves of a line
 
-  -- `out` failed in a cycle of n cycles forward: it holds a front of what was given before that, and so of what all give.
+  -- `out` failed in a cycle of n cycles forward, which uses the console: it holds a front of what was given before that, and so of what all give.
   pub record IsCutForward (n : ℕ) (s : Stand State) (held : Option (List ℕ)) : Type 0 where
     pub made : ℕ
     pub mid : Stand State
     pub gone : GoesForward made None s mid
     pub few : made < n
+    pub uses : UsesConsole m (word_at m words (run_at mid.start mid.clocked).state) (run_at mid.start mid.clocked).state (run_at mid.start mid.clocked).world
     pub out : IsFrontOf held (run_at mid.start mid.clocked).world.given
     pub whole : OnlyGives m → (end : Option End) (s' : Stand State) → GoesForward n end s s' →
         IsFrontOf held (run_at s'.start s'.clocked).world.given
