@@ -1,0 +1,4 @@
+pub mod Called
+pub mod Given
+pub mod Seen
+pub mod Written

@@ -1,0 +1,96 @@
+//! The outside of a call, in memory: files, a console and two sinks.
+
+ghost use Rattle.std.specs.Prelude.{◌≡◌, ◌≢◌, Err, [], map, string_bytes, All, IfOk, IsErrOf};
+ghost use Rattle.mic_base.specs.Memory.{sink_bytes, sink_faults, sink_passed};
+ghost use Rattle.cli_words.specs.Words.{request_of};
+ghost use Rattle.cli_call.specs.CallEnds.{CallEnds};
+ghost use Rattle.cli_call.specs.Answers.{IsAnswer};
+ghost use Rattle.mic_web.specs.Called.{Filled, IsGiven};
+ghost use Rattle.mic_web.specs.Given.{IsFileAt, file_given};
+ghost use Rattle.mic_web.specs.Seen.{noted_contents, noted_faults, seen};
+
+use crate::failing::Failing;
+use crate::given::{FileSpans, NotMade, bytes_of, text_of};
+use crate::noted::NotedFiles;
+use cli_call::mic_main;
+use cli_outside::Status;
+use mic_base::{MemSink, MemSource};
+use std::alloc::Global;
+
+#[derive(Drop)]
+pub(crate) struct PageOutside {
+    pub(crate) files: NotedFiles,
+    pub(crate) console: MemSource,
+    pub(crate) out: MemSink,
+    pub(crate) err: MemSink,
+}
+
+/// The files that lie there.
+fn files_of(
+    alloc: Global,
+    given: &[u8],
+    spans: &[FileSpans],
+    failing: &[u64],
+) -> Result<NotedFiles, NotMade>
+    ensures filled { IfOk result (λ files. Filled (map (file_given given.now) spans.now) (noted_contents files)) }
+    ensures faults { IfOk result (λ files. noted_faults files ≡ 0) }
+    ensures no_call { IsErrOf result NotMade.NoCall → ¬ (All (IsFileAt given.now) spans.now) }
+{
+    let mut files = NotedFiles::new(alloc, Vec::from_slice(alloc, failing)?);
+    for span in spans {
+        let name = text_of(given, span.name)?;
+        let contents = bytes_of(given, span.contents)?;
+        files.add(name, contents)?;
+    }
+    Ok(files)
+}
+
+/// A sink for as many bytes as the page has room for. It takes at most 4 GiB.
+fn sink_for(alloc: Global, room: usize, failing: &[u64]) -> Result<MemSink, NotMade>
+    ensures bytes { IfOk result (λ sink. sink_bytes sink ≡ []) }
+    ensures passed { IfOk result (λ sink. sink_passed sink ≡ []) }
+    ensures faults { IfOk result (λ sink. sink_faults sink ≡ 0) }
+    ensures made { result ≢ Err NotMade.NoCall }
+{
+    let room = u32::try_from(room).unwrap_or(u32::MAX);
+    Ok(MemSink::new(alloc, room, Vec::from_slice(alloc, failing)?)?)
+}
+
+impl PageOutside {
+    /// The outside that is given.
+    pub(crate) fn new(
+        alloc: Global,
+        given: &[u8],
+        files: &[FileSpans],
+        console: &[u8],
+        failing: Failing<'_>,
+        out_room: usize,
+        err_room: usize,
+    ) -> Result<PageOutside, NotMade>
+        ensures given { IfOk result (λ outside. IsGiven given.now files.now console.now (seen outside)) }
+        ensures no_call { IsErrOf result NotMade.NoCall → ¬ (All (IsFileAt given.now) files.now) }
+    {
+        let bytes = Vec::from_slice(alloc, console)?;
+        Ok(PageOutside {
+            files: files_of(alloc, given, files, failing.files)?,
+            console: MemSource::new(bytes, Vec::from_slice(alloc, failing.console)?),
+            out: sink_for(alloc, out_room, failing.out)?,
+            err: sink_for(alloc, err_room, failing.err)?,
+        })
+    }
+
+    /// Makes the call.
+    pub(crate) fn call(&mut self, alloc: Global, words: &[String]) -> Status
+        ensures ends { CallEnds (request_of (map string_bytes words.now)) (seen self.old) (seen self.new) result.0 }
+        ensures answer { IsAnswer (request_of (map string_bytes words.now)) (seen self.old) (seen self.new) result.0 }
+    {
+        mic_main(
+            alloc,
+            words,
+            &mut self.files,
+            &mut self.console,
+            &mut self.out,
+            &mut self.err,
+        )
+    }
+}
