@@ -1,0 +1,1 @@
+"""Grading: submissions run over the cases of an exercise."""
