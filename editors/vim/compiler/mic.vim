@@ -6,12 +6,15 @@ let current_compiler = "mic"
 
 " A microprogram for Mic-2 needs:  :let b:mic_machine = 'mic2' | compiler mic
 let s:machine = exists("b:mic_machine") ? '\ --machine\ ' . b:mic_machine : ''
-if &filetype ==# 'mal'
+" mic-where prints FILE:LINE: for the verifier's messages too
+if executable('mic-where')
+  execute 'CompilerSet makeprg=mic-where' . s:machine . '\ --\ %:S'
+elseif &filetype ==# 'mal'
   execute 'CompilerSet makeprg=mic\ micro' . s:machine . '\ --\ %:S\ /dev/null'
 elseif &filetype ==# 'tiny'
   CompilerSet makeprg=mic\ compile\ --\ %:S\ /dev/null
 else
   CompilerSet makeprg=mic\ verify\ --\ %:S
 endif
-CompilerSet errorformat=mic:\ %f:%l:\ %m,mic:\ %f:\ %m,%-G%.%#
+CompilerSet errorformat=mic:\ %f:%l:\ %m,mic:\ %f:\ %m,%f:%l:\ %m,%-G%.%#
 unlet s:machine
