@@ -1,88 +1,116 @@
 #!/bin/sh
-# package.sh [VERSION]: makes of the proved mic, in the folder out/, a tarball and a Debian package of what install.sh
-# installs. VERSION is the last commit's day and name where none is given. The same sources give the same two files.
+# package.sh [--released] [VERSION]: makes in the folder out/ a tarball and a Debian package of what install.sh installs,
+# with the documents as HTML too. The program is the proved one, or with --released that of release/. VERSION is the
+# day and the name of its commit where none is given. The same sources give the same two files.
+# Needs git, binutils, cmark-gfm, dpkg and Python 3.9.
 set -eu
 umask 022
-if [ $# -gt 1 ]; then
-    echo "usage: ./package.sh [VERSION]" >&2
-    exit 64
+released=
+if [ "${1-}" = --released ]; then
+    released=$1
+    shift
 fi
 cd "$(dirname "$0")"
-version=${1-$(git log -1 --date=format:%Y%m%d --format=%cd+git%h)}
+
+refuse() { # TEXT [STATUS]
+    echo "package.sh: $1" >&2
+    exit "${2-1}"
+}
+usage="usage: ./package.sh [--released] [VERSION]"
+[ $# -le 1 ] || refuse "$usage" 64
+for command in readelf objdump cmark-gfm dpkg-deb python3; do
+    command -v $command >/dev/null || refuse "there is no command $command: it needs binutils, cmark-gfm, dpkg and python3"
+done
+if [ -n "$released" ]; then
+    program=$(scripts/released-program) || exit 1
+    about=$(cat release/VERSION)
+else
+    program=$(scripts/proved-program) || exit 1
+    about=$(scripts/version)
+fi
+said() { echo "$about" | sed -n "s/^$1 //p"; }
+version=${1-$(said day | tr -d -)+git$(said commit | cut -c 1-8)}
 case $version in
-[0-9]*) ;;
-*)
-    echo "usage: ./package.sh [VERSION] (a version begins with a digit)" >&2
-    exit 64
-    ;;
+[!0-9]* | '') refuse "$usage (a version begins with a digit)" 64 ;;
+*[!A-Za-z0-9.+~]*) refuse "a version has letters, digits and . + ~ alone: $version" 64 ;;
 esac
-case $version in
-*[!A-Za-z0-9.+~]*)
-    echo "package.sh: a version has letters, digits and . + ~ alone: $version" >&2
-    exit 64
-    ;;
-esac
-program=$(scripts/proved-program) || exit 1
 
 needs=$(scripts/needs "$program")
 need() { echo "$needs" | sed -n "s/^$1 //p"; }
 glibc=$(need glibc)
 processor=$(need processor)
-if [ "$(need library)" != libc.so.6 ] || [ "$(need loader)" != /lib64/ld-linux-x86-64.so.2 ]; then
-    echo "package.sh: the program needs more than the C library of x86-64:" >&2
-    echo "$needs" >&2
-    exit 1
-fi
-for said in "glibc $glibc" "$processor"; do
-    grep -q "$said[^0-9.]" README.md || {
-        echo "package.sh: the program needs $said, and README.md does not say so" >&2
-        exit 1
-    }
+case $(need loader):$(need library | paste -sd , -) in
+/lib64/ld-linux-x86-64.so.2:libc.so.6) system=x86_64 architecture=amd64 ;;
+/lib/ld-linux-aarch64.so.1:libc.so.6 | /lib/ld-linux-aarch64.so.1:libc.so.6,ld-linux-aarch64.so.1) system=arm64 architecture=arm64 ;;
+*) refuse "the program needs more than the C library of x86-64 or arm64:
+$needs" ;;
+esac
+for phrase in "glibc $glibc" "$processor"; do
+    grep -q "${phrase}[^0-9.]" README.md || refuse "the program needs $phrase, and README.md does not say so"
 done
 
-SOURCE_DATE_EPOCH=${SOURCE_DATE_EPOCH-$(git log -1 --format=%ct)}
+SOURCE_DATE_EPOCH=${SOURCE_DATE_EPOCH-$(date -u -d "$(said day)" +%s)}
 export SOURCE_DATE_EPOCH
 stage=$(mktemp -d)
 trap 'rm -rf "$stage"' EXIT
-name=mic-$version-linux-x86_64
+name=mic-$version-linux-$system
 mkdir -p out
 same() { # FOLDER: what the day of packing would make differ
     find "$1" -exec touch -h -d "@$SOURCE_DATE_EPOCH" {} +
 }
 
 # the tarball: one folder, to be unpacked over a prefix
-./install.sh "$stage/$name" >/dev/null
+# shellcheck disable=SC2086 # no word at all where it is empty
+./install.sh $released "$stage/$name" >"$stage/installed" 2>&1 || refuse "$(cat "$stage/installed")"
+scripts/html-documents "$stage/$name/share/mic"
+(cd "$stage/$name" && find . ! -type d | sed 's,^\./,,' | LC_ALL=C sort >"$stage/installed")
+mv "$stage/installed" "$stage/$name/share/mic/installed.txt"
 same "$stage/$name"
 tar --sort=name --owner=0 --group=0 --numeric-owner --format=gnu -C "$stage" -cf - "$name" | gzip -9n >"out/$name.tar.gz"
 
 # the Debian package
 deb=$stage/deb
+share=$deb/usr/share
 mkdir -p "$deb/DEBIAN"
 cp -r "$stage/$name" "$deb/usr"
-gzip -9n "$deb/usr/share/man/man1/mic.1"
-mv "$deb/usr/share/doc/mic/LICENSE" "$deb/usr/share/doc/mic/copyright"
-ln -s copyright "$deb/usr/share/doc/mic/LICENSE"
+rm "$share/mic/installed.txt" # dpkg knows what it installed
+gzip -9n "$share"/man/man1/*.1
+mv "$share/zsh/site-functions" "$share/zsh/vendor-completions" # where Debian's zsh looks
+mkdir -p "$share/doc/mic" "$share/lintian/overrides"
+ln -s ../../mic "$share/doc/mic/manual"
+cp "$share/mic/LICENSE" "$share/doc/mic/copyright"
+maintainer="Hepnayog maintainers <maintainers@users.noreply.hepnayog.example>"
+gzip -9n >"$share/doc/mic/changelog.gz" <<END
+mic ($version) unstable; urgency=medium
+
+  * Made of commit $(said commit).
+
+ -- $maintainer  $(LC_ALL=C date -u -d "@$SOURCE_DATE_EPOCH" '+%a, %d %b %Y %H:%M:%S +0000')
+END
+cat >"$share/lintian/overrides/mic" <<END
+# the very file that was proved is installed, so that one sum shows that it is this file
+mic: unstripped-binary-or-object [usr/bin/mic]
+END
 cat >"$deb/DEBIAN/control" <<END
 Package: mic
 Version: $version
-Architecture: amd64
-Maintainer: Hepnayog maintainers <maintainers@users.noreply.hepnayog.example>
+Architecture: $architecture
+Maintainer: $maintainer
 Section: education
 Priority: optional
 Depends: libc6 (>= $glibc)
 Recommends: python3 (>= 3.9)
 Suggests: rlwrap
-Installed-Size: $(du -sk "$deb/usr" | cut -f 1)
-X-Processor: $processor
-Description: Mic-1, Mic-2 and Mic-3, the machines of Tanenbaum's book
- mic assembles, links and verifies programs for the stack machine IJVM, compiles
+Installed-Size: $(du -sk --apparent-size "$deb/usr" | cut -f 1)
+Description: simulator of the machines of Tanenbaum's book, Mic-1, Mic-2 and Mic-3
+ It assembles, links and verifies programs for the stack machine IJVM, compiles
  programs in the small language Tiny, places microprograms written in MAL, and
  clocks the datapaths of Mic-1, Mic-2 and Mic-3 one cycle after another. It is
  proved to compute what the definition of IJVM says.
  .
- The documents, examples and exercises are in /usr/share/doc/mic, with scripts
- (in Python) that grade submissions and make waveforms of a run. mic needs a
- processor of the level $processor.
+ The documents, examples and exercises are in /usr/share/mic. Scripts in Python
+ (mic-grade, mic-waves and others) grade submissions and show what a run does.
+ mic needs a processor of the kind $processor.
 END
 flags=
 case $processor in
@@ -90,7 +118,7 @@ x86-64-v2) flags='cx16 lahf_lm popcnt pni ssse3 sse4_1 sse4_2' ;;
 x86-64-v3) flags='cx16 lahf_lm popcnt pni ssse3 sse4_1 sse4_2 abm avx avx2 bmi1 bmi2 f16c fma movbe' ;;
 x86-64-v4) flags='avx512f avx512bw avx512cd avx512dq avx512vl' ;;
 esac
-cat >"$deb/DEBIAN/preinst" <<END
+[ -z "$flags" ] || cat >"$deb/DEBIAN/preinst" <<END
 #!/bin/sh
 # refuses a processor on which mic would end by an illegal instruction
 set -e
@@ -106,11 +134,11 @@ for flag in $flags; do
     esac
 done
 END
-chmod 755 "$deb/DEBIAN/preinst"
+[ -z "$flags" ] || chmod 755 "$deb/DEBIAN/preinst"
 (cd "$deb" && find usr -type f | LC_ALL=C sort | xargs -d '\n' md5sum) >"$deb/DEBIAN/md5sums"
 same "$deb"
-dpkg-deb --root-owner-group -Zxz --build "$deb" "out/mic_${version}_amd64.deb" >/dev/null
+dpkg-deb --root-owner-group -Zxz --build "$deb" "out/mic_${version}_$architecture.deb" >/dev/null
 
 echo "$needs"
 echo "out/$name.tar.gz"
-echo "out/mic_${version}_amd64.deb"
+echo "out/mic_${version}_$architecture.deb"
