@@ -1,5 +1,5 @@
 -- Words in pages, through a new frame and a write.
-use Rattle.std.proofs.Common.{◌≡◌, ◌≢◌, ℕ, ◌+◌, ◌-◌, ◌*◌, ◌/◌, ◌%◌, ◌<◌, ◌≤◌, ◌++◌, ⊎_elim, cond, ltb, List, length, take, get_or, set, replicate, sym, ap, ◌∙◌, subst, arith}
+use Rattle.std.proofs.Common.{◌≡◌, ◌≢◌, ℕ, ◌+◌, ◌-◌, ◌*◌, ◌/◌, ◌%◌, ◌^◌, ◌<◌, ◌≤◌, ◌++◌, ⊎_elim, cond, ltb, List, length, take, get_or, set, replicate, sym, ap, ◌∙◌, subst, arith}
 use Rattle.std.specs.Int.{div_ceil}
 use Rattle.std.proofs.lemmas.List.{length-append, length-set, get_or_append_left, get_or-append-add, get_or-set_same, get_or-set_other, get_or_past, get_or-replicate, length-replicate, take_all, ext_get_or}
 use Rattle.std.proofs.lemmas.List.FromFn.{length-map-range_with_len, get_or-map-range_with_len}
@@ -16,6 +16,13 @@ length-words_of table frames size = length-map-range_with_len _ 0 size
 pub word_of_pages : (table frames : List ℕ) (size at : ℕ) → at < size → get_or (words_of table frames size) at 0 ≡ get_or frames (place_in_frames table at) 0
 unfolding words_of
 word_of_pages table frames size at h = get_or-map-range_with_len _ 0 size at at 0 h (omega arith)
+
+-- where the frames hold words, so does the memory
+pub words_of_frames : (table frames : List ℕ) (size : ℕ) → ((i : ℕ) → get_or frames i 0 < 2 ^ 32) → (at : ℕ) → get_or (words_of table frames size) at 0 < 2 ^ 32
+words_of_frames table frames size small at = ⊎_elim
+    (λ (h : at < size). omega (arith, word_of_pages table frames size at h, small (place_in_frames table at)))
+    (λ (h : size ≤ at). omega (arith, get_or_past (words_of table frames size) at 0 (omega (arith, length-words_of table frames size))))
+    (cases_lt at size)
 
 -- memories with the same words
 same_words : (table frames table' frames' : List ℕ) (size : ℕ) →

@@ -1,5 +1,5 @@
 -- A loaded image: its text in the memory from byte 0, and its pool from the map's address for it.
-use Rattle.std.specs.Prelude.{◌≡◌, ◌⊎◌, ℕ, ◌+◌, ◌*◌, ◌/◌, ◌<◌, ◌≤◌, List, length, slice_index}
+use Rattle.std.specs.Prelude.{◌≡◌, ◌⊎◌, ℕ, ◌+◌, ◌*◌, ◌/◌, ◌^◌, ◌<◌, ◌≤◌, List, length, slice_index}
 use Rattle.console_port.specs.declared.map.TheConstants.{POOL}
 use Rattle.console_port.specs.World.{byte_in}
 
@@ -16,8 +16,9 @@ text_word text at =
 abbrev pub StaysOutside : ℕ → ℕ → List ℕ → List ℕ → Type 0
 StaysOutside from to old new = (at : ℕ) → (at < from) ⊎ (to ≤ at) → slice_index new at ≡ slice_index old at
 
--- An image was loaded into a memory. The text's last word is filled up with zeros, and every other word stays.
+-- An image was loaded into a memory, whose words are below 2^32. The text's last word is filled up with zeros, and every other word stays.
 pub record IsLoaded (text pool old new : List ℕ) : Type 0 where
+  pub words : (at : ℕ) → slice_index new at < 2 ^ 32
   pub size : length new ≡ length old
   pub text_bytes : (byte : ℕ) → 4 * (byte / 4) < length text → byte_in new byte ≡ slice_index text byte
   pub pool_words : (k : ℕ) → k < length pool → slice_index new (POOL + k) ≡ slice_index pool k

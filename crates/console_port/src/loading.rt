@@ -58,4 +58,5 @@ pub fn write_image(memory: &mut Pages, text: &[u8], pool: &[u32])
 {
     write_text(memory, text);
     write_pool(memory, pool);
+    memory.holds_words();
 }

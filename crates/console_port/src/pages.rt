@@ -1,6 +1,6 @@
 //! The memory's words, kept in pages: a page gets a frame of its own when it is first written.
 
-ghost use Rattle.std.specs.Prelude.{◌≡◌, ◌≢◌, ◌+◌, ◌++◌, ◌<◌, ◌≤◌, ℕ, IfOk, IsTrue, ◌↔◌, length, replicate, slice_get, slice_index, slice_set};
+ghost use Rattle.std.specs.Prelude.{◌≡◌, ◌≢◌, ◌+◌, ◌^◌, ◌++◌, ◌<◌, ◌≤◌, ℕ, IfOk, IsTrue, ◌↔◌, length, replicate, slice_get, slice_index, slice_set};
 ghost use Rattle.std.specs.Vec.{vec_capacity};
 ghost use Rattle.console_port.specs.Pages.{ArePaged, empty_frame, HasRoom, KeepsWords};
 
@@ -75,6 +75,13 @@ impl Pages {
         }
     }
 
+    /// Each word is below 2^32, as its type has it.
+    pub fn holds_words(&self)
+        ensures { (at : ℕ) → slice_index self.now at < 2 ^ 32 }
+    {
+        are_words(&self.frames);
+    }
+
     /// Stores a word.
     pub fn set(&mut self, at: u32, value: u32)
         requires { at < length self.old }
@@ -85,6 +92,11 @@ impl Pages {
         self.frames[start + at % PAGE] = value;
     }
 }
+
+/// Each is below 2^32, as its type has it.
+fn are_words(words: &[u32])
+    ensures { (at : ℕ) → slice_index words.now at < 2 ^ 32 }
+{}
 
 /// Where the frame of a page begins. A page without one gets one.
 fn frame_of(table: &mut [usize], frames: &mut Vec<u32>, page: usize) -> usize

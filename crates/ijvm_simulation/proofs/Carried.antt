@@ -42,6 +42,7 @@ module _ (v : VerifiedView) (image : IsImage v.image) (accepted : IsAccepted v) 
       record {
         accepted = accepted;
         image = image;
+        words = loaded.words;
         bytes = λ b l. loaded.text_bytes b (omega arith);
         pool = loaded.pool_words;
         zeros = λ k l. loaded.others (0x8000 + k) (omega arith) (inr (omega arith)) ∙ zero_word v.map.stack_end (0x8000 + k);

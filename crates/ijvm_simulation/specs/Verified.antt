@@ -3,7 +3,7 @@ use Rattle.std.specs.Prelude.{◌≡◌, ℕ, ◌+◌, ◌<◌, [], length, slic
 use Rattle.console_port.specs.World.{byte_in}
 use Rattle.ijvm_instr.specs.declared.instr.Instr.{Instr}
 use Rattle.ijvm_image.specs.Image.{IsImage}
-use Rattle.ijvm_meaning.specs.Frames.{State, AreWords, start_of}
+use Rattle.ijvm_meaning.specs.Frames.{State, IsWord, AreWords, start_of}
 use Rattle.ijvm_meaning.specs.Cost.{Timing}
 use Rattle.ijvm_meaning.specs.Run.{TimedImage}
 use Rattle.ijvm_meaning.specs.Safe.{ComesTo}
@@ -16,10 +16,11 @@ use Rattle.ijvm_simulation.specs.Bytes.{Reads}
 abbrev pub program : Timing → VerifiedView → TimedImage
 program timing v = record { image = v.image; stack_end = v.map.stack_end; timing = timing }
 
--- a verified image stands in the memory that a run begins over, and main's locals are 0
+-- a verified image stands in the memory that a run begins over, each of whose words is below 2^32, and main's locals are 0
 pub record Loads (v : VerifiedView) (o : Origin) : Type 0 where
   pub accepted : IsAccepted v
   pub image : IsImage v.image
+  pub words : (at : ℕ) → IsWord (slice_index o.words at)
   pub bytes : (at : ℕ) → at < length v.image.text → byte_in o.words at ≡ slice_index v.image.text at
   pub pool : (k : ℕ) → k < length v.image.pool → slice_index o.words (0x4000 + k) ≡ slice_index v.image.pool k
   pub zeros : (k : ℕ) → k < v.main_locals → slice_index o.words (0x8000 + k) ≡ 0

@@ -7,6 +7,7 @@ returns c =
     let text_end = c.requires.text in
     let small : (i : ℕ) → slice_index c.args.text.now i < 256 = λ i. let fits = c.type_inv.text i in omega arith in
     record {
+      words = c.holds_words.ensures;
       size = c.write_pool.ensures.size ∙ c.write_text.ensures.size;
       text_bytes = λ byte h.
           let below : byte / 4 < 0x4000 = omega arith in
