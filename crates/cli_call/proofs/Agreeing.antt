@@ -3,6 +3,7 @@ use Rattle.std.proofs.Common.{◌≡◌, ◌≢◌, ◌∙◌, ℕ, false, List,
 use Rattle.std.specs.Prelude.{codes, IfSome}
 use Rattle.mic_base.specs.Causes.{Rose}
 use Rattle.console_port.specs.Console.{Untaken}
+use Rattle.console_port.specs.World.{World}
 use Rattle.mic_clock.specs.declared.end.End.{End}
 use Rattle.mic_clock.specs.declared.counts.Boundary.{Boundary}
 use Rattle.mic_clock.specs.declared.counts.Counts.{Counts}
@@ -77,7 +78,7 @@ held_is held one given e is = subst (λ (h : Option (List ℕ)). IfSome h (λ x.
 abbrev pub OneEnd : Type 0
 OneEnd = (p : TimedImage) (n : ℕ) (from : Point) (f g : Finish) → EndsBy p n from f → EndsBy p n from g → f ≡ g
 
-module _ {M S : Type 0} (state : M → S) (m : Meaning S) (IsReady : ℕ → List ℕ → ℕ → S → Type 0) (IsShipped : List ℕ → Type 0) (entry : ℕ) where
+module _ {M S : Type 0} (state : M → S) (m : Meaning S) (IsReady : ℕ → List ℕ → ℕ → S → World → Type 0) (IsShipped : List ℕ → Type 0) (entry : ℕ) where
   module _ (program : VerifiedView) (bound : ℕ) (input : List ℕ) (old ran told : OutsideView) (status status' : ℕ) where
     -- both ran to their ends
     both : OneEnd → old.console.left ≡ Some input →

@@ -4,6 +4,7 @@ use Rattle.std.proofs.lemmas.Option.{same_Some}
 use Rattle.mic_words.specs.declared.machine.Machine.{Machine}
 use Rattle.mic_words.specs.declared.machine.Machine.TheVariants.{Mic1, Mic2}
 use Rattle.console_port.specs.declared.map.MemoryMap.{MemoryMap}
+use Rattle.console_port.specs.World.{World}
 use Rattle.mic_clock.specs.declared.end.End.{End}
 use Rattle.mic_clock.specs.declared.end.End.TheVariants as ends
 use Rattle.mic_clock.specs.Meaning.{Meaning}
@@ -226,7 +227,7 @@ module _ (asks : Option Asked) (old new : OutsideView) (status : ℕ) where
   run_end _ runs stray cause files err is = Ended runs (omega (arith, is)) (omega (arith, is))
 
   -- `run` and `soak` with the microprogram that ships
-  module _ {M S : Type 0} (state : M → S) (m : Meaning S) (IsReady : ℕ → List ℕ → ℕ → S → Type 0) (IsShipped : List ℕ → Type 0) (entry : ℕ) (timing : Timing) (runs : Runs asks) where
+  module _ {M S : Type 0} (state : M → S) (m : Meaning S) (IsReady : ℕ → List ℕ → ℕ → S → World → Type 0) (IsShipped : List ℕ → Type 0) (entry : ℕ) (timing : Timing) (runs : Runs asks) where
     clocked : (bound : ℕ) (program : VerifiedView) → ClockedEnd state m IsReady IsShipped entry timing bound program old new status → Answer
     clocked bound program (clocking.NoRoom h) = short h
     clocked bound program (clocking.Ran board run files console out flushed says) =
@@ -341,7 +342,7 @@ pub record ShippedEnd : Type 0 where
   pub mic2 : EndsAsDefined micro_of2 mic2_meaning (HasShipped Mic2) 0x002 (timing_of Mic2)
 
 module _ (listed : IsListed) (old new : OutsideView) (status : ℕ) where
-  module _ {M S : Type 0} (state : M → S) (m : Meaning S) (IsReady : ℕ → List ℕ → ℕ → S → Type 0) (IsShipped : List ℕ → Type 0) (entry : ℕ) (timing : Timing)
+  module _ {M S : Type 0} (state : M → S) (m : Meaning S) (IsReady : ℕ → List ℕ → ℕ → S → World → Type 0) (IsShipped : List ℕ → Type 0) (entry : ℕ) (timing : Timing)
       (law : EndsAsDefined state m (HasShipped m.machine) 0x002 timing) where
     -- Without a file of its own, a trace or a profile clocks the microprogram that ships.
     stays : (asks : Option Asked) (bound : ℕ) (own : Option (List ℕ)) (micro : MalView) (program : VerifiedView) → IsAccepted program → IsChosenMicroprogram m.machine own old micro →

@@ -2,6 +2,7 @@
 use Rattle.std.proofs.Common.{◌≡◌, ◌≢◌, ◌∙◌, ℕ, List, Some, Option, sym, ap, subst}
 use Rattle.std.specs.Prelude.{IfSome}
 use Rattle.std.proofs.lemmas.Option.{same_Some}
+use Rattle.console_port.specs.World.{World}
 use Rattle.mic_clock.specs.declared.end.End.{End}
 use Rattle.mic_clock.specs.declared.end.End.TheVariants as clocked
 use Rattle.mic_clock.specs.Meaning.{Meaning}
@@ -26,8 +27,8 @@ both_tell held held' x y same a b =
     subst (λ (k : Option (List ℕ)). IfSome k (λ h'. x ≡ h')) b (subst (λ (k : Option (List ℕ)). IfSome k (λ h. IfSome held' (λ h'. h ≡ h'))) a same)
 
 -- a machine and another
-module _ {M N S T : Type 0} (state : M → S) (m : Meaning S) (IsReady : ℕ → List ℕ → ℕ → S → Type 0) (IsShipped : List ℕ → Type 0) (entry : ℕ) (timing : Timing)
-    (state' : N → T) (m' : Meaning T) (IsReady' : ℕ → List ℕ → ℕ → T → Type 0) (IsShipped' : List ℕ → Type 0) (entry' : ℕ) (timing' : Timing) where
+module _ {M N S T : Type 0} (state : M → S) (m : Meaning S) (IsReady : ℕ → List ℕ → ℕ → S → World → Type 0) (IsShipped : List ℕ → Type 0) (entry : ℕ) (timing : Timing)
+    (state' : N → T) (m' : Meaning T) (IsReady' : ℕ → List ℕ → ℕ → T → World → Type 0) (IsShipped' : List ℕ → Type 0) (entry' : ℕ) (timing' : Timing) where
   -- their boards end alike
   abbrev pub BoardsAgree : Type 0
   BoardsAgree =

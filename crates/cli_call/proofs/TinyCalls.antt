@@ -3,6 +3,7 @@ use Rattle.std.proofs.Common.{◌≡◌, ◌⊎◌, inl, inr, ◌∙◌, ◌<◌
 use Rattle.mic_base.specs.Files.{Contents, Tells, file_in, most_bytes}
 use Rattle.mic_words.specs.declared.machine.Machine.{Machine}
 use Rattle.mic_words.specs.declared.machine.Machine.TheVariants.{Mic1, Mic2}
+use Rattle.console_port.specs.World.{World}
 use Rattle.mic_clock.specs.Meaning.{Meaning}
 use Rattle.mic1_datapath.specs.Mic1.{mic1_meaning, IsReady as IsReady1}
 use Rattle.mic1_datapath.specs.View.{micro_of as micro_of1}
@@ -132,7 +133,7 @@ module _ (program : Program) (v : VerifiedView) (timing : Timing) (input : List 
 
 -- ---- what a call comes to
 
-module _ {M S : Type 0} (state : M → S) (m : Meaning S) (IsReady : ℕ → List ℕ → ℕ → S → Type 0) (IsShipped : List ℕ → Type 0) (entry : ℕ) (timing : Timing) where
+module _ {M S : Type 0} (state : M → S) (m : Meaning S) (IsReady : ℕ → List ℕ → ℕ → S → World → Type 0) (IsShipped : List ℕ → Type 0) (entry : ℕ) (timing : Timing) where
   clocked_comes : (program : Program) (v : VerifiedView) (input : List ℕ) (bound : ℕ) (old new : OutsideView) (status : ℕ) → old.console.left ≡ Some input → IsQuiet old new status →
       ClockedEnd state m IsReady IsShipped entry timing bound v old new status → Comes program v timing input bound old new status
   clocked_comes program v input bound old new status left quiet (clocked.NoRoom tells) = absurd (quiet.memory (said old.err new.err _ _ status quiet.err tells.says).0)

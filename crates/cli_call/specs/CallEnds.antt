@@ -2,6 +2,7 @@
 use Rattle.std.specs.Prelude.{ℕ, List, Option, Some, None}
 use Rattle.mic_words.specs.declared.machine.Machine.{Machine}
 use Rattle.mic_words.specs.declared.machine.Machine.TheVariants.{Mic1, Mic2}
+use Rattle.console_port.specs.World.{World}
 use Rattle.mal_parser.specs.ProgramText.{canonical_text}
 use Rattle.mic_clock.specs.Meaning.{Meaning}
 use Rattle.mic1_datapath.specs.Mic1.{mic1_meaning, IsReady as IsReady1}
@@ -38,7 +39,7 @@ use Rattle.cli_call.specs.ClockedEnd.{ClockedEnd}
 use Rattle.cli_call.specs.Usage.{usage_text}
 
 -- A machine: its meaning, when its next instruction is ready, its store that ships, where that begins, and what is spent.
-module _ {M S : Type 0} (state : M → S) (m : Meaning S) (IsReady : ℕ → List ℕ → ℕ → S → Type 0)
+module _ {M S : Type 0} (state : M → S) (m : Meaning S) (IsReady : ℕ → List ℕ → ℕ → S → World → Type 0)
     (IsShipped : List ℕ → Type 0) (entry : ℕ) (timing : Timing) where
   -- how what the machine is asked ends
   abbrev pub EndsOn : Asked → OutsideView → OutsideView → ℕ → Type 0

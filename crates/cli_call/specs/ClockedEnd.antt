@@ -2,6 +2,7 @@
 use Rattle.std.specs.Prelude.{◌≡◌, ℕ, List}
 use Rattle.mic_base.specs.Causes.{Rose}
 use Rattle.console_port.specs.Console.{StaysFlushed}
+use Rattle.console_port.specs.World.{World}
 use Rattle.mic_clock.specs.declared.end.End.TheVariants as ends
 use Rattle.mic_clock.specs.Meaning.{Meaning}
 use Rattle.mic_clock.specs.View.{BoardView}
@@ -16,7 +17,7 @@ use Rattle.cli_run_texts.specs.Ends.{status_of}
 use Rattle.cli_boards.specs.Runs.{report_on}
 
 -- A machine: its meaning, when its next instruction is ready, its store that ships, where that begins, and what is spent.
-module _ {M S : Type 0} (state : M → S) (m : Meaning S) (IsReady : ℕ → List ℕ → ℕ → S → Type 0)
+module _ {M S : Type 0} (state : M → S) (m : Meaning S) (IsReady : ℕ → List ℕ → ℕ → S → World → Type 0)
     (IsShipped : List ℕ → Type 0) (entry : ℕ) (timing : Timing) where
   -- `board` is the machine that was clocked over the program from its reset
   pub data ClockedEnd (bound : ℕ) (program : VerifiedView) (old new : OutsideView) (status : ℕ) : Type 0 where

@@ -1,6 +1,7 @@
 -- How `soak` ends: a plain source and a plain sink never fail, so the run is never cut.
 use Rattle.std.proofs.Common.{◌≡◌, ◌∙◌, ℕ, List, [], length, Option, Some, None, refl, sym, subst}
 use Rattle.mic_base.specs.Causes.{no_rise}
+use Rattle.console_port.specs.World.{World}
 use Rattle.mic_clock.specs.declared.end.End.{End}
 use Rattle.mic_clock.specs.declared.end.End.TheVariants as ends
 use Rattle.mic_clock.specs.Meaning.{Meaning}
@@ -24,7 +25,7 @@ unfailed (Some ends.ReadFault) c = no_rise (c.read refl refl)
 unfailed (Some ends.WriteFault) c = no_rise (c.write refl refl)
 unfailed _ c = tt
 
-module _ {M S : Type 0} (state : M → S) (m : Meaning S) (IsReady : ℕ → List ℕ → ℕ → S → Type 0) (IsShipped : List ℕ → Type 0) (entry : ℕ) (timing : Timing) where
+module _ {M S : Type 0} (state : M → S) (m : Meaning S) (IsReady : ℕ → List ℕ → ℕ → S → World → Type 0) (IsShipped : List ℕ → Type 0) (entry : ℕ) (timing : Timing) where
   -- the summary by the end of the definition's run, and by the size of the generated text
   pub ends_by : (seed size : ℕ) (program : VerifiedView) (begun left : Option (List ℕ)) (board : BoardView M) (end : End) (old new : LentView) (status : ℕ) →
       IsGenerated seed size program → begun ≡ Some [] →

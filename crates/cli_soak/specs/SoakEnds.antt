@@ -1,6 +1,7 @@
 -- How `soak` ends: the generated program's run on a machine, with no input and its output thrown away, and its summary; or memory ran out.
 use Rattle.std.specs.Prelude.{◌≡◌, ℕ, List, [], length, Option, Some, None}
 use Rattle.console_port.specs.declared.map.TheConstants.MemoryMap.{STANDARD}
+use Rattle.console_port.specs.World.{World}
 use Rattle.mic_clock.specs.Meaning.{Meaning}
 use Rattle.mic_clock.specs.View.{BoardView}
 use Rattle.ijvm_meaning.specs.Cost.{Timing}
@@ -25,7 +26,7 @@ pub record IsGenerated (seed size : ℕ) (program : VerifiedView) : Type 0 where
   pub accepted : IsAccepted program
 
 -- A machine: its meaning, when its next instruction is ready, its store that ships, where that begins, and what is spent.
-module _ {M S : Type 0} (state : M → S) (m : Meaning S) (IsReady : ℕ → List ℕ → ℕ → S → Type 0)
+module _ {M S : Type 0} (state : M → S) (m : Meaning S) (IsReady : ℕ → List ℕ → ℕ → S → World → Type 0)
     (IsShipped : List ℕ → Type 0) (entry : ℕ) (timing : Timing) where
   pub data SoakEnds (seed size : ℕ) (old new : OutsideView) (status : ℕ) : Type 0 where
     NoRoom : TellsOnErr out_of_memory exits.memory old new status → SoakEnds seed size old new status

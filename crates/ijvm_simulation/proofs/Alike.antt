@@ -2,6 +2,7 @@
 use Rattle.std.proofs.Common.{◌≡◌, ◌≢◌, ℕ, zero, suc, ◌+◌, ◌++◌, Bool, true, false, Option, Some, None, List, refl, sym, ◌∙◌, ap, subst}
 use Rattle.std.specs.Prelude.{nat_le, IfSome}
 use Rattle.std.proofs.lemmas.Option.{same_Some}
+use Rattle.console_port.specs.World.{World}
 use Rattle.mic_clock.specs.declared.counts.Counts.{Counts}
 use Rattle.mic_clock.specs.Meaning.{Meaning}
 use Rattle.mic_clock.specs.View.{BoardView}
@@ -65,8 +66,8 @@ both_told None held' x y e a b = tt
 both_told (Some h) None x y e a b = tt
 both_told (Some h) (Some h') x y e a b = a ∙ (e ∙ sym b)
 
-module _ {M N S T : Type 0} (state : M → S) (m : Meaning S) (IsReady : ℕ → List ℕ → ℕ → S → Type 0) (IsShipped : List ℕ → Type 0) (entry : ℕ) (timing : Timing)
-    (state' : N → T) (m' : Meaning T) (IsReady' : ℕ → List ℕ → ℕ → T → Type 0) (IsShipped' : List ℕ → Type 0) (entry' : ℕ) (timing' : Timing) where
+module _ {M N S T : Type 0} (state : M → S) (m : Meaning S) (IsReady : ℕ → List ℕ → ℕ → S → World → Type 0) (IsShipped : List ℕ → Type 0) (entry : ℕ) (timing : Timing)
+    (state' : N → T) (m' : Meaning T) (IsReady' : ℕ → List ℕ → ℕ → T → World → Type 0) (IsShipped' : List ℕ → Type 0) (entry' : ℕ) (timing' : Timing) where
   pub agree : (v : VerifiedView) (bound bound' : ℕ) (input : List ℕ) (before left held left' held' : Option (List ℕ)) (board : BoardView M) (board' : BoardView N) →
       HasRun state m IsReady IsShipped entry timing v bound (Some input) before left held board →
       HasRun state' m' IsReady' IsShipped' entry' timing' v bound' (Some input) before left' held' board' →

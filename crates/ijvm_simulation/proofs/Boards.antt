@@ -61,7 +61,7 @@ front_put : (held : Option (List ℕ)) (before given : List ℕ) → Holds befor
 front_put None before given kept front = tt
 front_put (Some h) before given kept front = (record { more = kept.0; are = kept.1 }, record { more = front.0; are = front.1 })
 
-module _ {M S : Type 0} (state : M → S) (m : Meaning S) (IsReady : ℕ → List ℕ → ℕ → S → Type 0) (IsShipped : List ℕ → Type 0) (entry : ℕ) (timing : Timing) (promises : Promises m IsReady IsShipped entry timing)
+module _ {M S : Type 0} (state : M → S) (m : Meaning S) (IsReady : ℕ → List ℕ → ℕ → S → World → Type 0) (IsShipped : List ℕ → Type 0) (entry : ℕ) (timing : Timing) (promises : Promises m IsReady IsShipped entry timing)
     (v : VerifiedView) (known : Known) (bound : ℕ) (left held left' held' : Option (List ℕ)) (board0 board : BoardView M) (s : IsAtReset state m entry v board0) (shipped : IsShipped board0.store.words)
     (store : board0.store ≡ board.store) (tells : StillTells left board0.bus.console.ended left' board.bus.console.ended) where
   abbrev Here : Type 0

@@ -3,6 +3,7 @@ use Rattle.std.proofs.Common.{◌≡◌, ℕ, zero, suc, ◌+◌, ◌≤◌, Lis
 use Rattle.std.specs.Prelude.{slice_index}
 use Rattle.std.proofs.lemmas.List.{length-replicate}
 use Rattle.console_port.specs.Loading.{IsLoaded}
+use Rattle.console_port.specs.World.{World}
 use Rattle.mic_clock.specs.Meaning.{Meaning}
 use Rattle.ijvm_image.specs.Image.{IsImage}
 use Rattle.ijvm_meaning.specs.Frames.{start_of}
@@ -21,7 +22,7 @@ use Rattle.ijvm_simulation.proofs.Boots.{booted, quiet}
 use Rattle.ijvm_simulation.proofs.Whole.{simulates}
 
 -- what a machine promises
-pub record Promises {S : Type 0} (m : Meaning S) (IsReady : ℕ → List ℕ → ℕ → S → Type 0) (IsShipped : List ℕ → Type 0) (entry : ℕ) (timing : Timing) : Type 0 where
+pub record Promises {S : Type 0} (m : Meaning S) (IsReady : ℕ → List ℕ → ℕ → S → World → Type 0) (IsShipped : List ℕ → Type 0) (entry : ℕ) (timing : Timing) : Type 0 where
   pub law : KeepsLaw m IsReady IsShipped entry timing
   pub boots : BootsToMain m IsReady IsShipped entry timing
   pub grows : KeepsGiven m
@@ -49,7 +50,7 @@ module _ (v : VerifiedView) (image : IsImage v.image) (accepted : IsAccepted v) 
         long = loaded.size ∙ length-replicate {A = ℕ} v.map.stack_end 0;
       }
 
-  module _ {S : Type 0} (m : Meaning S) (IsReady : ℕ → List ℕ → ℕ → S → Type 0) (IsShipped : List ℕ → Type 0) (entry : ℕ) (timing : Timing) (promises : Promises m IsReady IsShipped entry timing) (known : Known) where
+  module _ {S : Type 0} (m : Meaning S) (IsReady : ℕ → List ℕ → ℕ → S → World → Type 0) (IsShipped : List ℕ → Type 0) (entry : ℕ) (timing : Timing) (promises : Promises m IsReady IsShipped entry timing) (known : Known) where
     pub simulated : (store : List ℕ) (has : IsShipped store) (bound : ℕ) (input : List ℕ) →
         Simulates m (IsAt m IsReady entry origin) store bound (program timing v) (first_point (program timing v) v.main_locals input) before
         (reset_run m entry v.main_locals (record { words = words; untaken = input; given = before }))

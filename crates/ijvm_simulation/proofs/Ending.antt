@@ -15,7 +15,7 @@ use Rattle.ijvm_simulation.proofs.Carried.{Promises, simulated}
 use Rattle.ijvm_simulation.proofs.Boards.{rest_of, rest_fits, given_told}
 use Rattle.ijvm_simulation.proofs.Worlds.{same_end}
 
-pub ends_as_defined : {M S : Type 0} (state : M → S) (m : Meaning S) (IsReady : ℕ → List ℕ → ℕ → S → Type 0) (IsShipped : List ℕ → Type 0) (entry : ℕ) (timing : Timing) → Promises m IsReady IsShipped entry timing →
+pub ends_as_defined : {M S : Type 0} (state : M → S) (m : Meaning S) (IsReady : ℕ → List ℕ → ℕ → S → World → Type 0) (IsShipped : List ℕ → Type 0) (entry : ℕ) (timing : Timing) → Promises m IsReady IsShipped entry timing →
     Known → EndsAsDefined state m IsShipped entry timing
 ends_as_defined state m IsReady IsShipped entry timing promises known =
     λ v bound left held left' held' first last has s led end ended.

@@ -3,6 +3,7 @@
 use Rattle.std.specs.Prelude.{◌≡◌, ◌⊎◌, ℕ, List, [], ◌++◌, replicate, Option, Some, IfSome, IsSome, unwrap_or, false}
 use Rattle.console_port.specs.Loading.{IsLoaded}
 use Rattle.console_port.specs.Console.{Untaken, LosesLast}
+use Rattle.console_port.specs.World.{World}
 use Rattle.mic_clock.specs.Meaning.{Meaning, ReadsConsole, UsesConsole}
 use Rattle.mic_clock.specs.View.{BoardView}
 use Rattle.mic_clock.specs.Run.{MicroRun, turns, word_at, IsClocking}
@@ -24,7 +25,7 @@ abbrev pub Leaves : Option (List ℕ) → Option (List ℕ) → List ℕ → Typ
 Leaves left left' untaken = (bytes : List ℕ) → left ≡ Some bytes → left' ≡ Some untaken
 
 -- A machine: its meaning, when its next instruction is ready, its store that ships, where that begins, and what is spent.
-module _ {M S : Type 0} (state : M → S) (m : Meaning S) (IsReady : ℕ → List ℕ → ℕ → S → Type 0)
+module _ {M S : Type 0} (state : M → S) (m : Meaning S) (IsReady : ℕ → List ℕ → ℕ → S → World → Type 0)
     (IsShipped : List ℕ → Type 0) (entry : ℕ) (timing : Timing) where
   module _ (v : VerifiedView) (bound : ℕ) where
     -- How a run begins with a control store and a source: the store is the one that ships, the image was loaded into

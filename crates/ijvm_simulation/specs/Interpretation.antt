@@ -1,5 +1,6 @@
 -- A machine as an interpreter of IJVM, with the store that ships for it.
 use Rattle.std.specs.Prelude.{ℕ, List}
+use Rattle.console_port.specs.World.{World}
 use Rattle.mic_clock.specs.Meaning.{Meaning}
 use Rattle.ijvm_meaning.specs.Cost.{Timing}
 
@@ -7,12 +8,12 @@ use Rattle.ijvm_meaning.specs.Cost.{Timing}
 pub record Interpretation (M S : Type 0) : Type 1 where
   pub state : M → S
   pub meaning : Meaning S
-  pub IsReady : ℕ → List ℕ → ℕ → S → Type 0
+  pub IsReady : ℕ → List ℕ → ℕ → S → World → Type 0
   pub IsShipped : List ℕ → Type 0
   pub entry : ℕ
   pub timing : Timing
 
 -- the interpretation of these parts
-abbrev pub interpretation : {M S : Type 0} → (M → S) → Meaning S → (ℕ → List ℕ → ℕ → S → Type 0) → (List ℕ → Type 0) → ℕ → Timing → Interpretation M S
+abbrev pub interpretation : {M S : Type 0} → (M → S) → Meaning S → (ℕ → List ℕ → ℕ → S → World → Type 0) → (List ℕ → Type 0) → ℕ → Timing → Interpretation M S
 interpretation state m IsReady IsShipped entry timing =
     record { state = state; meaning = m; IsReady = IsReady; IsShipped = IsShipped; entry = entry; timing = timing }

@@ -14,7 +14,7 @@ use Rattle.ijvm_simulation.specs.Stands.{Origin, IsAt}
 use Rattle.ijvm_simulation.specs.Verified.{Loads}
 
 -- A machine: its meaning, when its next instruction is ready, its store that ships, where that begins, and what is spent.
-module _ {S : Type 0} (m : Meaning S) (IsReady : ℕ → List ℕ → ℕ → S → Type 0) (IsShipped : List ℕ → Type 0) (entry : ℕ) (timing : Timing) where
+module _ {S : Type 0} (m : Meaning S) (IsReady : ℕ → List ℕ → ℕ → S → World → Type 0) (IsShipped : List ℕ → Type 0) (entry : ℕ) (timing : Timing) where
   -- each instruction takes what `Law` has of it
   abbrev pub KeepsLaw : Type 0
   KeepsLaw = (store : List ℕ) (o : Origin) (v : VerifiedView) → IsShipped store → Loads v o → Law m store (IsAt m IsReady entry o) o.given timing v o
@@ -31,11 +31,11 @@ KeepsGiven {S} m = (word : ℕ) (s : S) (w : World) → OnDone (λ v. Grows w.gi
 
 -- What is shown of each group of instructions holds of every instruction, without stalls and with them.
 
-abbrev pub TakesByGroups : {S : Type 0} → Meaning S → (ℕ → List ℕ → ℕ → S → Type 0) → Type 0
+abbrev pub TakesByGroups : {S : Type 0} → Meaning S → (ℕ → List ℕ → ℕ → S → World → Type 0) → Type 0
 TakesByGroups m IsReady =
     (store : List ℕ) (entry : ℕ) (timing : Timing) (v : VerifiedView) (o : Origin) → ByGroups (Takes m store (IsAt m IsReady entry o) o.given timing v o)
 
-abbrev pub StallsByGroups : {S : Type 0} → Meaning S → (ℕ → List ℕ → ℕ → S → Type 0) → Type 0
+abbrev pub StallsByGroups : {S : Type 0} → Meaning S → (ℕ → List ℕ → ℕ → S → World → Type 0) → Type 0
 StallsByGroups m IsReady =
     (store : List ℕ) (entry : ℕ) (timing : Timing) (stalls_of : ImageView → Instr → ℕ) (v : VerifiedView) (o : Origin) →
     ByGroups (TakesWithStalls m store (IsAt m IsReady entry o) o.given timing stalls_of v o)

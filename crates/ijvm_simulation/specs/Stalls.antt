@@ -89,7 +89,7 @@ LimitsStall i booting stalls_of =
     CutsShort i.meaning i.entry i.timing booting stalls_of store o v input bound
 
 -- A machine: its meaning, when its next instruction is ready, its store that ships, where that begins, and what is spent.
-module _ {S : Type 0} (m : Meaning S) (IsReady : ℕ → List ℕ → ℕ → S → Type 0) (IsShipped : List ℕ → Type 0) (entry : ℕ) (timing : Timing) where
+module _ {S : Type 0} (m : Meaning S) (IsReady : ℕ → List ℕ → ℕ → S → World → Type 0) (IsShipped : List ℕ → Type 0) (entry : ℕ) (timing : Timing) where
   -- Stalls add up, where the boot and each instruction stall as often as this says.
   abbrev pub StallsAddUp : Type 0
   StallsAddUp =

@@ -60,6 +60,7 @@ pub record RegistersStand (o : Origin) (s : State) (sp lv cpp tos : ℕ) (w : Wo
   pub given : w.given ≡ o.given ++ s.given
 
 -- A machine with a microprogram at this entry stands for a state of the plain machine: its frames lie in memory, and its instruction comes next.
-pub record IsAt {S : Type 0} (m : Meaning S) (IsReady : ℕ → List ℕ → ℕ → S → Type 0) (entry : ℕ) (o : Origin) (s : State) (x : S) (w : World) : Type 0 where
+pub record IsAt {S : Type 0} (m : Meaning S) (IsReady : ℕ → List ℕ → ℕ → S → World → Type 0) (entry : ℕ) (o : Origin)
+    (s : State) (x : S) (w : World) : Type 0 where
   pub holds : RegistersStand o s (m.registers x).sp (m.registers x).lv (m.registers x).cpp (m.registers x).tos w
-  pub ready : IsReady entry o.words s.at x
+  pub ready : IsReady entry o.words s.at x w

@@ -83,8 +83,8 @@ mic1_meaning =
       address = λ m. m.pc;
     }
 
--- what a Mic-1 has before the instruction at an address: PC there, its byte in MBR, MPC at Main1, and nothing under way
-pub record IsReady (main : ℕ) (words : List ℕ) (at : ℕ) (m : Micro) : Type 0 where
+-- what a Mic-1 has before the instruction at an address, in any world: PC there, its byte in MBR, MPC at Main1, and nothing under way
+pub record IsReady (main : ℕ) (words : List ℕ) (at : ℕ) (m : Micro) (w : World) : Type 0 where
   pub pc : m.pc ≡ at
   pub mbr : m.mbr ≡ byte_in words at
   pub mpc : m.mpc ≡ m.entry

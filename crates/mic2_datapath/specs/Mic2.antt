@@ -110,8 +110,9 @@ mic2_meaning =
       address = λ m. before m.pc;
     }
 
--- what a Mic-2 has before the instruction at an address: PC after its opcode, which is MPC, the unit there with at least two bytes, and no word under way
-pub record IsReady (main : ℕ) (words : List ℕ) (at : ℕ) (m : Micro) : Type 0 where
+-- What a Mic-2 has before the instruction at an address, in any world: PC after its opcode, which is MPC, the unit
+-- there with at least two bytes, and no word under way.
+pub record IsReady (main : ℕ) (words : List ℕ) (at : ℕ) (m : Micro) (w : World) : Type 0 where
   pub pc : m.pc ≡ at + 1
   pub low : m.pc < 2 ^ 32
   pub mpc : m.mpc ≡ byte_in words at

@@ -47,9 +47,9 @@ mic3_meaning =
       address = λ p. before p.micro.pc;
     }
 
--- what a Mic-3 has before the instruction at an address: what a Mic-2 has, with at least three bytes in its queue and empty slots
-pub record IsReady (main : ℕ) (words : List ℕ) (at : ℕ) (p : Pipeline) : Type 0 where
-  pub micro : IsReadyAt main words at p.micro
+-- what a Mic-3 has before the instruction at an address, in any world: what a Mic-2 has, with at least three bytes in its queue and empty slots
+pub record IsReady (main : ℕ) (words : List ℕ) (at : ℕ) (p : Pipeline) (w : World) : Type 0 where
+  pub micro : IsReadyAt main words at p.micro w
   pub three : 3 ≤ length p.micro.unit.bytes
   pub operand : p.operand ≡ None
   pub result : p.result ≡ None

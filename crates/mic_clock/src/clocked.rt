@@ -2,6 +2,7 @@
 
 ghost use Rattle.std.specs.Prelude.{◌≡◌, None, IfNone, IfOk, IfSome, OnOk, OnErr, ◌<◌, ℕ, List, slice_index};
 ghost use Rattle.console_port.specs.Streams.{StreamsGoOn};
+ghost use Rattle.console_port.specs.World.{World};
 ghost use Rattle.mic_clock.specs.Edge.{IsEdgeInside, IsEdgeOver};
 ghost use Rattle.mic_clock.specs.Meaning.{Meaning, Phase, AtRest, SetUp, Driven, AtEdge};
 ghost use Rattle.mic_clock.specs.Run.{Buses, buses_of, start_buses, word_at};
@@ -24,9 +25,9 @@ pub trait Clocked {
     /// What its calls mean.
     ghost meaning: { Meaning State };
 
-    /// That the instruction at a byte address of a memory comes next, where a microprogram begins at this entry: a
-    /// boundary is there, and nothing is under way.
-    ghost IsReady: { ℕ → List ℕ → ℕ → State → Type 0 };
+    /// That the instruction at a byte address of a memory comes next in this state and this world, where a microprogram
+    /// begins at this entry: a boundary is there, and nothing is under way.
+    ghost IsReady: { ℕ → List ℕ → ℕ → State → World → Type 0 };
 
     ghost state: { Self → State };
 
