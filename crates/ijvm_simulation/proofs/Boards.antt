@@ -14,10 +14,11 @@ use Rattle.ijvm_meaning.specs.Cost.{Timing}
 use Rattle.verifier_facts.specs.Accepted.{VerifiedView}
 use Rattle.ijvm_simulation.specs.Simulates.{IsEnd}
 use Rattle.ijvm_simulation.specs.Law.{Grows}
+use Rattle.ijvm_simulation.specs.Promises.{Promises}
 use Rattle.mic_image_board.specs.Reset.{IsAtReset, reset_run}
 use Rattle.ijvm_simulation.specs.Headline.{told_of, Leaves, Begins, HasRun, IsCutByRead, IsCutByWrite}
 use Rattle.ijvm_simulation.proofs.Next.{Known}
-use Rattle.ijvm_simulation.proofs.Carried.{Promises, simulated}
+use Rattle.ijvm_simulation.proofs.Carried.{simulated}
 use Rattle.ijvm_simulation.proofs.Worlds.{same_end, front_of_end}
 
 -- some bytes that may be untaken

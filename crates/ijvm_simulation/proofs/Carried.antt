@@ -12,7 +12,7 @@ use Rattle.ijvm_meaning.specs.Run.{first_point}
 use Rattle.verifier_facts.specs.Accepted.{VerifiedView, IsAccepted}
 use Rattle.ijvm_simulation.specs.Stands.{Origin, IsAt}
 use Rattle.ijvm_simulation.specs.Verified.{program, Loads, Fine}
-use Rattle.ijvm_simulation.specs.Promises.{KeepsLaw, BootsToMain, KeepsGiven}
+use Rattle.ijvm_simulation.specs.Promises.{Promises}
 use Rattle.ijvm_simulation.specs.Law.{Law, Boots, reset_moment}
 use Rattle.ijvm_simulation.specs.Simulates.{Simulates}
 use Rattle.mic_image_board.specs.Reset.{reset_run}
@@ -20,12 +20,6 @@ use Rattle.ijvm_simulation.proofs.Instruction.{Law as BoundaryLaw}
 use Rattle.ijvm_simulation.proofs.Next.{Known, fine_start, keeps, boundary_law}
 use Rattle.ijvm_simulation.proofs.Boots.{booted, quiet}
 use Rattle.ijvm_simulation.proofs.Whole.{simulates}
-
--- what a machine promises
-pub record Promises {S : Type 0} (m : Meaning S) (IsReady : ℕ → List ℕ → ℕ → S → World → Type 0) (IsShipped : List ℕ → Type 0) (entry : ℕ) (timing : Timing) : Type 0 where
-  pub law : KeepsLaw m IsReady IsShipped entry timing
-  pub boots : BootsToMain m IsReady IsShipped entry timing
-  pub grows : KeepsGiven m
 
 zero_word : (n k : ℕ) → slice_index (replicate n 0) k ≡ 0
 zero_word zero k = refl

@@ -9,9 +9,10 @@ use Rattle.ijvm_meaning.specs.Cost.{Timing}
 use Rattle.ijvm_simulation.specs.Simulates.{board_end}
 use Rattle.mic_image_board.specs.Reset.{reset_run}
 use Rattle.ijvm_simulation.specs.Headline.{told_of}
+use Rattle.ijvm_simulation.specs.Promises.{Promises}
 use Rattle.ijvm_simulation.specs.Starts.{EndsAsDefined}
 use Rattle.ijvm_simulation.proofs.Next.{Known}
-use Rattle.ijvm_simulation.proofs.Carried.{Promises, simulated}
+use Rattle.ijvm_simulation.proofs.Carried.{simulated}
 use Rattle.ijvm_simulation.proofs.Boards.{rest_of, rest_fits, given_told}
 use Rattle.ijvm_simulation.proofs.Worlds.{same_end}
 

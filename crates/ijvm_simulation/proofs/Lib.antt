@@ -12,6 +12,7 @@ pub mod Carried
 pub mod Boards
 pub mod Alike
 pub mod Ending
+pub mod Stores
 pub mod Stalls
 pub mod Groups
 pub mod Accesses

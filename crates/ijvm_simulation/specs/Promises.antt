@@ -8,10 +8,15 @@ use Rattle.ijvm_meaning.specs.Cost.{Timing}
 use Rattle.ijvm_meaning.specs.Frames.{start_of}
 use Rattle.verifier_facts.specs.Accepted.{VerifiedView}
 use Rattle.ijvm_simulation.specs.Groups.{ByGroups}
+use Rattle.ijvm_simulation.specs.Interpretation.{Interpretation}
 use Rattle.ijvm_simulation.specs.Law.{Law, Boots, Takes, OnDone, Grows, reset_moment}
 use Rattle.ijvm_simulation.specs.Stalls.{TakesWithStalls}
 use Rattle.ijvm_simulation.specs.Stands.{Origin, IsAt}
 use Rattle.ijvm_simulation.specs.Verified.{Loads}
+
+-- no step takes back what was given
+abbrev pub KeepsGiven : {S : Type 0} → Meaning S → Type 0
+KeepsGiven {S} m = (word : ℕ) (s : S) (w : World) → OnDone (λ v. Grows w.given v.given) (m.step word s w)
 
 -- A machine: its meaning, when its next instruction is ready, its store that ships, where that begins, and what is spent.
 module _ {S : Type 0} (m : Meaning S) (IsReady : ℕ → List ℕ → ℕ → S → World → Type 0) (IsShipped : List ℕ → Type 0) (entry : ℕ) (timing : Timing) where
@@ -25,9 +30,15 @@ module _ {S : Type 0} (m : Meaning S) (IsReady : ℕ → List ℕ → ℕ → S 
       (store : List ℕ) (o : Origin) (v : VerifiedView) (input : List ℕ) → IsShipped store → Loads v o →
       Boots m store (IsAt m IsReady entry o) o.given timing (reset_moment m entry v.main_locals o input) (start_of v.main_locals input)
 
--- no step takes back what was given
-abbrev pub KeepsGiven : {S : Type 0} → Meaning S → Type 0
-KeepsGiven {S} m = (word : ℕ) (s : S) (w : World) → OnDone (λ v. Grows w.given v.given) (m.step word s w)
+  -- all that it promises
+  pub record Promises : Type 0 where
+    pub law : KeepsLaw
+    pub boots : BootsToMain
+    pub grows : KeepsGiven m
+
+-- a machine keeps these promises over its store: together they interpret IJVM
+abbrev pub Interprets : {M S : Type 0} → Interpretation M S → Type 0
+Interprets i = Promises i.meaning i.IsReady i.IsShipped i.entry i.timing
 
 -- What is shown of each group of instructions holds of every instruction, without stalls and with them.
 

@@ -4,6 +4,7 @@
 mod agreement;
 pub mod interpreter;
 mod laws;
+mod readiness;
 pub mod run;
 
 pub use agreement::interpreters_agree;
@@ -12,4 +13,5 @@ pub use laws::{
     counted_boundaries_are_passed, groups_are_all, shipped_runs_end_as_defined, stack_law,
     stalls_add_up,
 };
-pub use run::{run_image, shipped_board};
+pub use readiness::Readiness;
+pub use run::{run_image, run_with, shipped_board};

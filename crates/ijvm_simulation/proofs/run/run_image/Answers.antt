@@ -1,36 +1,34 @@
-use Rattle.std.proofs.Common.{sym}
-use Rattle.ijvm_simulation.proofs.Next.{Known}
-use Rattle.ijvm_simulation.proofs.Carried.{Promises}
-use Rattle.ijvm_simulation.proofs.Boards.{has_run, is_cut_by_read, is_cut_by_write}
+use Rattle.std.proofs.Common.{◌≡◌}
+use Rattle.ijvm_simulation.specs.Interpretation.{Reading}
+use Rattle.ijvm_simulation.specs.Promises.{Promises}
+use Rattle.ijvm_simulation.proofs.Stores.{promises_of_store, runs_of_store, reads_of_store, writes_of_store}
 use Rattle.ijvm_simulation.proofs.run.run_image.Given.{Over}
 use Rattle.ijvm_simulation.proofs.run.run_image.Goals as goal
 
-known : (g : Over) → (c : goal.After-run g) → Known
-known g c = record { sound = c.accepted_images_keep_sound.ensures; start = c.runs_keep_words.ensures.start; goes = c.runs_keep_words.ensures.goes }
+abbrev reading : (g : Over) → Reading g.I.Machine.Clocked.State g.I.Machine.Clocked.State
+reading g = record { seen = λ state. state; timing = g.I.Interpreter.timing }
 
-promises : (g : Over) → (c : goal.After-run g) → Promises g.I.Machine.Clocked.meaning g.I.Machine.Clocked.IsReady g.I.Interpreter.IsShipped g.I.Interpreter.entry g.I.Interpreter.timing
-promises g c = record { law = c.law.ensures.law; boots = c.law.ensures.boots; grows = c.law.ensures.grows }
+promises : (g : Over) → (c : goal.After-run_with g) →
+    Promises g.I.Machine.Clocked.meaning g.I.Machine.Clocked.IsReady (λ words. words ≡ c.in_ok-store.store.words) c.entry.result g.I.Interpreter.timing
+promises g c =
+    promises_of_store g.I.Machine.Clocked.state g.I.Machine.Clocked.meaning g.I.Machine.Clocked.IsReady g.I.Interpreter.IsShipped g.I.Interpreter.entry g.I.Interpreter.timing
+    c.in_ok-store.store.words c.in_ok-store.ensures.shipped c.entry.result c.entry.ensures.value
+    (record { law = c.law.ensures.law; boots = c.law.ensures.boots; grows = c.law.ensures.grows })
 
 pub returns-clause-run : goal.returns-clause-run
-returns-clause-run g c = λ none.
-    has_run g.I.Machine.Clocked.state g.I.Machine.Clocked.meaning g.I.Machine.Clocked.IsReady g.I.Interpreter.IsShipped g.I.Interpreter.entry g.I.Interpreter.timing (promises g c)
-    c.args.image.now (known g c) c.args.bound _ _ _ _ c.in_ok-board.board c.run.new.self c.in_ok-board.ensures.reset
-    c.in_ok-board.ensures.store (sym c.run.ensures.goes_on.store) c.run.ensures.goes_on.source_goes_on.tells_left
-    c.run.result c.run.ensures.end (c.run.ensures.kept c.in_ok-board.ensures.reset.end) (c.run.ensures.run c.in_ok-board.ensures.reset.end none)
+returns-clause-run g c =
+    runs_of_store g.I.Machine.Clocked.state g.I.Machine.Clocked.meaning g.I.Machine.Clocked.IsReady g.I.Interpreter.IsShipped g.I.Interpreter.entry g.I.Interpreter.timing
+    c.in_ok-store.store.words c.in_ok-store.ensures.shipped c.entry.result c.entry.ensures.value
+    c.args.image.now c.args.bound g.S.Source.left g.K.Sink.held _ _ _ _ c.run_with.result (c.run_with.ensures.run (reading g) (promises g c))
 
 pub returns-clause-read : goal.returns-clause-read
-returns-clause-read g c = λ failed.
-    is_cut_by_read g.I.Machine.Clocked.state g.I.Machine.Clocked.meaning g.I.Machine.Clocked.IsReady g.I.Interpreter.IsShipped g.I.Interpreter.entry g.I.Interpreter.timing (promises g c)
-    c.args.image.now (known g c) c.args.bound _ _ _ _ c.in_ok-board.board c.run.new.self c.in_ok-board.ensures.reset
-    c.in_ok-board.ensures.store (sym c.run.ensures.goes_on.store) c.run.ensures.goes_on.source_goes_on.tells_left
-    (c.run.ensures.read c.in_ok-board.ensures.reset.end failed)
+returns-clause-read g c =
+    reads_of_store g.I.Machine.Clocked.state g.I.Machine.Clocked.meaning g.I.Machine.Clocked.IsReady g.I.Interpreter.IsShipped g.I.Interpreter.entry g.I.Interpreter.timing
+    c.in_ok-store.store.words c.in_ok-store.ensures.shipped c.entry.result c.entry.ensures.value
+    c.args.image.now c.args.bound g.S.Source.left g.K.Sink.held _ _ _ _ c.run_with.result (c.run_with.ensures.read (reading g) (promises g c))
 
 pub returns-clause-write : goal.returns-clause-write
-returns-clause-write g c = λ failed.
-    is_cut_by_write g.I.Machine.Clocked.state g.I.Machine.Clocked.meaning g.I.Machine.Clocked.IsReady g.I.Interpreter.IsShipped g.I.Interpreter.entry g.I.Interpreter.timing (promises g c)
-    c.args.image.now (known g c) c.args.bound _ _ _ _ c.in_ok-board.board c.run.new.self c.in_ok-board.ensures.reset
-    c.in_ok-board.ensures.store (sym c.run.ensures.goes_on.store) c.run.ensures.goes_on.source_goes_on.tells_left
-    c.run.ensures.goes_on.sink_goes_on.keeps (c.run.ensures.write c.in_ok-board.ensures.reset.end failed)
-
-pub returns-clause-cause : goal.returns-clause-cause
-returns-clause-cause g c = rw c.in_ok-board.ensures.reset.end at c.run.ensures.goes_on.cause
+returns-clause-write g c =
+    writes_of_store g.I.Machine.Clocked.state g.I.Machine.Clocked.meaning g.I.Machine.Clocked.IsReady g.I.Interpreter.IsShipped g.I.Interpreter.entry g.I.Interpreter.timing
+    c.in_ok-store.store.words c.in_ok-store.ensures.shipped c.entry.result c.entry.ensures.value
+    c.args.image.now c.args.bound g.S.Source.left g.K.Sink.held _ _ _ _ c.run_with.result (c.run_with.ensures.write (reading g) (promises g c))
