@@ -1,24 +1,10 @@
--- A fault that is passed on is the fault of the edge.
-use Rattle.std.proofs.Common.{◌≡◌, ℕ, List, Option, Result, Ok, Err, IsErrAnd, ap, subst, sym}
+-- What a fault that is passed on leaves of the source and the sink.
+use Rattle.std.proofs.Common.{◌≡◌, ℕ, List, Option, Result, Err, IsErrAnd, sym}
 use Rattle.console_port.specs.Streams.{StreamsGoOn}
 use Rattle.console_port.specs.View.{BusView}
 use Rattle.console_port.specs.declared.fault.BusFault.{BusFault}
 use Rattle.console_port.specs.declared.fault.BusFault.TheVariants.{ReadFault, WriteFault}
-use Rattle.mic_clock.specs.Edge.{IsEdge}
-use Rattle.mic1_datapath.specs.Mic1.{mic1_meaning}
-use Rattle.mic1_datapath.specs.Micro.{Micro}
-
-is_passed : {T : Type 0} (r : Result T BusFault) (e : BusFault) → IsErrAnd r (λ f. f ≡ e) → r ≡ Err e
-is_passed (Ok v) e h = absurd h
-is_passed (Err f) e h = ap Err h
-
-module _ (word : ℕ) (m : Micro) (left held : Option (List ℕ)) (bus : BusView) (left' held' : Option (List ℕ)) (bus' : BusView) where
-  pub edge_passed : {T U : Type 0} (m' : Micro) (e : BusFault) (r : Result U BusFault) → IsErrAnd r (λ f. f ≡ e) →
-      IsEdge mic1_meaning word m left held bus {T = T} m' left' held' bus' (Err e) →
-      IsEdge mic1_meaning word m left held bus {T = U} m' left' held' bus' r
-  edge_passed {T} {U} m' e r is h =
-      subst (λ (x : Result U BusFault). IsEdge mic1_meaning word m left held bus {T = U} m' left' held' bus' x) (sym (is_passed r e is))
-      (record { ok = tt; others = tt; refusal = λ w f shows refused. let same = h.refusal w f shows refused in cc; err = h.err; state = h.state; stands = h.stands })
+use Rattle.mic_datapath.specs.Edges.{handed_on}
 
 same_fault : {T U : Type 0} (e f : BusFault) (r : Result T BusFault) (q : Result U BusFault) → r ≡ Err e → q ≡ Err e → r ≡ Err f → q ≡ Err f
 same_fault e f r q was is at = cc
@@ -30,7 +16,7 @@ module _ {S K : Type 0} (left : S → Option (List ℕ)) (source_faults : S → 
       StreamsGoOn left source_faults held passed sink_faults {T = T} bus source sink bus' source' sink' r →
       StreamsGoOn left source_faults held passed sink_faults {T = U} bus source sink bus' source' sink' q
   streams_passed e r q was passes h =
-      let is = is_passed q e passes in
+      let is = sym (handed_on q e passes) in
       record {
         source_goes_on = h.source_goes_on;
         sink_goes_on = record {

@@ -1,8 +1,8 @@
 -- What is asked of the bus for a statement, with its accesses, is its microstep or its refusal.
-use Rattle.std.proofs.Common.{◌≡◌, ℕ, ◌%◌, ◌≤◌, ◌==◌, ◌&&◌, Bool, true, false, if◌then◌else◌, IsTrue, List, Option, Some, None, Result, Ok, Err, length, inl, inr, refl, sym, ap, subst, ◌∙◌, arith}
+use Rattle.std.proofs.Common.{◌≡◌, ℕ, Bool, true, false, if◌then◌else◌, List, Option, Some, None, Result, Ok, Err, length, refl, sym, ap, subst, ◌∙◌, arith}
 use Rattle.std.specs.Prelude.{⊤, IfErr, IsErrAnd, OnErr, OnOk}
-use Rattle.console_port.specs.World.{World, Refusal, StackLimit, OutOfMap, fault_of, console_at}
-use Rattle.console_port.specs.Bus.{ChangesOnly, IsLed, Shows, Stands, refused_by}
+use Rattle.console_port.specs.World.{World, Refusal}
+use Rattle.console_port.specs.Bus.{ChangesOnly, IsLed, Shows, refused_by}
 use Rattle.console_port.specs.Console.{HasFaultCause, IsFault, StillTells}
 use Rattle.console_port.specs.Streams.{StreamsGoOn}
 use Rattle.console_port.specs.View.{BusView}
@@ -14,11 +14,12 @@ use Rattle.micro_word.specs.Layout.{fields_of}
 use Rattle.micro_word.specs.Lines.{names}
 use Rattle.micro_word.specs.Operation.{shifted}
 use Rattle.micro_word.specs.declared.statement.Mem.{Mem}
-use Rattle.micro_word.specs.declared.statement.Mem.TheVariants as mems
 use Rattle.micro_word.specs.declared.statement.Placed.{Placed}
-use Rattle.mic_clock.specs.Edge.{IsEdge, IsEdgeOver, LetsBytesWait}
-use Rattle.mic_clock.specs.Meaning.{Outcome, Done, refusal_in, untaken_by, given_by, ReadsConsole, WritesConsole, UsesConsole}
-use Rattle.mic_datapath.specs.Access.{AtConsole, HasAccessed, IsTransfer, is_read, is_access, LetsBytesWait as LetsWait}
+use Rattle.mic_clock.specs.Edge.{IsEdge, LetsBytesWait}
+use Rattle.mic_clock.specs.Meaning.{Outcome, Done, refusal_in}
+use Rattle.mic_datapath.specs.Access.{AtConsole, HasAccessed, IsTransfer, LetsBytesWait as LetsWait}
+use Rattle.mic_datapath.specs.Edges as edges
+use Rattle.mic_datapath.specs.Edges.{Asks, answered, refused_no_fault, second_clear}
 use Rattle.mic_datapath.specs.Memory.{first_refusal, memory_refusal, word_under_way, written, sampled, outcome}
 use Rattle.mic_datapath.specs.Registers.{loaded, ports_given}
 use Rattle.mic_datapath.specs.declared.ports.Ports.{Ports}
@@ -151,28 +152,23 @@ is_done s m p h w v n size word words clear a shown t moves =
     ∙ (λ i. Done (moved_on s m (result_of s.part m) (over i) (its_word i)) (after i))
     ∙ ap (λ (x : Micro). Done x v) (sym moves)
 
-answered : (r : Option Refusal) (m : Micro) (w : World) → refusal_in (outcome r m w) ≡ refused_by r
-answered (Some why) m w = refl
-answered None m w = refl
-
-module _ (s : Placed) (m : Micro) (p : Asked) (h : IsAsked s m p) (n : ℕ) (w : World) (size : length w.words ≡ n) where
-  -- the step's refusal is that of its accesses
-  step_refusal : refusal_in (microstep s m w) ≡ refused_by (refusal_on n p)
-  step_refusal =
-      ap refusal_in (goes_on s m p h n w size)
-      ∙ answered (refusal n s m) (clock n s m w) (world_after n s m w) ∙ ap refused_by (same_refusal s m p h n)
-
-  done_with : refusal_on n p ≡ None → microstep s m w ≡ Done (clock n s m w) (sampled n p.mem p.ports (written n p.mem p.ports w))
-  done_with clear =
-      goes_on s m p h n w size
-      ∙ (ap (λ (r : Option Refusal). outcome r (clock n s m w) (world_after n s m w)) (same_refusal s m p h n ∙ clear)
-      ∙ sym (λ i. Done (clock n s m w) (sampled n (h.memory i) (h.given i) (written n (h.memory i) (h.given i) w))))
-
--- a refusal is no fault
-pub refused_no_fault : (r : Option Refusal) (e : BusFault) → refused_by r ≡ Some e → IsFault e → ⊥
-refused_no_fault None e is fault = absurd (cc)
-refused_no_fault (Some (StackLimit at)) e is fault = let same : e ≡ fault_of (StackLimit at) = cc in subst IsFault same fault
-refused_no_fault (Some (OutOfMap at)) e is fault = let same : e ≡ fault_of (OutOfMap at) = cc in subst IsFault same fault
+-- a statement asks for its accesses, in a cycle that does not stall
+asks : (word : ℕ) (m : Micro) (p : Asked) → IsAsked (statement_of machines.Mic2 word) m p → Asks mic2_meaning word m p.ports p.mem (λ n. refusal_on n p)
+unfolding step_of_word
+asks word m p h =
+    let s = statement_of machines.Mic2 word in
+    record {
+      after = λ w. clock (length w.words) s m w;
+      refused = λ w.
+          let n = length w.words in
+          ap refusal_in (goes_on s m p h n w refl)
+          ∙ answered (refusal n s m) (clock n s m w) (world_after n s m w) ∙ ap refused_by (same_refusal s m p h n);
+      done = λ w clear.
+          let n = length w.words in
+          goes_on s m p h n w refl
+          ∙ (ap (λ (r : Option Refusal). outcome r (clock n s m w) (world_after n s m w)) (same_refusal s m p h n ∙ clear)
+          ∙ sym (λ i. Done (clock n s m w) (sampled n (h.memory i) (h.given i) (written n (h.memory i) (h.given i) w))));
+    }
 
 -- a refusal has no cause in the source or the sink
 no_cause : (why : Option Refusal) (source sink : ℕ) (r : Result ⊤ BusFault) → IfErr r (λ e. refused_by why ≡ Some e) → HasFaultCause source source sink sink r
@@ -212,20 +208,6 @@ pub on_each_err : {P : Type 0} (r : Result ⊤ BusFault) (Q : BusFault → Type 
 on_each_err (Ok done) Q fails f = tt
 on_each_err (Err e) Q fails f = f e fails
 
--- the fault that a call hands on
-pub handed_on : {T : Type 0} (r : Result T BusFault) (e : BusFault) → IsErrAnd r (λ f. f ≡ e) → Err e ≡ r
-handed_on (Ok told) e h = absurd h
-handed_on (Err f) e h = λ i. Err (sym h i)
-
--- what is not refused is done
-pub unrefused : {P : Type 0} (r : Result ⊤ BusFault) (why : Option Refusal) → IfErr r (λ e. refused_by why ≡ Some e) → why ≡ None → OnOk r P → P
-unrefused (Ok done) why fails clear holds = holds
-unrefused (Err e) why fails clear holds = let none : None ≡ Some e = sym (ap refused_by clear) ∙ fails in absurd (cc)
-
-second_clear : (a b : Option Refusal) → first_refusal a b ≡ None → b ≡ None
-second_clear (Some why) b h = absurd (cc)
-second_clear None b h = h
-
 -- an access that is not refused leaves the unit's fetch clear
 pub samples_clear : (s : Placed) (m : Micro) (p : Asked) → IsAsked s m p → (n n' : ℕ) → n' ≡ n → refusal_on n p ≡ None →
     sample_refusal n' (unit_samples (jumps s.part) (settled s m).pc (demand s) m.unit) ≡ None
@@ -233,44 +215,6 @@ samples_clear s m p h n n' size clear =
     let its : p.at ≡ unit_samples (jumps s.part) (settled s m).pc (demand s) m.unit =
     h.its ∙ ap (λ (q : Ports). unit_samples (jumps s.part) q.pc (demand s) m.unit) h.given in
     (λ i. sample_refusal (size i) (sym its i)) ∙ second_clear (memory_refusal n p.mem p.ports.mar) (sample_refusal n p.at) clear
-
-both : (a b : Bool) → (a && b) ≡ true → a ≡ true
-both true b h = refl
-both false b h = absurd (cc)
-
-module _ (law : AtConsole) (word : ℕ) (m : Micro) (p : Asked) (h : IsAsked (statement_of machines.Mic2 word) m p) (n : ℕ) (w : World) (size : length w.words ≡ n)
-    (clear : refusal_on n p ≡ None) (behind : n ≤ p.ports.mar) where
-  reads_by : is_read p.mem ≡ true → ReadsConsole mic2_meaning word m w
-  unfolding step_of_word
-  reads_by is =
-      record {
-        takes = λ input.
-            ap untaken_by (done_with (statement_of machines.Mic2 word) m p h n (record w { untaken = input }) size clear)
-            ∙ ap Some (law.takes n p.ports p.mem (record w { untaken = input }) behind is);
-      }
-
-  writes_by : p.mem ≡ mems.Write → WritesConsole mic2_meaning word m w
-  unfolding step_of_word
-  writes_by is =
-      record {
-        byte = p.ports.mdr % 256;
-        gives =
-            ap given_by (done_with (statement_of machines.Mic2 word) m p h n w size clear)
-            ∙ (ap (λ (mem : Mem). Some (sampled n mem p.ports (written n mem p.ports w)).given) is ∙ ap Some (law.gives n p.ports w behind));
-      }
-
-  -- a failed read of the console is of a step that reads it
-  reads_console : IsTrue (is_read p.mem && p.ports.mar == console_at) → ReadsConsole mic2_meaning word m w
-  reads_console t = reads_by (both _ _ t)
-
-  -- a failed access of the console is of a step that reads or writes it
-  uses_console : IsTrue (is_access p.mem && p.ports.mar == console_at) → UsesConsole mic2_meaning word m w
-  uses_console t = by_mem p.mem refl (both _ _ t)
-    where
-      by_mem : (mem : Mem) → p.mem ≡ mem → is_access mem ≡ true → UsesConsole mic2_meaning word m w
-      by_mem mems.Read is a = inl (reads_by (ap is_read is))
-      by_mem mems.Write is a = inr (writes_by is)
-      by_mem mems.None is a = absurd (cc)
 
 -- a cycle that stalls
 
@@ -295,180 +239,63 @@ module _ (word : ℕ) (m : Micro) (left held : Option (List ℕ)) (bus : BusView
   abbrev Edges : Micro → Option (List ℕ) → Option (List ℕ) → BusView → Result ⊤ BusFault → Type 0
   Edges t left' held' bus' result = IsEdge mic2_meaning word m left held bus {T = ⊤} t left' held' bus' result
 
-  size_of : (w : World) → Shows left held bus w → length w.words ≡ length bus.words
-  size_of w shows = ap (λ (ws : List ℕ). length ws) shows.words
-
-  -- a refused edge leaves all
-  refused_edge : (why : Option Refusal) → ((w : World) → Shows left held bus w → refusal_in (step_of_word word m w) ≡ refused_by why) →
-      (bus' : BusView) → bus' ≡ bus → (t : Micro) → t ≡ m → (e : BusFault) → refused_by why ≡ Some e → Edges t left held bus' (Err e)
-  refused_edge why step bus' same t stays e fails =
-      let never = refused_no_fault why e fails in
-      record {
-        ok = tt;
-        others = tt;
-        refusal = λ w f shows refused. let its = sym fails ∙ (sym (step w shows) ∙ refused) in cc;
-        err = record {
-          refused = λ no_fault w shows. step w shows ∙ fails;
-          reads = λ is w shows. absurd (never (subst IsFault (sym is) tt));
-          uses = λ is w shows. absurd (never (subst IsFault (sym is) tt));
-        };
-        state = stays;
-        stands =
-            subst (λ (b : BusView). Stands left held bus left held b e) (sym same)
-            (record {
-              words = refl;
-              same = λ no_fault w shows. shows;
-              untaken = refl;
-              ended = refl;
-              emptied = λ fault. absurd (never fault);
-              lost = λ is. absurd (never (subst IsFault (sym is) tt));
-            });
-      }
+  size : (w : World) → Shows left held bus w → length w.words ≡ length bus.words
+  size = edges.size_of mic2_meaning word m left held bus
 
   -- an edge of a cycle that stalls
   module _ (waits : is_stalled (statement_of machines.Mic2 word) m ≡ true) where
-    pub stall_goes : edge_refusal (length bus.words) 0 m.unit ≡ None → (t : Micro) → t ≡ stalled bus.words m → Edges t left held bus (Ok tt)
+    stall_refused : (w : World) → Shows left held bus w → refusal_in (step_of_word word m w) ≡ refused_by (edge_refusal (length bus.words) 0 m.unit)
+    unfolding step_of_word
+    stall_refused w shows = stall_refusal (statement_of machines.Mic2 word) m w _ waits (size w shows)
+
+    stall_goes : edge_refusal (length bus.words) 0 m.unit ≡ None → (t : Micro) → t ≡ stalled bus.words m → Edges t left held bus (Ok tt)
     unfolding step_of_word
     stall_goes clear t moves =
-        let s = statement_of machines.Mic2 word in
         record {
-          ok = led_same left held bus _ (λ w shows. stall_done s m w _ waits (size_of w shows) clear _ shows.words t moves);
+          ok = led_same left held bus _ (λ w shows. stall_done (statement_of machines.Mic2 word) m w _ waits (size w shows) clear _ shows.words t moves);
           others = (refl, λ a other. refl);
-          refusal = λ w e shows refused.
-              let none = sym refused ∙ stall_refusal s m w _ waits (size_of w shows) ∙ ap refused_by clear in absurd (cc);
+          refusal = λ w e shows refused. let none = sym refused ∙ stall_refused w shows ∙ ap refused_by clear in absurd (cc);
           err = tt;
           state = tt;
           stands = tt;
         }
 
-    pub stall_fails : (t : Micro) → t ≡ m → (e : BusFault) → refused_by (edge_refusal (length bus.words) 0 m.unit) ≡ Some e →
-        Edges t left held bus (Err e)
-    unfolding step_of_word
-    stall_fails t stays e fails =
-        refused_edge (edge_refusal (length bus.words) 0 m.unit)
-        (λ w shows. stall_refusal (statement_of machines.Mic2 word) m w _ waits (size_of w shows)) bus refl t stays e fails
-
     pub stall_edge : (t : Micro) (r : Result ⊤ BusFault) → OnOk r (t ≡ stalled bus.words m) → OnOk r (edge_refusal (length bus.words) 0 m.unit ≡ None) →
         OnErr r (t ≡ m) → IfErr r (λ e. refused_by (edge_refusal (length bus.words) 0 m.unit) ≡ Some e) → Edges t left held bus r
     stall_edge t (Ok done) moves clear stays fails = stall_goes clear t moves
-    stall_edge t (Err e) moves clear stays fails = stall_fails t stays e fails
+    stall_edge t (Err e) moves clear stays fails =
+        edges.refused_edge mic2_meaning word m left held bus (edge_refusal (length bus.words) 0 m.unit) stall_refused bus refl t stays e fails
 
   -- an edge of any other cycle
   module _ (p : Asked) (h : IsAsked (statement_of machines.Mic2 word) m p) where
-    abbrev why : Option Refusal
-    why = refusal_on (length bus.words) p
+    abbrev why : ℕ → Option Refusal
+    why n = refusal_on n p
 
-    pub edge_done : (left' held' : Option (List ℕ)) (bus' : BusView) (read : Option ℕ) → why ≡ None →
+    pub edge_done : (left' held' : Option (List ℕ)) (bus' : BusView) (read : Option ℕ) → why (length bus.words) ≡ None →
         IsLed left held bus left' held' bus' (λ w v. IsTransfer (length bus.words) p.mem p.ports w read v) → ChangesOnly p.ports.mar bus.words bus'.words →
         (t : Micro) → t ≡ moved_on (statement_of machines.Mic2 word) m (result_of (statement_of machines.Mic2 word).part m) bus'.words read →
         Edges t left' held' bus' (Ok tt)
     unfolding step_of_word
     edge_done left' held' bus' read clear led others t moves =
-        let s = statement_of machines.Mic2 word in
-        record {
-          ok = λ rest fits.
-              let l = led rest fits in (
-                l.0,
-                l.1,
-                λ w shows same.
-                    let to = l.2 w shows same in
-                    (to.0, is_done s m p h w to.0 _ (size_of w shows) read bus'.words clear to.1 to.2.words t moves, to.2, to.3),
-              );
-          others =
-              subst (λ (at : ℕ). ChangesOnly at bus.words bus'.words) (ap (λ (q : Ports). q.mar) h.given ∙ sym (ap (λ (n : Micro). n.mar) moves)) others;
-          refusal = λ w e shows refused.
-              let none = sym refused ∙ step_refusal s m p h _ w (size_of w shows) ∙ ap refused_by clear in absurd (cc);
-          err = tt;
-          state = tt;
-          stands = tt;
-        }
-
-    pub edge_refused : (bus' : BusView) → bus' ≡ bus → (t : Micro) → t ≡ m → (e : BusFault) → refused_by why ≡ Some e → Edges t left held bus' (Err e)
-    unfolding step_of_word
-    edge_refused bus' same t stays e fails =
-        refused_edge why (λ w shows. step_refusal (statement_of machines.Mic2 word) m p h _ w (size_of w shows)) bus' same t stays e fails
+        edges.edge_done mic2_meaning word m left held bus p.ports p.mem why (asks word m p h) left' held' bus' clear led others t
+        (ap (λ (q : Ports). q.mar) h.given ∙ sym (ap (λ (n : Micro). n.mar) moves))
+        (λ w v shows shown a. is_done (statement_of machines.Mic2 word) m p h w v _ (size w shows) read bus'.words clear a shown.words t moves)
 
     -- an edge without a fault: it is done with what is sampled, or refused
     pub edge_either : (bus' : BusView) (read : Option ℕ) (t : Micro) (r : Result ⊤ BusFault) →
         IsLed left held bus left held bus' (λ w v. IsTransfer (length bus.words) p.mem p.ports w read v) → ChangesOnly p.ports.mar bus.words bus'.words →
-        OnOk r (why ≡ None) → OnOk r (t ≡ moved_on (statement_of machines.Mic2 word) m (result_of (statement_of machines.Mic2 word).part m) bus'.words read) →
-        OnErr r (bus' ≡ bus) → OnErr r (t ≡ m) → IfErr r (λ e. refused_by why ≡ Some e) → Edges t left held bus' r
+        OnOk r (why (length bus.words) ≡ None) → OnOk r (t ≡ moved_on (statement_of machines.Mic2 word) m (result_of (statement_of machines.Mic2 word).part m) bus'.words read) →
+        OnErr r (bus' ≡ bus) → OnErr r (t ≡ m) → IfErr r (λ e. refused_by (why (length bus.words)) ≡ Some e) → Edges t left held bus' r
     edge_either bus' read t (Ok done) led others clear moves same stays fails = edge_done left held bus' read clear led others t moves
-    edge_either bus' read t (Err e) led others clear moves same stays fails = edge_refused bus' same t stays e fails
+    edge_either bus' read t (Err e) led others clear moves same stays fails =
+        edges.edge_refused mic2_meaning word m left held bus p.ports p.mem why (asks word m p h) bus' same t stays e fails
 
-    module _ (law : AtConsole) where
-      pub edge_fails : {T : Type 0} (Does : T → World → World → Type 0) (left' held' : Option (List ℕ)) (bus' : BusView) (e : BusFault) →
-          HasAccessed why p.mem p.ports.mar Does left held bus left' held' bus' (Err e) → Edges m left' held' bus' (Err e)
-      unfolding step_of_word
-      edge_fails Does left' held' bus' e a =
-          let s = statement_of machines.Mic2 word in
-          record {
-            ok = tt;
-            others = tt;
-            refusal = λ w f shows refused.
-                let answer = a.refusal f (sym (step_refusal s m p h _ w (size_of w shows)) ∙ refused) in cc;
-            err = record {
-              refused = λ no_fault w shows. step_refusal s m p h _ w (size_of w shows) ∙ a.refused no_fault;
-              reads = λ is w shows.
-                  let fault : IsFault e = subst IsFault (sym is) tt in
-                  reads_console law word m p h _ w (size_of w shows) (a.clear fault) (a.behind fault) (a.reads (cc));
-              uses = λ is w shows.
-                  let fault : IsFault e = subst IsFault (sym is) tt in
-                  uses_console law word m p h _ w (size_of w shows) (a.clear fault) (a.behind fault) (a.uses (cc));
-            };
-            state = refl;
-            stands = a.stands;
-          }
+    pub edge_fails : {T U : Type 0} (law : AtConsole) (Does : T → World → World → Type 0) (left' held' : Option (List ℕ)) (bus' : BusView) (e : BusFault)
+        (r : Result U BusFault) → IsErrAnd r (λ f. f ≡ e) → HasAccessed (why (length bus.words)) p.mem p.ports.mar Does left held bus left' held' bus' (Err e) →
+        IsEdge mic2_meaning word m left held bus {T = U} m left' held' bus' r
+    edge_fails law Does left' held' bus' e r hands a =
+        edges.edge_fails mic2_meaning word m left held bus p.ports p.mem why (asks word m p h) law Does left' held' bus' e r hands a
 
-      pub edge_waits : {K : Type 0} (sink sink' : K) → LetsWait (length bus.words) p.mem p.ports.mar why bus.console.kept sink sink' →
-          LetsBytesWait mic2_meaning word m left held bus sink sink'
-      edge_waits sink sink' lets room =
-          elim (lets room) [
-            | inl same ↦ inl same
-            | inr asks ↦ inr (asks.some, λ w shows. reads_console law word m p h _ w (size_of w shows) asks.clear asks.behind asks.reads)
-          ]
-
--- an edge of a cycle is one of the same word and state, with the result that the cycle returns
-module _ {S K : Type 0} (left : S → Option (List ℕ)) (held : K → Option (List ℕ)) (word word' : ℕ) (m m' : Micro) (same : word' ≡ word) (stays : m' ≡ m)
-    (bus : BusView) (source : S) (sink : K) (t : Micro) (bus' : BusView) (source' : S) (sink' : K) where
-  over_for : (r : Result ⊤ BusFault) → IsEdgeOver mic2_meaning left held word' m' bus source sink t bus' source' sink' r →
-      IsEdgeOver mic2_meaning left held word m bus source sink t bus' source' sink' r
-  over_for r over =
-      subst (λ (w : ℕ). IsEdgeOver mic2_meaning left held w m bus source sink t bus' source' sink' r) same
-      (subst (λ (n : Micro). IsEdgeOver mic2_meaning left held word' n bus source sink t bus' source' sink' r) stays over)
-
-  pub over_told : {T : Type 0} (told : T) → IsEdgeOver mic2_meaning left held {T = ⊤} word' m' bus source sink t bus' source' sink' (Ok tt) →
-      IsEdgeOver mic2_meaning left held {T = T} word m bus source sink t bus' source' sink' (Ok told)
-  over_told told over =
-      let o = over_for (Ok tt) over in
-      let edge = o.edge in
-      record {
-        edge = record {
-          ok = edge.ok;
-          others = edge.others;
-          refusal = λ w e shows refused. absurd (let is = edge.refusal w e shows refused in cc);
-          err = tt;
-          state = tt;
-          stands = tt;
-        };
-        waits = o.waits;
-      }
-
-  pub over_failed : {T : Type 0} (e : BusFault) (r : Result T BusFault) → IsErrAnd r (λ f. f ≡ e) →
-      IsEdgeOver mic2_meaning left held {T = ⊤} word' m' bus source sink t bus' source' sink' (Err e) →
-      IsEdgeOver mic2_meaning left held {T = T} word m bus source sink t bus' source' sink' r
-  over_failed {T} e r hands over =
-      let o = over_for (Err e) over in
-      let edge = o.edge in
-      subst (λ (x : Result T BusFault). IsEdgeOver mic2_meaning left held {T = T} word m bus source sink t bus' source' sink' x) (handed_on r e hands)
-      (record {
-        edge = record {
-          ok = tt;
-          others = tt;
-          refusal = λ w f shows refused. let is = edge.refusal w f shows refused in let same : e ≡ f = cc in cc;
-          err = edge.err;
-          state = edge.state;
-          stands = edge.stands;
-        };
-        waits = o.waits;
-      })
+    pub edge_waits : {K : Type 0} (law : AtConsole) (sink sink' : K) → LetsWait (length bus.words) p.mem p.ports.mar (why (length bus.words)) bus.console.kept sink sink' →
+        LetsBytesWait mic2_meaning word m left held bus sink sink'
+    edge_waits = edges.edge_waits mic2_meaning word m left held bus p.ports p.mem why (asks word m p h)

@@ -1,22 +1,21 @@
 -- What is asked of the bus for the statement that retires, with its access, is the cycle or its refusal.
-use Rattle.std.proofs.Common.{arith, ◌≡◌, ℕ, ◌%◌, ◌≤◌, ◌==◌, ◌&&◌, Bool, true, false, if◌then◌else◌, IsTrue, List, Option, Some, None, Result, Ok, Err, length, inl, inr, refl, sym, ap, ap₂, subst, ◌∙◌}
-use Rattle.std.specs.Prelude.{⊤, IfErr, IsErrAnd, OnErr, OnOk, nat_lt, ◌||◌}
+use Rattle.std.proofs.Common.{arith, ◌≡◌, ℕ, ◌≤◌, Bool, true, false, if◌then◌else◌, List, Option, Some, None, Result, Ok, Err, length, refl, sym, ap, ap₂, ◌∙◌}
+use Rattle.std.specs.Prelude.{⊤, IsErrAnd, OnErr, nat_lt, ◌||◌}
 use Rattle.std.proofs.lemmas.Bool.Decides.{nat_tests}
-use Rattle.console_port.specs.World.{World, Refusal, console_at}
-use Rattle.console_port.specs.Bus.{ChangesOnly, IsLed, Shows, refused_by}
-use Rattle.console_port.specs.Console.{IsFault}
+use Rattle.console_port.specs.World.{World, Refusal}
+use Rattle.console_port.specs.Bus.{ChangesOnly, IsLed, refused_by}
 use Rattle.console_port.specs.View.{BusView}
 use Rattle.console_port.specs.declared.fault.BusFault.{BusFault}
 use Rattle.mic_clock.specs.declared.buses.Computed.{Computed as Values}
 use Rattle.mic_clock.specs.declared.buses.Drive.{Drive}
 use Rattle.mic_words.specs.declared.machine.Machine.TheVariants as machines
 use Rattle.micro_word.specs.Coding.{statement_of}
-use Rattle.micro_word.specs.declared.statement.Mem.{Mem}
-use Rattle.micro_word.specs.declared.statement.Mem.TheVariants as mems
 use Rattle.micro_word.specs.declared.statement.Placed.{Placed}
-use Rattle.mic_clock.specs.Edge.{IsEdge, IsEdgeOver, LetsBytesWait}
-use Rattle.mic_clock.specs.Meaning.{Done, refusal_in, untaken_by, given_by, ReadsConsole, WritesConsole, UsesConsole}
-use Rattle.mic_datapath.specs.Access.{AtConsole, HasAccessed, IsTransfer, is_read, is_access, LetsBytesWait as LetsWait}
+use Rattle.mic_clock.specs.Edge.{IsEdge, LetsBytesWait}
+use Rattle.mic_clock.specs.Meaning.{Done, refusal_in}
+use Rattle.mic_datapath.specs.Access.{AtConsole, HasAccessed, IsTransfer, LetsBytesWait as LetsWait}
+use Rattle.mic_datapath.specs.Edges as edges
+use Rattle.mic_datapath.specs.Edges.{Asks, answered, second_clear}
 use Rattle.mic_datapath.specs.Memory.{first_refusal, memory_refusal, word_under_way, written, sampled, outcome}
 use Rattle.mic_datapath.specs.Registers.{NineRegisters, ports_given}
 use Rattle.mic_datapath.specs.declared.ports.Ports.{Ports}
@@ -68,193 +67,55 @@ is_done s i p q is h w v n size word words clear a shown t moves =
     (after j))
     ∙ ap (λ (x : Pipeline). Done x v) (sym moves)))
 
-answered : (r : Option Refusal) (p : Pipeline) (w : World) → refusal_in (outcome r p w) ≡ refused_by r
-answered (Some why) p w = refl
-answered None p w = refl
-
-module _ (s : Placed) (i : Option Issued) (p : Pipeline) (q : Asked) (is : issued s p ≡ i) (h : IsAsked i p q) (n : ℕ) (w : World) (size : length w.words ≡ n) where
-  -- the cycle's refusal is that of its accesses
-  step_refusal : refusal_in (cycle s p w) ≡ refused_by (refusal_on n q)
-  step_refusal =
-      ap refusal_in (goes_on s i p is n w size)
-      ∙ (answered (refusal n i p) (clock n i p w) (world_after n i p w) ∙ ap refused_by (same_refusal i p q h n))
-
-  done_with : refusal_on n q ≡ None → cycle s p w ≡ Done (clock n i p w) (sampled n q.mem q.ports (written n q.mem q.ports w))
-  done_with clear =
-      goes_on s i p is n w size
-      ∙ (ap (λ (r : Option Refusal). outcome r (clock n i p w) (world_after n i p w)) (same_refusal i p q h n ∙ clear)
-      ∙ sym (λ j. Done (clock n i p w) (sampled n (h.memory j) (h.given j) (written n (h.memory j) (h.given j) w))))
-
--- the fault that a call hands on
-pub handed_on : {T : Type 0} (r : Result T BusFault) (e : BusFault) → IsErrAnd r (λ f. f ≡ e) → Err e ≡ r
-handed_on (Ok told) e h = absurd h
-handed_on (Err f) e h = λ i. Err (sym h i)
-
--- what is not refused is done
-pub unrefused : {P : Type 0} (r : Result ⊤ BusFault) (why : Option Refusal) → IfErr r (λ e. refused_by why ≡ Some e) → why ≡ None → OnOk r P → P
-unrefused (Ok done) why fails clear holds = holds
-unrefused (Err e) why fails clear holds = let none : None ≡ Some e = sym (ap refused_by clear) ∙ fails in absurd (cc)
-
-second_clear : (a b : Option Refusal) → first_refusal a b ≡ None → b ≡ None
-second_clear (Some why) b h = absurd (cc)
-second_clear None b h = h
+-- what retires asks for its access
+asks : (word : ℕ) (i : Option Issued) (p : Pipeline) (q : Asked) → issued (statement_of machines.Mic2 word) p ≡ i → IsAsked i p q →
+    Asks mic3_meaning word p q.ports q.mem (λ n. refusal_on n q)
+unfolding step_of_word
+asks word i p q is h =
+    let s = statement_of machines.Mic2 word in
+    record {
+      after = λ w. clock (length w.words) i p w;
+      refused = λ w.
+          let n = length w.words in
+          ap refusal_in (goes_on s i p is n w refl)
+          ∙ (answered (refusal n i p) (clock n i p w) (world_after n i p w) ∙ ap refused_by (same_refusal i p q h n));
+      done = λ w clear.
+          let n = length w.words in
+          goes_on s i p is n w refl
+          ∙ (ap (λ (r : Option Refusal). outcome r (clock n i p w) (world_after n i p w)) (same_refusal i p q h n ∙ clear)
+          ∙ sym (λ j. Done (clock n i p w) (sampled n (h.memory j) (h.given j) (written n (h.memory j) (h.given j) w))));
+    }
 
 -- an access that is not refused leaves the unit's fetch clear
 pub samples_clear : (i : Option Issued) (p : Pipeline) (q : Asked) → IsAsked i p q → (n n' : ℕ) → n' ≡ n → refusal_on n q ≡ None →
     sample_refusal n' (unit_samples (is_jump_coming (computed_in p.result)) q.ports.pc (bytes_leaving i) p.micro.unit) ≡ None
 samples_clear i p q h n n' size clear = (λ j. sample_refusal (size j) (sym h.its j)) ∙ second_clear (memory_refusal n q.mem q.ports.mar) (sample_refusal n q.at) clear
 
-both : (a b : Bool) → (a && b) ≡ true → a ≡ true
-both true b h = refl
-both false b h = absurd (cc)
-
-module _ (law : AtConsole) (word : ℕ) (i : Option Issued) (p : Pipeline) (q : Asked) (is : issued (statement_of machines.Mic2 word) p ≡ i) (h : IsAsked i p q) (n : ℕ) (w : World) (size : length w.words ≡ n)
-    (clear : refusal_on n q ≡ None) (behind : n ≤ q.ports.mar) where
-  reads_by : is_read q.mem ≡ true → ReadsConsole mic3_meaning word p w
-  unfolding step_of_word
-  reads_by reads =
-      record {
-        takes = λ input.
-            ap untaken_by (done_with (statement_of machines.Mic2 word) i p q is h n (record w { untaken = input }) size clear)
-            ∙ ap Some (law.takes n q.ports q.mem (record w { untaken = input }) behind reads);
-      }
-
-  writes_by : q.mem ≡ mems.Write → WritesConsole mic3_meaning word p w
-  unfolding step_of_word
-  writes_by writes =
-      record {
-        byte = q.ports.mdr % 256;
-        gives =
-            ap given_by (done_with (statement_of machines.Mic2 word) i p q is h n w size clear)
-            ∙ (ap (λ (mem : Mem). Some (sampled n mem q.ports (written n mem q.ports w)).given) writes ∙ ap Some (law.gives n q.ports w behind));
-      }
-
-  -- a failed read of the console is of a cycle that reads it
-  reads_console : IsTrue (is_read q.mem && q.ports.mar == console_at) → ReadsConsole mic3_meaning word p w
-  reads_console t = reads_by (both _ _ t)
-
-  -- a failed access of the console is of a cycle that reads or writes it
-  uses_console : IsTrue (is_access q.mem && q.ports.mar == console_at) → UsesConsole mic3_meaning word p w
-  uses_console t = by_mem q.mem refl (both _ _ t)
-    where
-      by_mem : (mem : Mem) → q.mem ≡ mem → is_access mem ≡ true → UsesConsole mic3_meaning word p w
-      by_mem mems.Read e a = inl (reads_by (ap is_read e))
-      by_mem mems.Write e a = inr (writes_by e)
-      by_mem mems.None e a = absurd (cc)
-
 -- an edge is what its cycle's accesses come to
 module _ (word : ℕ) (i : Option Issued) (p : Pipeline) (q : Asked) (is : issued (statement_of machines.Mic2 word) p ≡ i) (h : IsAsked i p q)
     (left held : Option (List ℕ)) (bus : BusView) where
-  abbrev Edges : Pipeline → Option (List ℕ) → Option (List ℕ) → BusView → Result ⊤ BusFault → Type 0
-  Edges t left' held' bus' result = IsEdge mic3_meaning word p left held bus {T = ⊤} t left' held' bus' result
+  abbrev why : ℕ → Option Refusal
+  why n = refusal_on n q
 
-  abbrev why : Option Refusal
-  why = refusal_on (length bus.words) q
-
-  size_of : (w : World) → Shows left held bus w → length w.words ≡ length bus.words
-  size_of w shows = ap (λ (ws : List ℕ). length ws) shows.words
-
-  pub edge_done : (left' held' : Option (List ℕ)) (bus' : BusView) (read : Option ℕ) → why ≡ None →
+  pub edge_done : (left' held' : Option (List ℕ)) (bus' : BusView) (read : Option ℕ) → why (length bus.words) ≡ None →
       IsLed left held bus left' held' bus' (λ w v. IsTransfer (length bus.words) q.mem q.ports w read v) → ChangesOnly q.ports.mar bus.words bus'.words →
-      (t : Pipeline) → t ≡ edged i p bus'.words read → Edges t left' held' bus' (Ok tt)
+      (t : Pipeline) → t ≡ edged i p bus'.words read → IsEdge mic3_meaning word p left held bus {T = ⊤} t left' held' bus' (Ok tt)
   unfolding step_of_word
   edge_done left' held' bus' read clear led others t moves =
-      let s = statement_of machines.Mic2 word in
-      record {
-        ok = λ rest fits.
-            let l = led rest fits in (
-              l.0,
-              l.1,
-              λ w shows same.
-                  let to = l.2 w shows same in
-                  (to.0, is_done s i p q is h w to.0 _ (size_of w shows) read bus'.words clear to.1 to.2.words t moves, to.2, to.3),
-            );
-        others =
-            subst (λ (at : ℕ). ChangesOnly at bus.words bus'.words)
-            (ap (λ (x : Ports). x.mar) h.given ∙ sym (ap (λ (x : Pipeline). x.micro.mar) moves)) others;
-        refusal = λ w e shows refused.
-            let none = sym refused ∙ (step_refusal s i p q is h _ w (size_of w shows) ∙ ap refused_by clear) in absurd (cc);
-        err = tt;
-        state = tt;
-        stands = tt;
-      }
+      edges.edge_done mic3_meaning word p left held bus q.ports q.mem why (asks word i p q is h) left' held' bus' clear led others t
+      (ap (λ (x : Ports). x.mar) h.given ∙ sym (ap (λ (x : Pipeline). x.micro.mar) moves))
+      (λ w v shows shown a.
+      is_done (statement_of machines.Mic2 word) i p q is h w v _ (edges.size_of mic3_meaning word p left held bus w shows) read bus'.words clear a shown.words t moves)
 
-  module _ (law : AtConsole) where
-    pub edge_fails : {T : Type 0} (Does : T → World → World → Type 0) (left' held' : Option (List ℕ)) (bus' : BusView) (e : BusFault) →
-        HasAccessed why q.mem q.ports.mar Does left held bus left' held' bus' (Err e) → Edges p left' held' bus' (Err e)
-    unfolding step_of_word
-    edge_fails Does left' held' bus' e a =
-        let s = statement_of machines.Mic2 word in
-        record {
-          ok = tt;
-          others = tt;
-          refusal = λ w f shows refused.
-              let answer = a.refusal f (sym (step_refusal s i p q is h _ w (size_of w shows)) ∙ refused) in cc;
-          err = record {
-            refused = λ no_fault w shows. step_refusal s i p q is h _ w (size_of w shows) ∙ a.refused no_fault;
-            reads = λ same w shows.
-                let fault : IsFault e = subst IsFault (sym same) tt in
-                reads_console law word i p q is h _ w (size_of w shows) (a.clear fault) (a.behind fault) (a.reads (cc));
-            uses = λ same w shows.
-                let fault : IsFault e = subst IsFault (sym same) tt in
-                uses_console law word i p q is h _ w (size_of w shows) (a.clear fault) (a.behind fault) (a.uses (cc));
-          };
-          state = refl;
-          stands = a.stands;
-        }
+  pub edge_fails : {T U : Type 0} (law : AtConsole) (Does : T → World → World → Type 0) (left' held' : Option (List ℕ)) (bus' : BusView) (e : BusFault)
+      (r : Result U BusFault) → IsErrAnd r (λ f. f ≡ e) → HasAccessed (why (length bus.words)) q.mem q.ports.mar Does left held bus left' held' bus' (Err e) →
+      IsEdge mic3_meaning word p left held bus {T = U} p left' held' bus' r
+  edge_fails law Does left' held' bus' e r hands a =
+      edges.edge_fails mic3_meaning word p left held bus q.ports q.mem why (asks word i p q is h) law Does left' held' bus' e r hands a
 
-    pub edge_waits : {K : Type 0} (sink sink' : K) → LetsWait (length bus.words) q.mem q.ports.mar why bus.console.kept sink sink' →
-        LetsBytesWait mic3_meaning word p left held bus sink sink'
-    edge_waits sink sink' lets room =
-        elim (lets room) [
-          | inl same ↦ inl same
-          | inr asks ↦ inr (asks.some, λ w shows. reads_console law word i p q is h _ w (size_of w shows) asks.clear asks.behind asks.reads)
-        ]
-
--- an edge of a cycle is one of the same word and state, with the result that the cycle returns
-module _ {S K : Type 0} (left : S → Option (List ℕ)) (held : K → Option (List ℕ)) (word word' : ℕ) (p p' : Pipeline) (same : word' ≡ word) (stays : p' ≡ p)
-    (bus : BusView) (source : S) (sink : K) (t : Pipeline) (bus' : BusView) (source' : S) (sink' : K) where
-  over_for : (r : Result ⊤ BusFault) → IsEdgeOver mic3_meaning left held word' p' bus source sink t bus' source' sink' r →
-      IsEdgeOver mic3_meaning left held word p bus source sink t bus' source' sink' r
-  over_for r over =
-      subst (λ (w : ℕ). IsEdgeOver mic3_meaning left held w p bus source sink t bus' source' sink' r) same
-      (subst (λ (q : Pipeline). IsEdgeOver mic3_meaning left held word' q bus source sink t bus' source' sink' r) stays over)
-
-  pub over_told : {T : Type 0} (told : T) → IsEdgeOver mic3_meaning left held {T = ⊤} word' p' bus source sink t bus' source' sink' (Ok tt) →
-      IsEdgeOver mic3_meaning left held {T = T} word p bus source sink t bus' source' sink' (Ok told)
-  over_told told over =
-      let o = over_for (Ok tt) over in
-      let edge = o.edge in
-      record {
-        edge = record {
-          ok = edge.ok;
-          others = edge.others;
-          refusal = λ w e shows refused. absurd (let is = edge.refusal w e shows refused in cc);
-          err = tt;
-          state = tt;
-          stands = tt;
-        };
-        waits = o.waits;
-      }
-
-  pub over_failed : {T : Type 0} (e : BusFault) (r : Result T BusFault) → IsErrAnd r (λ f. f ≡ e) →
-      IsEdgeOver mic3_meaning left held {T = ⊤} word' p' bus source sink t bus' source' sink' (Err e) →
-      IsEdgeOver mic3_meaning left held {T = T} word p bus source sink t bus' source' sink' r
-  over_failed {T} e r hands over =
-      let o = over_for (Err e) over in
-      let edge = o.edge in
-      subst (λ (x : Result T BusFault). IsEdgeOver mic3_meaning left held {T = T} word p bus source sink t bus' source' sink' x) (handed_on r e hands)
-      (record {
-        edge = record {
-          ok = tt;
-          others = tt;
-          refusal = λ w f shows refused. let is = edge.refusal w f shows refused in let is_it : e ≡ f = cc in cc;
-          err = edge.err;
-          state = edge.state;
-          stands = edge.stands;
-        };
-        waits = o.waits;
-      })
+  pub edge_waits : {K : Type 0} (law : AtConsole) (sink sink' : K) → LetsWait (length bus.words) q.mem q.ports.mar (why (length bus.words)) bus.console.kept sink sink' →
+      LetsBytesWait mic3_meaning word p left held bus sink sink'
+  edge_waits = edges.edge_waits mic3_meaning word p left held bus q.ports q.mem why (asks word i p q is h)
 
 -- the edge that is done has moved both slots on
 pub moved : (i : Option Issued) (p : Pipeline) (words : List ℕ) (read : Option ℕ) (t : Pipeline) → t ≡ edged i p words read → HasMoved i p t

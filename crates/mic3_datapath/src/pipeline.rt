@@ -16,7 +16,7 @@ ghost use Rattle.mic3_datapath.specs.Cycle.{begins, bytes_leaving, computed, dis
 ghost use Rattle.mic3_datapath.specs.Mic3.{driven_by, initial as initial_of, mic3_meaning, values_of};
 ghost use Rattle.mic3_datapath.specs.Slots.{HasMoved, IsAsked, edged, in_operand, in_result, pipeline_in, retired_in, retiring, unit_refused, word_held};
 
-use crate::accesses::{access, access_inside};
+use crate::accesses::access_inside;
 use crate::hazards::{is_branch, is_held_up, is_to_instruction, jumps_now};
 use crate::slots::{OperandSlot, ResultSlot};
 use console_port::{Bus, BusFault};
@@ -24,7 +24,7 @@ use mic_base::{Sink, Source};
 use mic_clock::{Computed, Drive, Start};
 use mic_datapath::{Places, Ports, console_law};
 use mic1_alu::AluOut;
-use mic2_datapath::{Control, Latches, Operands, go, go_past, load, pc_after};
+use mic2_datapath::{Control, Latches, Operands, access, go, go_past, load, pc_after};
 use mic2_fetch_unit::FetchUnit;
 use micro_word::Mem;
 

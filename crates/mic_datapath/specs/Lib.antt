@@ -2,6 +2,7 @@ pub mod Registers
 pub mod Places
 pub mod Memory
 pub mod Access
+pub mod Edges
 pub mod Next
 pub mod Jam
 pub mod Stage

@@ -3,7 +3,7 @@ use Rattle.micro_word.specs.Coding.{statement_of, mem_of}
 use Rattle.mic_words.specs.declared.machine.Machine.TheVariants as machines
 use Rattle.mic1_datapath.specs.Microstep.{settled, next_micro}
 use Rattle.mic1_datapath.specs.Latches.{micro_in}
-use Rattle.mic1_datapath.proofs.Passed.{edge_passed, streams_passed}
+use Rattle.mic1_datapath.proofs.Passed.{streams_passed}
 use Rattle.mic1_datapath.proofs.Steps.{edge_done, edge_fails, edge_waits, is_asked}
 use Rattle.mic1_datapath.proofs.edge.any_edge.Goals as goal
 
@@ -35,8 +35,8 @@ returns-in_err-sampled-clause-edge g c =
     let held' = g.K.Sink.held c.access_tested.new.sink in
     record {
       edge =
-          edge_passed c.args.word m left held c.args.bus.now left' held' c.access_tested.new.bus m _ c.from_residual.result c.from_residual.ensures.1
-          (edge_fails c.args.word m _ is left held c.args.bus.now left' held' c.access_tested.new.bus c.console_law.ensures _ _ c.in_err-sampled.ensures.access);
+          edge_fails c.args.word m _ is left held c.args.bus.now left' held' c.access_tested.new.bus c.console_law.ensures _ _
+          c.from_residual.result c.from_residual.ensures.1 c.in_err-sampled.ensures.access;
       waits = edge_waits c.args.word m _ is left held c.args.bus.now c.console_law.ensures _ _ c.in_err-sampled.ensures.waits;
     }
 

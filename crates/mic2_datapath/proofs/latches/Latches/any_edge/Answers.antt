@@ -1,14 +1,11 @@
-use Rattle.std.proofs.Common.{ℕ, inl, refl, sym, ◌∙◌, ap, subst, Result}
-use Rattle.std.specs.Prelude.{⊤}
-use Rattle.console_port.specs.declared.fault.BusFault.{BusFault}
-use Rattle.mic_clock.specs.Edge.{IsEdge}
-use Rattle.mic2_datapath.specs.Mic2.{mic2_meaning}
+use Rattle.std.proofs.Common.{ℕ, inl, refl, sym, ◌∙◌, ap}
+use Rattle.mic_datapath.specs.Edges.{unrefused}
 use Rattle.mic2_datapath.proofs.Demands.{are_there}
 use Rattle.micro_word.specs.Coding.{statement_of}
 use Rattle.mic_words.specs.declared.machine.Machine.TheVariants as machines
 use Rattle.mic2_datapath.specs.Latches.{micro_in}
 use Rattle.mic2_datapath.specs.Microstep.{moved_on}
-use Rattle.mic2_datapath.proofs.Steps.{edge_done, edge_fails, edge_waits, handed_on, is_asked, samples_clear, stall_edge, streams_stay, unrefused}
+use Rattle.mic2_datapath.proofs.Steps.{edge_done, edge_fails, edge_waits, is_asked, samples_clear, stall_edge, streams_stay}
 use Rattle.mic2_datapath.proofs.latches.Latches.any_edge.Goals as goal
 
 -- a cycle that stalls
@@ -54,10 +51,9 @@ returns-in_err-sampled-clause-edge g c =
     let is = is_asked c.args.word m c.args.stalled c.args.value c.args.c _ _ _ _ _ _ c.requires.computed c.if-stalled.false
     c.destinations-destinations.ensures.value c.requires.decoded.demands c.is_named.ensures c.ports-ports.ensures c.mem_for.ensures
     c.will_fetch-at.ensures.refusal c.will_fetch-at.ensures.value in
-    let edge = edge_fails c.args.word m _ _ c.args.bus.now _ is c.console_law.ensures _ _ _ c.access.new.bus c.in_err-sampled.field-0.0 c.in_err-sampled.ensures.access in
     record {
       edge =
-          subst (λ (r : Result ⊤ BusFault). IsEdge mic2_meaning c.args.word m (g.S.Source.left c.args.source.now) (g.K.Sink.held c.args.sink.now)
-          c.args.bus.now {T = ⊤} m (g.S.Source.left c.access.new.source) (g.K.Sink.held c.access.new.sink) c.access.new.bus r) (handed_on _ _ c.from_residual.ensures.1) edge;
+          edge_fails c.args.word m _ _ c.args.bus.now _ is c.console_law.ensures _ _ _ c.access.new.bus c.in_err-sampled.field-0.0
+          c.from_residual.result c.from_residual.ensures.1 c.in_err-sampled.ensures.access;
       waits = edge_waits c.args.word m _ _ c.args.bus.now _ is c.console_law.ensures _ _ c.in_err-sampled.ensures.waits;
     }

@@ -1,8 +1,9 @@
 use Rattle.std.proofs.Common.{refl, sym, ap}
 use Rattle.mic_clock.specs.Run.{Buses}
+use Rattle.mic_datapath.specs.Edges.{over_failed, over_told}
 use Rattle.mic2_datapath.specs.Latches.{micro_in}
+use Rattle.mic2_datapath.specs.Mic2.{mic2_meaning}
 use Rattle.mic2_datapath.proofs.Buses.{at_edge, at_stall, buses_clocked, buses_stalled, nothing_on_side}
-use Rattle.mic2_datapath.proofs.Steps.{over_failed, over_told}
 use Rattle.mic2_datapath.proofs.mic2.Mic2Clocked.clock.Goals as goal
 
 -- a cycle that stalls
@@ -21,12 +22,12 @@ returns-then-waits-clause-seen g c =
 
 pub returns-then-waits-clause-edge : goal.returns-then-waits-clause-edge
 returns-then-waits-clause-edge g c =
-    over_told g.S.Source.left g.K.Sink.held _ _ _ _ c.decoded_at-word.ensures.word refl c.args.bus.now c.args.source.now c.args.sink.now
+    over_told mic2_meaning g.S.Source.left g.K.Sink.held _ _ _ _ c.decoded_at-word.ensures.word refl c.args.bus.now c.args.source.now c.args.sink.now
     (micro_in c.edge.new.self) c.edge.new.bus c.edge.new.source c.edge.new.sink _ c.in_ok-edge.ensures.edge
 
 pub returns-in_err-edge-clause-edge : goal.returns-in_err-edge-clause-edge
 returns-in_err-edge-clause-edge g c =
-    over_failed g.S.Source.left g.K.Sink.held _ _ _ _ c.decoded_at-word.ensures.word refl c.args.bus.now c.args.source.now c.args.sink.now
+    over_failed mic2_meaning g.S.Source.left g.K.Sink.held _ _ _ _ c.decoded_at-word.ensures.word refl c.args.bus.now c.args.source.now c.args.sink.now
     (micro_in c.edge.new.self) c.edge.new.bus c.edge.new.source c.edge.new.sink c.in_err-edge.field-0.0 _ c.from_residual.ensures.1 c.in_err-edge.ensures.edge
 
 -- any other
@@ -53,11 +54,11 @@ returns-clause-seen g c =
 
 pub returns-clause-edge : goal.returns-clause-edge
 returns-clause-edge g c =
-    over_told g.S.Source.left g.K.Sink.held _ _ _ _ c.decoded_at-word.ensures.word c.operands-a.ensures.micro c.args.bus.now c.args.source.now c.args.sink.now
+    over_told mic2_meaning g.S.Source.left g.K.Sink.held _ _ _ _ c.decoded_at-word.ensures.word c.operands-a.ensures.micro c.args.bus.now c.args.source.now c.args.sink.now
     (micro_in c.edge-2.new.self) c.edge-2.new.bus c.edge-2.new.source c.edge-2.new.sink _ c.in_ok-edge-2.ensures.edge
 
 pub returns-in_err-edge-2-clause-edge : goal.returns-in_err-edge-2-clause-edge
 returns-in_err-edge-2-clause-edge g c =
-    over_failed g.S.Source.left g.K.Sink.held _ _ _ _ c.decoded_at-word.ensures.word c.operands-a.ensures.micro c.args.bus.now c.args.source.now c.args.sink.now
+    over_failed mic2_meaning g.S.Source.left g.K.Sink.held _ _ _ _ c.decoded_at-word.ensures.word c.operands-a.ensures.micro c.args.bus.now c.args.source.now c.args.sink.now
     (micro_in c.edge-2.new.self) c.edge-2.new.bus c.edge-2.new.source c.edge-2.new.sink c.in_err-edge-2.field-0.0 _
     c.from_residual-in_err-edge-2.ensures.1 c.in_err-edge-2.ensures.edge

@@ -1,9 +1,11 @@
 use Rattle.std.proofs.Common.{◌∙◌, sym, ap}
 use Rattle.mic_words.specs.declared.machine.Machine.TheVariants as machines
 use Rattle.micro_word.specs.Coding.{statement_of}
+use Rattle.mic_datapath.specs.Edges.{over_failed, over_told}
 use Rattle.mic3_datapath.specs.Cycle.{issued}
+use Rattle.mic3_datapath.specs.Mic3.{mic3_meaning}
 use Rattle.mic3_datapath.specs.Slots.{in_operand, pipeline_in}
-use Rattle.mic3_datapath.proofs.Steps.{over_failed, over_told, seen_after, seen_kept, stalled_by}
+use Rattle.mic3_datapath.proofs.Steps.{seen_after, seen_kept, stalled_by}
 use Rattle.mic3_datapath.proofs.mic3.Mic3Clocked.clock.Goals as goal
 
 pub returns-clause-stalled : goal.returns-clause-stalled
@@ -25,13 +27,13 @@ returns-in_err-edge-clause-kept g c =
 pub returns-clause-edge : goal.returns-clause-edge
 returns-clause-edge g c =
     let word = c.of-control.result.word in
-    over_told g.S.Source.left g.K.Sink.held _ _ _ _ c.of-control.ensures c.issue-to_issue.ensures.pipeline c.args.bus.now c.args.source.now c.args.sink.now
+    over_told mic3_meaning g.S.Source.left g.K.Sink.held _ _ _ _ c.of-control.ensures c.issue-to_issue.ensures.pipeline c.args.bus.now c.args.source.now c.args.sink.now
     (pipeline_in c.edge.new.self) c.edge.new.bus c.edge.new.source c.edge.new.sink _
     (c.in_ok-edge.ensures.edge word (c.issue-to_issue.ensures.value ∙ sym (ap (issued (statement_of machines.Mic2 word)) c.issue-to_issue.ensures.pipeline)))
 
 pub returns-in_err-edge-clause-edge : goal.returns-in_err-edge-clause-edge
 returns-in_err-edge-clause-edge g c =
     let word = c.of-control.result.word in
-    over_failed g.S.Source.left g.K.Sink.held _ _ _ _ c.of-control.ensures c.issue-to_issue.ensures.pipeline c.args.bus.now c.args.source.now c.args.sink.now
+    over_failed mic3_meaning g.S.Source.left g.K.Sink.held _ _ _ _ c.of-control.ensures c.issue-to_issue.ensures.pipeline c.args.bus.now c.args.source.now c.args.sink.now
     (pipeline_in c.edge.new.self) c.edge.new.bus c.edge.new.source c.edge.new.sink c.in_err-edge.field-0.0 _ c.from_residual.ensures.1
     (c.in_err-edge.ensures.edge word (c.issue-to_issue.ensures.value ∙ sym (ap (issued (statement_of machines.Mic2 word)) c.issue-to_issue.ensures.pipeline)))

@@ -1,10 +1,7 @@
-use Rattle.std.proofs.Common.{Result, sym, subst}
-use Rattle.std.specs.Prelude.{⊤}
-use Rattle.console_port.specs.declared.fault.BusFault.{BusFault}
-use Rattle.mic_clock.specs.Edge.{IsEdge}
-use Rattle.mic3_datapath.specs.Mic3.{mic3_meaning}
+use Rattle.std.proofs.Common.{sym}
+use Rattle.mic_datapath.specs.Edges.{unrefused}
 use Rattle.mic3_datapath.specs.Slots.{in_operand, pipeline_in}
-use Rattle.mic3_datapath.proofs.Steps.{edge_done, edge_fails, edge_waits, handed_on, moved, samples_clear, unrefused}
+use Rattle.mic3_datapath.proofs.Steps.{edge_done, edge_fails, edge_waits, moved, samples_clear}
 use Rattle.mic3_datapath.proofs.pipeline.Pipeline.edge.Goals as goal
 
 pub returns-clause-edge : goal.returns-clause-edge
@@ -33,10 +30,9 @@ returns-in_err-sampled-clause-edge g c =
     let p = pipeline_in c.args.self.now in
     let h = c.asked-asked.ensures in
     λ word issues.
-    let edge = edge_fails word i p _ (sym issues) h _ _ c.args.bus.now c.console_law.ensures _ _ _ c.access.new.bus c.in_err-sampled.field-0.0 c.in_err-sampled.ensures.access in
     record {
       edge =
-          subst (λ (r : Result ⊤ BusFault). IsEdge mic3_meaning word p (g.S.Source.left c.args.source.now) (g.K.Sink.held c.args.sink.now)
-          c.args.bus.now {T = ⊤} p (g.S.Source.left c.access.new.source) (g.K.Sink.held c.access.new.sink) c.access.new.bus r) (handed_on _ _ c.from_residual.ensures.1) edge;
+          edge_fails word i p _ (sym issues) h _ _ c.args.bus.now c.console_law.ensures _ _ _ c.access.new.bus c.in_err-sampled.field-0.0
+          c.from_residual.result c.from_residual.ensures.1 c.in_err-sampled.ensures.access;
       waits = edge_waits word i p _ (sym issues) h _ _ c.args.bus.now c.console_law.ensures _ _ c.in_err-sampled.ensures.waits;
     }
