@@ -7,7 +7,7 @@ use Rattle.std.proofs.option.Match.{None-if_not_some}
 use Rattle.ijvm_program.specs.declared.line.Constant.{Constant}
 use Rattle.ijvm_line.specs.declared.place.Place.TheVariants as places
 use Rattle.ijvm_line.specs.declared.place.Mark.TheVariants as marks
-use Rattle.source_names.specs.Places as names
+use Rattle.source_text.specs.Places as names
 use Rattle.ijvm_asm.specs.declared.error.AsmError.TheVariants as errors
 use Rattle.ijvm_asm.specs.Said.{Dotted, Said}
 use Rattle.ijvm_asm.specs.Sections.{constant_line, Constants, section_lines}

@@ -3,7 +3,7 @@ use Rattle.std.specs.Prelude.{◌≡◌, ℕ, ◌+◌, ◌≤◌, Bool, true, fa
 use Rattle.ijvm_program.specs.Program.{most_names}
 use Rattle.ijvm_program.specs.declared.line.Constant.{Constant}
 use Rattle.ijvm_line.specs.declared.place.Place.TheVariants as places
-use Rattle.source_names.specs.Places as names
+use Rattle.source_text.specs.Places as names
 use Rattle.ijvm_asm.specs.Drafts.{begun}
 use Rattle.ijvm_asm.specs.Sections.{Between, Body, CodeItem, Constants, Locals, Main, Method, Section, section_lines}
 use Rattle.ijvm_asm.specs.Source.{Source}

@@ -7,7 +7,7 @@ use Rattle.std.proofs.option.Match.{None-if_not_some}
 use Rattle.ijvm_program.specs.Program.{most_names}
 use Rattle.ijvm_line.specs.declared.place.Mark.TheVariants as marks
 use Rattle.ijvm_line.specs.declared.place.Place.TheVariants as places
-use Rattle.source_names.specs.Places as names
+use Rattle.source_text.specs.Places as names
 use Rattle.ijvm_asm.specs.declared.error.AsmError.TheVariants as errors
 use Rattle.ijvm_asm.specs.Said.{Dotted}
 use Rattle.ijvm_asm.specs.Sections.{Body, code_line, locals_lines, Method, section_lines}

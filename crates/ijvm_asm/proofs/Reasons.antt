@@ -6,7 +6,7 @@ use Rattle.ijvm_line.specs.declared.place.Mark.{Mark}
 use Rattle.ijvm_line.specs.declared.place.Mark.TheVariants as marks
 use Rattle.ijvm_line.specs.declared.place.Place.TheVariants as places
 use Rattle.ijvm_line.specs.declared.instruction.Instruction.{Instruction}
-use Rattle.source_names.specs.Places as names
+use Rattle.source_text.specs.Places as names
 use Rattle.ijvm_asm.specs.declared.error.AsmError.{AsmError}
 use Rattle.ijvm_asm.specs.declared.error.AsmError.TheVariants as errors
 use Rattle.ijvm_asm.specs.Said.{BlankAt, Codes, Declares, Defines, Dotted, Heads, place_of, Said}

@@ -4,7 +4,7 @@ use Rattle.std.specs.Prelude.{option_map, option_and_then}
 use Rattle.std.specs.List.{slice_get}
 use Rattle.std.proofs.lemmas.List.{append_assoc, append-nil}
 use Rattle.source_text.specs.Options.{bound}
-use Rattle.source_names.specs.Places.{place_of_name}
+use Rattle.source_text.specs.Places.{place_of_name}
 use Rattle.ijvm_program.specs.declared.line.CodeLine.{CodeLine}
 use Rattle.ijvm_program.specs.declared.line.Label.{Label}
 use Rattle.ijvm_program.specs.declared.line.Operation.{Operation}

@@ -18,7 +18,7 @@ use Rattle.ijvm_line.specs.declared.instruction.Instruction.{Instruction}
 use Rattle.ijvm_line.specs.Reading.{line_from, LinesReadAsSpelled, LinesRefusedAsFaulty}
 use Rattle.ijvm_line.specs.Parameters.{parameters}
 use Rattle.ijvm_line.specs.Ranges.{made}
-use Rattle.source_names.specs.Places.{place_of_name}
+use Rattle.source_text.specs.Places.{place_of_name}
 use Rattle.ijvm_asm.specs.declared.error.AsmError.{AsmError}
 use Rattle.ijvm_asm.specs.declared.error.AsmError.TheVariants as errors
 use Rattle.ijvm_asm.specs.Drafts.{begun, DraftView}

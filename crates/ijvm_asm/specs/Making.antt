@@ -2,7 +2,7 @@
 use Rattle.std.specs.Prelude.{◌≡◌, ℕ, ◌+◌, ◌≤◌, Bool, true, false, List, [], ◌∷◌, ◌++◌, map, length, Option, Some, None, ⊤}
 use Rattle.ijvm_program.specs.Program.{most_names}
 use Rattle.ijvm_program.specs.declared.line.Constant.{Constant}
-use Rattle.source_names.specs.Places as names
+use Rattle.source_text.specs.Places as names
 use Rattle.ijvm_asm.specs.Sections.{Between, Body, Constants, Main, Method, Section, section_lines}
 use Rattle.ijvm_asm.specs.Drafts.{DraftView}
 use Rattle.ijvm_asm.specs.Units.{AreNew, MakesUnit}

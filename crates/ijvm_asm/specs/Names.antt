@@ -11,7 +11,7 @@ use Rattle.ijvm_program.specs.Unit.{UnitView}
 use Rattle.ijvm_line.specs.declared.instruction.Instruction.{Instruction}
 use Rattle.ijvm_line.specs.declared.instruction.Instruction.TheVariants as instructions
 use Rattle.ijvm_line.specs.Ranges.{access_instr, increment_instr}
-use Rattle.source_names.specs.Places.{place_of_name}
+use Rattle.source_text.specs.Places.{place_of_name}
 use Rattle.ijvm_asm.specs.declared.draft.DraftLine.{DraftLine}
 use Rattle.ijvm_asm.specs.Drafts.{DraftView}
 use Rattle.ijvm_asm.specs.Making.{Declarations}

@@ -13,7 +13,7 @@ use Rattle.ijvm_line.specs.declared.place.Place.TheVariants as places
 use Rattle.ijvm_line.specs.declared.instruction.Instruction.{Instruction}
 use Rattle.ijvm_line.specs.declared.instruction.Instruction.TheVariants as instructions
 use Rattle.ijvm_line.specs.Ranges.{access_instr, increment_instr}
-use Rattle.source_names.specs.Places.{place_of_name}
+use Rattle.source_text.specs.Places.{place_of_name}
 use Rattle.ijvm_asm.specs.declared.draft.DraftLine.{DraftLine}
 use Rattle.ijvm_asm.specs.declared.error.AsmError.{AsmError}
 use Rattle.ijvm_asm.specs.declared.error.AsmError.TheVariants as errors

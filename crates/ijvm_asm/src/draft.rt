@@ -9,7 +9,7 @@ ghost use Rattle.ijvm_asm.specs.Drafts.{begun, is_memory};
 use crate::error::AsmError;
 use ijvm_line::Instruction;
 use mic_base::Name;
-use source_names::NameList;
+use source_text::NameList;
 use std::alloc::Global;
 use std::marker::Model;
 

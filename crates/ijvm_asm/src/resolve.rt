@@ -8,7 +8,7 @@ use crate::draft::Draft;
 use ijvm_line::{Instruction, access_instr, increment_instr};
 use ijvm_program::{CodeLine, Label, Operation, Unit};
 use mic_base::Name;
-use source_names::NameList;
+use source_text::NameList;
 use std::alloc::{AllocError, Global};
 
 /// Main's locals are numbered from 0; a method's parameters from 1, and its locals after them.

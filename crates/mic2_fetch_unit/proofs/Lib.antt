@@ -1,2 +1,5 @@
 pub mod Packed
 pub mod Units
+mod Folded
+mod Held
+mod Places

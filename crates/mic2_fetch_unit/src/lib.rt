@@ -7,5 +7,5 @@ mod queue;
 mod sampling;
 
 pub use fetch_unit::FetchUnit;
-pub use laws::standing_law;
+pub use laws::{queue_law, standing_law};
 pub use sampling::check_sample;

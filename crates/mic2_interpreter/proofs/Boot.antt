@@ -10,7 +10,7 @@ use Rattle.ijvm_meaning.specs.Frames.{start_of}
 use Rattle.mic2_interpreter.specs.Stands.{Stands}
 use Rattle.mic2_interpreter.specs.Stalls.{BootsWithStall}
 use Rattle.mic2_interpreter.proofs.Store.{Known}
-use Rattle.mic2_queue.specs.Held.{Jumped, Waits}
+use Rattle.mic2_fetch_unit.specs.Held.{Jumped, Waits}
 use Rattle.mic2_interpreter.proofs.Guided.{Goes, Lacks, Short, moment_of, clocked, Arrives, IsSmooth, pass-clocked}
 use Rattle.mic2_interpreter.proofs.Boundaries.{ReachesBoundary, at_boundary, stands_at, Place, place_at, place_on}
 use Rattle.ijvm_simulation.specs.Stands.{Origin, IsMemory}

@@ -17,9 +17,9 @@ use Rattle.verifier_facts.specs.Accepted.{VerifiedView}
 use Rattle.mic2_interpreter.specs.Stands.{Stands}
 use Rattle.mic2_interpreter.specs.Stalls.{MovesWithStalls, OverrunsWithStalls}
 use Rattle.mic2_interpreter.proofs.Store.{shipped, Known}
-use Rattle.mic2_queue.specs.Units.{unit_at}
-use Rattle.mic2_queue.specs.Law.{QueueLaw}
-use Rattle.mic2_queue.specs.Held.{Held, AtLeast, IsHeld, Bounds, is_enough}
+use Rattle.mic2_fetch_unit.specs.Units.{unit_at}
+use Rattle.mic2_fetch_unit.specs.QueueLaw.{QueueLaw}
+use Rattle.mic2_fetch_unit.specs.Held.{Held, AtLeast, IsHeld, Bounds, is_enough}
 use Rattle.mic2_interpreter.proofs.Guided.{Turn, Goes, Short, standing, moment_of, settled_by, text_result, clocked, IsSmooth, Arrives, pass-clocked, outcome_is, step-refused}
 use Rattle.ijvm_simulation.specs.Stands.{Origin, RegistersStand}
 use Rattle.ijvm_simulation.specs.Stack.{IsMapEnd}

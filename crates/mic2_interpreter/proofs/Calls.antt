@@ -23,7 +23,7 @@ use Rattle.ijvm_simulation.specs.Groups.{IsCall}
 use Rattle.mic2_interpreter.specs.Stands.{Stands}
 use Rattle.mic2_interpreter.specs.Stalls.{MovesWithStalls, OverrunsWithStalls, TakesWithStalls, stalls_of}
 use Rattle.mic2_interpreter.proofs.Store.{Known}
-use Rattle.mic2_queue.specs.Held.{Waits, WaitsLate, WaitsOn}
+use Rattle.mic2_fetch_unit.specs.Held.{Waits, WaitsLate, WaitsOn}
 use Rattle.mic2_interpreter.proofs.Guided.{Turn, Goes, Lacks}
 use Rattle.mic2_interpreter.proofs.Boundaries.{ReachesBoundary, comes, steps, Counts, counts, Place, place_at, place_on, pair_at, at_boundary, moves, overruns}
 

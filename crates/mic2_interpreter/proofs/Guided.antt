@@ -28,9 +28,9 @@ use Rattle.ijvm_simulation.specs.Stands.{IsMemory}
 use Rattle.ijvm_simulation.specs.Passes.{Moment, is_inside, outcome_at, stalls_at, last, onward, pass}
 use Rattle.ijvm_simulation.specs.Guesses.{address_behind, left_of}
 use Rattle.mic2_interpreter.proofs.Store.{shipped, Known}
-use Rattle.mic2_queue.specs.Units.{unit_at, have_after, text_from}
-use Rattle.mic2_queue.specs.Law.{QueueLaw}
-use Rattle.mic2_queue.specs.Held.{Held, Jumped, IsHeld, is_enough, held_after, Lack, IsWait, held_waited}
+use Rattle.mic2_fetch_unit.specs.Units.{unit_at, have_after, text_from}
+use Rattle.mic2_fetch_unit.specs.QueueLaw.{QueueLaw}
+use Rattle.mic2_fetch_unit.specs.Held.{Held, Jumped, IsHeld, is_enough, held_after, Lack, IsWait, held_waited}
 
 -- In a step of a plan the word at MPC goes on, or it stalls.
 pub data Turn : Type 0 where

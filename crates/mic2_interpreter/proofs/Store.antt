@@ -5,7 +5,7 @@ use Rattle.mic_words.specs.declared.machine.Machine.TheVariants.{Mic2}
 use Rattle.micro_word.specs.declared.statement.Placed.{Placed}
 use Rattle.micro_word.specs.Coding.{statement_of}
 use Rattle.mal_shipped.specs.Listing.{table2}
-use Rattle.mic2_queue.specs.Law.{QueueLaw}
+use Rattle.mic2_fetch_unit.specs.QueueLaw.{QueueLaw}
 use Rattle.mal_shipped.specs.Shipped.{HasShipped, statement_among, shipped as shipped_at}
 
 -- the statement at an address, with the table in sight of a symbolic run

@@ -12,7 +12,7 @@ use mal_shipped::shipped_store;
 use mic_base::{Sink, Source};
 use mic_clock::{Board, End};
 use mic2_datapath::Mic2;
-use mic2_queue::queue_law;
+use mic2_fetch_unit::queue_law;
 use micro_word::{Machine, Store};
 use std::alloc::{AllocError, Global};
 

@@ -6,7 +6,7 @@ ghost use Rattle.mic2_interpreter.specs.Interpretation.{mic2};
 
 use crate::interpreter::Mic2Interpreter;
 use ijvm_simulation::{groups_are_all, stack_law, stalls_add_up};
-use mic2_queue::queue_law;
+use mic2_fetch_unit::queue_law;
 
 /// How a run boots, and what every instruction takes. After the boot, whose one stall waits for the first word of
 /// the text, only a call stalls: once, or twice where its method's entry is the last byte of a word.

@@ -8,7 +8,7 @@ use Rattle.mic3_datapath.specs.Pipeline.{Pipeline}
 use Rattle.ijvm_meaning.specs.Frames.{start_of}
 use Rattle.mic3_interpreter.specs.Stands.{Stands}
 use Rattle.mic3_interpreter.proofs.Store.{Known}
-use Rattle.mic2_queue.specs.Held.{Jumped, WaitsFirst}
+use Rattle.mic2_fetch_unit.specs.Held.{Jumped, WaitsFirst}
 use Rattle.mic3_interpreter.proofs.Guided.{Issues, HeldUp, Lacks, Short, moment_of, clocked, Arrives, IsSmooth, pass-clocked}
 use Rattle.mic3_interpreter.proofs.Boundaries.{ReachesBoundary, at_boundary, stands_at, Place, place_at, place_on}
 use Rattle.ijvm_simulation.specs.Stands.{Origin, IsMemory}

@@ -11,9 +11,9 @@ use Rattle.mic3_datapath.specs.Pipeline.{Pipeline}
 use Rattle.mic3_datapath.specs.Mic3.{mic3_meaning}
 use Rattle.mic3_interpreter.specs.Stands.{Stands}
 use Rattle.mic3_interpreter.proofs.Store.{shipped, Known}
-use Rattle.mic2_queue.specs.Units.{unit_at}
-use Rattle.mic2_queue.specs.Law.{QueueLaw}
-use Rattle.mic2_queue.specs.Held.{Held, AtLeast, IsHeld, Bounds}
+use Rattle.mic2_fetch_unit.specs.Units.{unit_at}
+use Rattle.mic2_fetch_unit.specs.QueueLaw.{QueueLaw}
+use Rattle.mic2_fetch_unit.specs.Held.{Held, AtLeast, IsHeld, Bounds}
 use Rattle.mic3_interpreter.proofs.Guided.{Short, Turn, standing, moment_of, issue_of, clocked, IsTurn, IsSmooth, Arrives, pass-clocked, outcome_is, cycle-refused}
 use Rattle.ijvm_simulation.specs.Stands.{Origin, RegistersStand}
 use Rattle.ijvm_simulation.specs.Stack.{IsMapEnd}

@@ -25,7 +25,7 @@ use Rattle.ijvm_simulation.specs.Law.{Moves, Takes, Overruns}
 use Rattle.ijvm_simulation.specs.Groups.{IsCall}
 use Rattle.mic3_interpreter.specs.Stands.{Stands}
 use Rattle.mic3_interpreter.proofs.Store.{Known}
-use Rattle.mic2_queue.specs.Held.{Waits, WaitsLate, WaitsOn}
+use Rattle.mic2_fetch_unit.specs.Held.{Waits, WaitsLate, WaitsOn}
 use Rattle.mic3_interpreter.proofs.Guided.{Turn, Issues, HeldUp, Lacks}
 use Rattle.mic3_interpreter.proofs.Boundaries.{ReachesBoundary, comes, Counts, counts, Place, place_at, place_on, pair_at, at_boundary, moves, overruns}
 

@@ -25,9 +25,9 @@ use Rattle.mic3_datapath.specs.Mic3.{mic3_meaning, step_of_word, driven, driven_
 use Rattle.ijvm_simulation.specs.Stands.{IsMemory}
 use Rattle.ijvm_simulation.specs.Passes.{Moment, is_inside, outcome_at, stalls_at, last, onward, pass}
 use Rattle.mic3_interpreter.proofs.Store.{shipped, Known}
-use Rattle.mic2_queue.specs.Units.{unit_at, have_after, text_from}
-use Rattle.mic2_queue.specs.Law.{QueueLaw}
-use Rattle.mic2_queue.specs.Held.{Held, Jumped, IsHeld, is_enough, held_after, Lack, IsWait, held_waited}
+use Rattle.mic2_fetch_unit.specs.Units.{unit_at, have_after, text_from}
+use Rattle.mic2_fetch_unit.specs.QueueLaw.{QueueLaw}
+use Rattle.mic2_fetch_unit.specs.Held.{Held, Jumped, IsHeld, is_enough, held_after, Lack, IsWait, held_waited}
 
 -- A symbolic state: what the machine has except its unit, and what is known of the queue there.
 pub record Short : Type 0 where

@@ -24,7 +24,7 @@ use Rattle.ijvm_simulation.specs.Law.{Moves, Takes, Overruns}
 use Rattle.ijvm_simulation.specs.Groups.{IsJump}
 use Rattle.mic3_interpreter.specs.Stands.{Stands}
 use Rattle.mic3_interpreter.proofs.Store.{Known}
-use Rattle.mic2_queue.specs.Held.{WaitsFirst}
+use Rattle.mic2_fetch_unit.specs.Held.{WaitsFirst}
 use Rattle.mic3_interpreter.proofs.Guided.{Issues, HeldUp, Lacks}
 use Rattle.mic3_interpreter.proofs.Boundaries.{ReachesBoundary, comes, Counts, counts, Place, place_at, place_on, signed_pair_at, at_boundary, moves}
 

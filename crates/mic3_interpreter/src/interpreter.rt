@@ -10,7 +10,7 @@ use ijvm_verifier::VerifiedImage;
 use mal_shipped::shipped_store;
 use mic_base::{Sink, Source};
 use mic_clock::{Board, End};
-use mic2_queue::queue_law;
+use mic2_fetch_unit::queue_law;
 use mic3_datapath::Mic3;
 use micro_word::{Machine, Store};
 use std::alloc::{AllocError, Global};

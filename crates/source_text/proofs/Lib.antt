@@ -3,3 +3,4 @@ pub mod Walking
 pub mod Cutting
 pub mod Comments
 pub mod Texts
+mod Adding

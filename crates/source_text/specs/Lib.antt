@@ -9,3 +9,5 @@ pub mod Runs
 pub mod Options
 pub mod Spelled
 pub mod Fronts
+pub mod Places
+pub mod Below

@@ -1,13 +1,15 @@
-//! Sources of lines: which tokens a line has, what a text says, and which line is refused first.
+//! Sources of lines: which tokens a line has, what a text says, which line is refused first, and the names of a source.
 #![tactic(auto)]
 
 mod content;
+mod names;
 mod runs;
 mod text;
 mod tokens;
 mod walk;
 
 pub use content::{first_line, without_comment};
+pub use names::NameList;
 pub use runs::{is_name_byte, name_len};
 pub use text::{LineLanguage, a_text_says_one_thing};
 pub use tokens::{Language, TokenError, reads_what_is_spelled, tokens_of};

@@ -2,7 +2,7 @@
 -- different names of the text, of which `main` is the first.
 use Rattle.std.specs.Prelude.{◌≡◌, ℕ, ◌+◌, List, [], ◌∷◌, ◌++◌, length, map, codes, Option, Some, None}
 use Rattle.source_text.specs.Content.{contents}
-use Rattle.source_names.specs.Places.{place_of_name}
+use Rattle.source_text.specs.Places.{place_of_name}
 use Rattle.tiny_draft.specs.declared.token.Kind.{Kind}
 use Rattle.tiny_draft.specs.declared.token.Kind.TheVariants as kinds
 use Rattle.tiny_draft.specs.declared.token.Token.{Token}

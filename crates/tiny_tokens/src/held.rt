@@ -4,10 +4,10 @@ ghost use Rattle.std.specs.Prelude.{◌≡◌, [], IfOk, OnOk};
 ghost use Rattle.tiny_lexemes.specs.Reading.{token_of};
 ghost use Rattle.tiny_tokens.specs.Tokens.{kind_of, main_only, numbered};
 ghost use Rattle.tiny_tokens.specs.Reading.{add_one};
-ghost use Rattle.source_names.specs.Places.{place_of_name};
+ghost use Rattle.source_text.specs.Places.{place_of_name};
 
 use mic_base::Name;
-use source_names::NameList;
+use source_text::NameList;
 use std::alloc::{AllocError, Global};
 use std::marker::Model;
 use tiny_draft::{Kind, Token};

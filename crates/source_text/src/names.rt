@@ -1,7 +1,7 @@
 //! Names in order, each with its place.
 
 ghost use Rattle.std.specs.Prelude.{◌≡◌, ◌<◌, ◌++◌, ◌∷◌, [], None, OnOk, OnErr, IfSome, length};
-ghost use Rattle.source_names.specs.Places.{place_of_name};
+ghost use Rattle.source_text.specs.Places.{place_of_name};
 
 use mic_base::Name;
 use std::alloc::{AllocError, Global};
@@ -18,7 +18,7 @@ pub struct NameList {
 
 impl Model for NameList {
     ghost use Rattle.std.specs.Prelude.{◌<◌, ◌^◌, List, ℕ, length};
-    ghost use Rattle.source_names.specs.Places.{ArePlaces};
+    ghost use Rattle.source_text.specs.Places.{ArePlaces};
 
     ghost Value = { List (List ℕ) };
 

@@ -1,8 +1,8 @@
 use Rattle.std.proofs.Common.{◌≡◌, ◌<◌, ◌++◌, ◌∷◌, [], ◌∙◌, ap, subst, sym, cond, length, None, arith}
 use Rattle.std.specs.Prelude.{is_ok}
-use Rattle.source_names.specs.Places.{ArePlaces, place_of_name}
-use Rattle.source_names.proofs.Adding.{few_push, places_push}
-use Rattle.source_names.proofs.names.NameList.add.Goals as goal
+use Rattle.source_text.specs.Places.{ArePlaces, place_of_name}
+use Rattle.source_text.proofs.Adding.{few_push, places_push}
+use Rattle.source_text.proofs.names.NameList.add.Goals as goal
 
 pub invariant_of-self-2 : goal.invariant_of-self-2
 invariant_of-self-2 c =

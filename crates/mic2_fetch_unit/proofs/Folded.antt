@@ -7,8 +7,8 @@ use Rattle.std.proofs.lemmas.Bool.Decides.{nat_tests}
 use Rattle.mic_words.specs.Arithmetic.{wrap, next}
 use Rattle.console_port.specs.World.{byte_in, byte_of, word_refusal}
 use Rattle.mic2_fetch_unit.specs.FetchUnit.{Prefetch, bytes_of_word, without, appended, with_pending, sampled_by, sample_refusal, edge, jump, edge_refusal, jump_refusal}
-use Rattle.mic2_queue.specs.Units.{bytes_from, unit_at, have_after}
-use Rattle.mic2_queue.specs.Law.{IsKept}
+use Rattle.mic2_fetch_unit.specs.Units.{bytes_from, unit_at, have_after}
+use Rattle.mic2_fetch_unit.specs.QueueLaw.{IsKept}
 
 next_is : (x y : ℕ) → x + 1 ≡ y → y < 2 ^ 32 → next x ≡ y
 unfolding wrap

@@ -1,7 +1,7 @@
-use Rattle.mic2_queue.proofs.Units.{edge_stands, edge_allowed, jump_stands, jump_allowed}
-use Rattle.mic2_queue.proofs.Held.{held_few, held_enough, held_edge, wait_short, wait_held, wants_within}
-use Rattle.mic2_queue.proofs.Places.{unit_there, bounds_there, stands_there, many_there, front_is, starts}
-use Rattle.mic2_queue.proofs.laws.queue_law.Goals as goal
+use Rattle.mic2_fetch_unit.proofs.Folded.{edge_stands, edge_allowed, jump_stands, jump_allowed}
+use Rattle.mic2_fetch_unit.proofs.Held.{held_few, held_enough, held_edge, wait_short, wait_held, wants_within}
+use Rattle.mic2_fetch_unit.proofs.Places.{unit_there, bounds_there, stands_there, many_there, front_is, starts}
+use Rattle.mic2_fetch_unit.proofs.laws.queue_law.Goals as goal
 
 pub returns : goal.returns
 returns c =

@@ -4,9 +4,9 @@ use Rattle.std.specs.Prelude.{slice_index, nat_le, if◌then◌else◌, is_some,
 use Rattle.console_port.specs.World.{byte_in}
 use Rattle.mic2_fetch_unit.specs.FetchUnit.{Prefetch, at_start}
 use Rattle.mic2_fetch_unit.specs.Place.{StandsAt}
-use Rattle.mic2_queue.specs.Units.{unit_at, bytes_from, text_from}
-use Rattle.mic2_queue.specs.Held.{Bounds}
-use Rattle.mic2_queue.proofs.Units.{length-bytes, byte_there}
+use Rattle.mic2_fetch_unit.specs.Units.{unit_at, bytes_from, text_from}
+use Rattle.mic2_fetch_unit.specs.Held.{Bounds}
+use Rattle.mic2_fetch_unit.proofs.Folded.{length-bytes, byte_there}
 
 bytes_are : (words : List ℕ) (xs : List ℕ) (p : ℕ) → ((k : ℕ) → k < length xs → slice_index xs k ≡ byte_in words (p + k)) → xs ≡ bytes_from words p (length xs)
 bytes_are words [] p h = refl

@@ -2,8 +2,8 @@
 use Rattle.std.specs.Prelude.{◌≡◌, ℕ, ◌+◌, ◌<◌, ◌≤◌, List, length, slice_index, Bool, true, ◌||◌, if◌then◌else◌, None}
 use Rattle.mic2_fetch_unit.specs.FetchUnit.{Prefetch, edge, jump, edge_refusal, jump_refusal, at_start}
 use Rattle.mic2_fetch_unit.specs.Place.{StandsAt}
-use Rattle.mic2_queue.specs.Units.{unit_at, have_after, text_from}
-use Rattle.mic2_queue.specs.Held.{Held, Bounds, IsHeld, is_enough, held_after, Lack, IsWait, held_waited}
+use Rattle.mic2_fetch_unit.specs.Units.{unit_at, have_after, text_from}
+use Rattle.mic2_fetch_unit.specs.Held.{Held, Bounds, IsHeld, is_enough, held_after, Lack, IsWait, held_waited}
 
 -- below the stack the words are those of `origin`
 abbrev pub IsKept : List ℕ → List ℕ → Type 0

@@ -1,3 +1,0 @@
-mod Units
-mod Held
-mod Places
