@@ -9,7 +9,7 @@ use Rattle.source_text.specs.Text.{SayAll}
 use Rattle.mal_line.specs.declared.content.Content.{Content}
 use Rattle.mal_line.specs.declared.next.Next.{Next}
 use Rattle.mal_line.specs.declared.next.Next.TheVariants as nexts
-use Rattle.mal_print.specs.Pieces.{printed}
+use Rattle.mal_print.specs.Printed.{printed}
 use Rattle.mal_print.specs.StatementText.{fix}
 use Rattle.mal_parser.specs.declared.source.Draft.{Draft}
 use Rattle.mal_parser.specs.declared.source.Fix.{Fix}

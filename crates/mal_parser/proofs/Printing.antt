@@ -2,25 +2,16 @@
 use Rattle.std.proofs.Common.{◌≡◌, ℕ, zero, suc, ◌+◌, ◌<◌, List, [], ◌∷◌, ◌++◌, Option, Some, None, length, get_or, take, refl, sym, ap, subst, ◌∙◌, arith, append_assoc}
 use Rattle.std.specs.Prelude.{IsTrue, map, slice_get, option_map, option_and_then, option_to_list}
 use Rattle.std.specs.List.{cons_option, filter_map}
-use Rattle.std.proofs.lemmas.Bool.Decides.{nat_tests}
 use Rattle.std.proofs.lemmas.Option.{get_or_from_slice_get}
 use Rattle.std.proofs.lemmas.Bool.{and_parts}
-use Rattle.micro_word.specs.declared.statement.PlacedNext.{PlacedNext}
-use Rattle.micro_word.specs.declared.statement.PlacedNext.TheVariants as placed
 use Rattle.mic_words.specs.declared.machine.Machine.{Machine}
 use Rattle.micro_word.specs.declared.statement.Placed.{Placed}
 use Rattle.micro_word.specs.Words.{is_next, is_part, is_valid}
-use Rattle.mal_print.specs.StatementText.{FitTargets}
 use Rattle.mal_parser.specs.declared.statement.Statement.{Statement}
 use Rattle.mal_parser.specs.Program.{IsStatement, MalView}
-use Rattle.mal_parser.specs.ProgramText.{by_addresses, canonical_text, default_line, fix_line, labelled_line, statement_text, text_of}
+use Rattle.mal_parser.specs.ProgramText.{canonical_text, default_line, fix_line, labelled_line, statement_text, text_of}
 
 -- ---- targets
-
-pub fit_addresses : (next : PlacedNext) → IsTrue (is_next next) → FitTargets (by_addresses next)
-fit_addresses (placed.Goto to) h = grind (arith, nat_tests)
-fit_addresses (placed.Dispatch high) h = tt
-fit_addresses (placed.Branch test low) h = let b : low < 256 = grind (arith, nat_tests) in (omega arith, omega arith)
 
 pub next_valid : (machine : Machine) (p : Placed) → IsTrue (is_valid machine p) → IsTrue (is_next p.next)
 next_valid machine p h = (and_parts (is_part machine p.part) (is_next p.next) h).1

@@ -12,7 +12,7 @@ use Rattle.mal_line.specs.declared.content.Parts.{Parts}
 use Rattle.mal_line.specs.declared.next.Next.{Next}
 use Rattle.mal_line.specs.declared.next.Next.TheVariants as nexts
 use Rattle.mal_line.specs.Targets.{by_targets}
-use Rattle.mal_print.specs.Pieces.{printed}
+use Rattle.mal_print.specs.Printed.{printed}
 use Rattle.mal_print.specs.StatementText.{fallback, fix, HasLabels, labelled, statement}
 use Rattle.mal_print.specs.Lines.{IsLineOf, FallbacksAreReadBack, FixesAreReadBack, StatementsAreReadBack}
 use Rattle.mal_parser.specs.declared.statement.Statement.{Statement}

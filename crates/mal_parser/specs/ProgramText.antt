@@ -1,43 +1,43 @@
 -- The canonical text of a program: the fixed addresses, what unused words hold, and the statements, each on a line of its own.
-use Rattle.std.specs.Prelude.{ℕ, ◌+◌, length, List, [], ◌∷◌, ◌++◌, map, slice_get, Option, unwrap_or, option_map, option_and_then, option_to_list}
+use Rattle.std.specs.Prelude.{ℕ, pos, ◌+◌, length, List, [], ◌∷◌, ◌++◌, map, slice_get, Option, unwrap_or, option_map, option_and_then, option_to_list}
 use Rattle.std.specs.List.{filter_map}
 use Rattle.mic_words.specs.declared.machine.Machine.{Machine}
 use Rattle.micro_word.specs.declared.statement.Placed.{Placed}
 use Rattle.micro_word.specs.declared.statement.PlacedNext.{PlacedNext}
 use Rattle.micro_word.specs.declared.statement.PlacedNext.TheVariants as placed
+use Rattle.mal_tokens.specs.declared.token.Token.{Token}
+use Rattle.mal_tokens.specs.declared.token.Token.TheVariants as tokens
 use Rattle.mal_line.specs.declared.next.Next.{Next}
 use Rattle.mal_line.specs.declared.next.Next.TheVariants as nexts
 use Rattle.mal_line.specs.Targets.{by_targets}
-use Rattle.mal_print.specs.declared.target.Target.{Target}
-use Rattle.mal_print.specs.declared.target.Target.TheVariants as targets
-use Rattle.mal_print.specs.Pieces.{printed}
-use Rattle.mal_print.specs.StatementText.{fallback, fix, or_semicolon, printed_tokens, statement}
+use Rattle.mal_print.specs.Printed.{printed}
+use Rattle.mal_print.specs.StatementText.{fallback, fix, or_semicolon, parts, statement}
 use Rattle.mal_parser.specs.declared.statement.Statement.{Statement}
 use Rattle.mal_parser.specs.Program.{label_at, MalView}
 
 -- ---- where a statement goes next
 
 -- a target by its label
-abbrev pub by_label : List Statement → ℕ → Target
-by_label ss to = targets.Label (unwrap_or (label_at ss to) [])
+abbrev pub by_label : List Statement → ℕ → Token
+by_label ss to = tokens.Name (unwrap_or (label_at ss to) [])
 
-abbrev pub by_labels : List Statement → Next ℕ → Next Target
+abbrev pub by_labels : List Statement → Next ℕ → Next Token
 by_labels ss next = by_targets (by_label ss) next
 
-abbrev pub next_by_labels : MalView → Statement → Next Target
+abbrev pub next_by_labels : MalView → Statement → Next Token
 next_by_labels p s = by_labels p.statements s.next
 
 -- the next statements of a placed one, by their addresses
-abbrev pub by_addresses : PlacedNext → Next Target
-by_addresses (placed.Goto to) = nexts.Goto (targets.Address to)
+abbrev pub by_addresses : PlacedNext → Next Token
+by_addresses (placed.Goto to) = nexts.Goto (tokens.Number (pos to))
 by_addresses (placed.Dispatch high) = nexts.Dispatch high
-by_addresses (placed.Branch test low) = nexts.Branch test (targets.Address (low + 256)) (targets.Address low)
+by_addresses (placed.Branch test low) = nexts.Branch test (tokens.Number (pos (low + 256))) (tokens.Number (pos low))
 
 -- ---- the texts of one statement
 
 -- the parts of a statement, `;` where it has none
 abbrev pub parts_of : MalView → Statement → List ℕ
-parts_of p s = printed (or_semicolon (printed_tokens p.machine s.part (next_by_labels p s)))
+parts_of p s = printed (or_semicolon (parts p.machine s.part (next_by_labels p s)))
 
 -- the label and the parts of a statement
 abbrev pub labelled_line : MalView → Statement → List ℕ
@@ -52,14 +52,14 @@ statement_text p s = unwrap_or (option_map (labelled_line p) (slice_get p.statem
 
 -- the parts of what unused words hold
 abbrev pub fallback_of : MalView → Statement → List ℕ
-fallback_of p s = printed (printed_tokens p.machine s.part (next_by_labels p s))
+fallback_of p s = printed (parts p.machine s.part (next_by_labels p s))
 
 abbrev pub fallback_text : MalView → List ℕ
 fallback_text p = unwrap_or (option_map (fallback_of p) p.fallback) []
 
 -- the parts of a placed statement, with targets as `0xAAA`
 abbrev pub placed_text : Machine → Placed → List ℕ
-placed_text machine p = printed (printed_tokens machine p.part (by_addresses p.next))
+placed_text machine p = printed (parts machine p.part (by_addresses p.next))
 
 -- ---- the text of a program
 

@@ -1,7 +1,8 @@
 //! From a program to its canonical text.
 
-ghost use Rattle.std.specs.Prelude.{◌≡◌, ◌≤◌, ◌<◌, ◌+◌, ◌++◌, ◌∷◌, [], length, IsSome, IsTrue, Some, IfOk, OnOk};
+ghost use Rattle.std.specs.Prelude.{◌≡◌, ◌≤◌, ◌<◌, ◌+◌, ◌++◌, ◌∷◌, [], length, IsSome, IsTrue, Some, IfOk, OnOk, pos};
 ghost use Rattle.micro_word.specs.Words.{is_next, is_valid};
+ghost use Rattle.mal_tokens.specs.declared.token.Token.{Token};
 ghost use Rattle.mal_parser.specs.Program.{HasTargets, IsLabelled, IsMalProgram};
 ghost use Rattle.mal_parser.specs.ProgramText.{by_addresses, by_label, by_labels, canonical_text, fallback_text, parts_text, placed_text, relined, statement_text, text_of, default_lines, fix_lines, fix_lines_at, statement_lines};
 ghost use Rattle.mal_parser.specs.Text.{SpellsProgram};
@@ -10,19 +11,20 @@ use crate::laws::canonical_text_spells_its_program;
 use crate::program::MalProgram;
 use crate::statement::MalNext;
 use mal_line::Next;
-use mal_print::{Target, print_default, print_fix, print_line, print_lone, print_parts};
+use mal_print::print_tokens;
+use mal_tokens::Token;
 use mic_base::Line;
 use micro_word::{Machine, Placed, PlacedNext};
 use std::alloc::{AllocError, Global};
 
-fn by_label(program: &MalProgram, s: u16) -> Target
+fn by_label(program: &MalProgram, s: u16) -> Token
     requires { IsLabelled program.now.statements s }
     ensures { result ≡ by_label program.now.statements s }
 {
-    Target::Label(program.statement(s).label.unwrap())
+    Token::Name(program.statement(s).label.unwrap())
 }
 
-fn by_labels(program: &MalProgram, next: MalNext) -> Next<Target>
+fn by_labels(program: &MalProgram, next: MalNext) -> Next<Token>
     requires { HasTargets program.now.statements next }
     ensures { result ≡ by_labels program.now.statements next }
 {
@@ -38,17 +40,23 @@ fn by_labels(program: &MalProgram, next: MalNext) -> Next<Target>
     }
 }
 
-fn by_addresses(next: PlacedNext) -> Next<Target>
+fn address(to: u16) -> Token
+    ensures { result ≡ Token.Number (pos to) }
+{
+    Token::Number(i64::from(to))
+}
+
+fn by_addresses(next: PlacedNext) -> Next<Token>
     requires { IsTrue (is_next next) }
     ensures { result ≡ by_addresses next }
 {
     match next {
-        PlacedNext::Goto(to) => Next::Goto(Target::Address(to)),
+        PlacedNext::Goto(to) => Next::Goto(address(to)),
         PlacedNext::Dispatch { high } => Next::Dispatch { high },
         PlacedNext::Branch { test, no } => Next::Branch {
             test,
-            yes: Target::Address(no + 256),
-            no: Target::Address(no),
+            yes: address(no + 256),
+            no: address(no),
         },
     }
 }
@@ -60,9 +68,12 @@ pub fn print_statement(program: &MalProgram, s: u16, line: &mut Line)
     ensures text { line.new ≡ line.old ++ parts_text program.now s }
     ensures len { length line.new ≤ length line.old + 256 }
 {
-    let statement = program.held(s);
+    let statement = program.statement(s);
     let next = by_labels(program, statement.next);
-    print_lone(program.machine(), &statement.part, &next, line);
+    print_tokens(
+        &mal_print::lone(program.machine(), &statement.part, &next),
+        line,
+    );
 }
 
 /// Appends the canonical line of a statement: its label and its parts.
@@ -72,13 +83,11 @@ pub fn print_labelled(program: &MalProgram, s: u16, line: &mut Line)
     ensures text { line.new ≡ line.old ++ statement_text program.now s }
     ensures len { length line.new ≤ length line.old + 321 }
 {
-    let statement = program.held(s);
+    let statement = program.statement(s);
     let next = by_labels(program, statement.next);
-    print_line(
-        program.machine(),
-        statement.label,
-        &statement.part,
-        &next,
+    let label = statement.label;
+    print_tokens(
+        &mal_print::statement(program.machine(), label, &statement.part, &next),
         line,
     );
 }
@@ -90,9 +99,12 @@ pub fn print_fallback(program: &MalProgram, line: &mut Line)
     ensures text { line.new ≡ line.old ++ fallback_text program.now }
     ensures len { length line.new ≤ length line.old + 256 }
 {
-    if let Some(statement) = program.held_fallback() {
+    if let Some(statement) = program.fallback() {
         let next = by_labels(program, statement.next);
-        print_parts(program.machine(), &statement.part, &next, line);
+        print_tokens(
+            &mal_print::parts_of(program.machine(), &statement.part, &next),
+            line,
+        );
     }
 }
 
@@ -103,7 +115,8 @@ pub fn print_placed(placed: &Placed, machine: Machine, line: &mut Line)
     ensures text { line.new ≡ line.old ++ placed_text machine placed.now }
     ensures len { length line.new ≤ length line.old + 256 }
 {
-    print_parts(machine, &placed.part, &by_addresses(placed.next), line);
+    let next = by_addresses(placed.next);
+    print_tokens(&mal_print::parts_of(machine, &placed.part, &next), line);
 }
 
 fn end_line(line: &Line, text: &mut Vec<u8>) -> Result<(), AllocError>
@@ -118,7 +131,7 @@ fn add_fix(program: &MalProgram, s: u16, text: &mut Vec<u8>) -> Result<(), Alloc
     requires { s < length program.now.statements }
     ensures { OnOk result (text.new.items ≡ text.old.items ++ text_of (fix_lines_at program.now s)) }
 {
-    let statement = program.held(s);
+    let statement = program.statement(s);
     let Some(address) = statement.fixed else {
         return Ok(());
     };
@@ -126,7 +139,7 @@ fn add_fix(program: &MalProgram, s: u16, text: &mut Vec<u8>) -> Result<(), Alloc
         return Ok(());
     };
     let mut line = Line::new();
-    print_fix(label, address, &mut line);
+    print_tokens(&mal_print::fix(label, address), &mut line);
     end_line(&line, text)
 }
 
@@ -142,10 +155,13 @@ fn add_fixes(program: &MalProgram, text: &mut Vec<u8>) -> Result<(), AllocError>
 fn add_default(program: &MalProgram, text: &mut Vec<u8>) -> Result<(), AllocError>
     ensures { OnOk result (text.new.items ≡ text.old.items ++ text_of (default_lines program.now)) }
 {
-    if let Some(statement) = program.held_fallback() {
+    if let Some(statement) = program.fallback() {
         let next = by_labels(program, statement.next);
         let mut line = Line::new();
-        print_default(program.machine(), &statement.part, &next, &mut line);
+        print_tokens(
+            &mal_print::fallback(program.machine(), &statement.part, &next),
+            &mut line,
+        );
         end_line(&line, text)?;
     }
     Ok(())

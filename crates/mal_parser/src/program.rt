@@ -59,15 +59,8 @@ impl MalProgram {
         self.statements.len() as u16
     }
 
+    /// The statement with this number, which may stand there.
     pub fn statement(&self, s: u16) -> &Statement
-        requires { s < length self.now.statements }
-        ensures { slice_get self.now.statements s ≡ Some result.now }
-    {
-        &self.statements[s as usize]
-    }
-
-    /// A statement, with the fact that it may stand there.
-    pub(crate) fn held(&self, s: u16) -> &Statement
         requires { s < length self.now.statements }
         ensures value { slice_get self.now.statements s ≡ Some result.now }
         ensures stands { IsStatement self.now s result.now }
@@ -75,17 +68,10 @@ impl MalProgram {
         &self.statements[s as usize]
     }
 
-    /// What unused words hold, with the fact that it may stand there.
-    pub(crate) fn held_fallback(&self) -> Option<&Statement>
+    /// What unused words hold, which may stand there.
+    pub fn fallback(&self) -> Option<&Statement>
         ensures value { option_copied result ≡ self.now.fallback }
         ensures stands { IfSome self.now.fallback (IsFallback self.now) }
-    {
-        self.fallback.as_ref()
-    }
-
-    /// What unused words hold.
-    pub fn fallback(&self) -> Option<&Statement>
-        ensures { option_copied result ≡ self.now.fallback }
     {
         self.fallback.as_ref()
     }

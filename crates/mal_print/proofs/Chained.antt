@@ -1,7 +1,7 @@
 -- The canonical assignment of a part is an assignment of its operation to its destinations.
-use Rattle.std.proofs.Common.{◌≡◌, ℕ, zero, suc, ◌<◌, Bool, true, false, List, [], ◌∷◌, ◌++◌, Option, Some, None, length, refl, sym, ap, subst, ◌∙◌, arith, cond, inl, nat_eq, nat_lt}
-use Rattle.std.specs.Prelude.{◌&&◌, ◌==◌, not, pos, codes}
-use Rattle.std.specs.List.{filter, list_all}
+use Rattle.std.proofs.Common.{◌≡◌, ℕ, zero, suc, ◌<◌, Bool, true, false, List, [], ◌∷◌, ◌++◌, Option, Some, None, length, refl, sym, ap, subst, ◌∙◌, arith, inl, nat_eq, nat_lt}
+use Rattle.std.specs.Prelude.{◌&&◌, ◌==◌, not}
+use Rattle.std.specs.List.{list_all}
 use Rattle.std.proofs.lemmas.Bool.Decides.{nat_tests}
 use Rattle.std.proofs.lemmas.Bool.{and_parts}
 use Rattle.mic_words.specs.declared.machine.Machine.{Machine}
@@ -16,10 +16,9 @@ use Rattle.micro_word.specs.declared.statement.Mem.{Mem}
 use Rattle.micro_word.specs.declared.statement.Test.TheVariants as tests
 use Rattle.micro_word.specs.declared.statement.Part.{Part}
 use Rattle.micro_word.specs.Coding.{row}
-use Rattle.micro_word.specs.Words.{fits_side, has_operation, is_mixed, is_part, may_be_a, may_be_b, may_fetch}
+use Rattle.micro_word.specs.Words.{fits_side, has_operation, is_mixed, may_be_a, may_be_b, may_fetch}
 use Rattle.mal_tokens.specs.declared.word.Word.{Word}
 use Rattle.mal_tokens.specs.declared.word.Word.TheVariants as words
-use Rattle.mal_tokens.specs.declared.sign.Sign.TheVariants as signs
 use Rattle.mal_tokens.specs.declared.token.Token.{Token}
 use Rattle.mal_tokens.specs.declared.token.Token.TheVariants as tokens
 use Rattle.mal_line.specs.declared.operation.Operation.{Operation}
@@ -28,18 +27,10 @@ use Rattle.mal_line.specs.declared.next.Next.{Next}
 use Rattle.mal_line.specs.declared.next.Next.TheVariants as nexts
 use Rattle.mal_line.specs.Expressions as table
 use Rattle.mal_line.specs.Expressions.{fits, source_word, spelling, tail_with}
-use Rattle.mal_line.specs.Chains.{dest_bits, dest_tokens, is_dest, is_expr, is_expr_word, is_filled, IsAssignment, tail_tokens}
-use Rattle.mal_print.specs.declared.target.Target.{Target}
-use Rattle.mal_print.specs.Pieces.{behind_space, number, PrintedToken, sign, spaced, tokens_of, word}
-use Rattle.mal_print.specs.StatementText.{all_dests, chain, dest_pieces, dests_of, expression, has_dest, heads, is_absent, is_nothing, is_unshifted, is_zero, plus_one, shifted, side, tested, value}
-
-pub tokens_append : (ps qs : List PrintedToken) → tokens_of (ps ++ qs) ≡ tokens_of ps ++ tokens_of qs
-tokens_append [] qs = refl
-tokens_append (p ∷ ps) qs = ap (λ ts. p.token ∷ ts) (tokens_append ps qs)
-
-pub tokens_spaced : (ps : List PrintedToken) → tokens_of (behind_space ps) ≡ tokens_of ps
-tokens_spaced [] = refl
-tokens_spaced (p ∷ ps) = refl
+use Rattle.mal_line.specs.Chains.{dest_bits, is_dest, is_expr, is_expr_word, is_filled, IsAssignment}
+use Rattle.mal_print.specs.StatementText.{all_dests, chain, dests_of, has_dest, heads, is_absent, is_nothing, is_unshifted, is_zero, tested}
+use Rattle.mal_print.proofs.Each.{Each, each_spelling, Expressed}
+use Rattle.mal_print.proofs.Fitting.{filtered, Fits}
 
 -- ---- destinations
 
@@ -69,125 +60,52 @@ mask_below (suc n) d h lt =
 pub mask : (d : ℕ) → nat_lt d 512 ≡ true → dest_bits 0 (dests_of d) ≡ d
 mask d h = mask_below 512 d all_masks (grind (arith, nat_tests))
 
-pub filtered : {A : Type 0} (q p : A → Bool) (ws : List A) → list_all q ws ≡ true → list_all q (filter p ws) ≡ true
-filtered q p [] h = refl
-filtered q p (w ∷ ws) h = let t = and_parts (q w) (list_all q ws) h in go (p w) t.0 (filtered q p ws t.1)
-  where
-    go : (b : Bool) → q w ≡ true → list_all q (filter p ws) ≡ true → list_all q (cond b (w ∷ filter p ws) (filter p ws)) ≡ true
-    go true e h = ap (λ b. b && list_all q (filter p ws)) e ∙ h
-    go false e h = h
-
-tested_dest : (next : Next Target) → is_dest (tested next) ≡ true
+tested_dest : (next : Next Token) → is_dest (tested next) ≡ true
 tested_dest nexts.Following = refl
 tested_dest (nexts.Goto to) = refl
 tested_dest (nexts.Dispatch high) = refl
 tested_dest (nexts.Branch tests.N high low) = refl
 tested_dest (nexts.Branch tests.Z high low) = refl
 
-tested_bit : (next : Next Target) → dest_bits 0 (tested next ∷ []) ≡ 0
+tested_bit : (next : Next Token) → dest_bits 0 (tested next ∷ []) ≡ 0
 tested_bit nexts.Following = refl
 tested_bit (nexts.Goto to) = refl
 tested_bit (nexts.Dispatch high) = refl
 tested_bit (nexts.Branch tests.N high low) = refl
 tested_bit (nexts.Branch tests.Z high low) = refl
 
-heads_dests : (ws : List Word) (next : Next Target) → list_all is_dest ws ≡ true → list_all is_dest (heads ws next) ≡ true
+heads_dests : (ws : List Word) (next : Next Token) → list_all is_dest ws ≡ true → list_all is_dest (heads ws next) ≡ true
 heads_dests [] next h = ap (λ b. b && true) (tested_dest next)
 heads_dests (w ∷ ws) next h = h
 
-heads_filled : (ws : List Word) (next : Next Target) → is_filled (heads ws next) ≡ true
+heads_filled : (ws : List Word) (next : Next Token) → is_filled (heads ws next) ≡ true
 heads_filled [] next = refl
 heads_filled (w ∷ ws) next = refl
 
-heads_bits : (ws : List Word) (next : Next Target) → dest_bits 0 (heads ws next) ≡ dest_bits 0 ws
+heads_bits : (ws : List Word) (next : Next Token) → dest_bits 0 (heads ws next) ≡ dest_bits 0 ws
 heads_bits [] next = tested_bit next
 heads_bits (w ∷ ws) next = refl
 
-dests_tokens : (ws : List Word) (ps : List PrintedToken) → tokens_of (dest_pieces ws ++ ps) ≡ dest_tokens ws ++ tokens_of ps
-dests_tokens [] ps = refl
-dests_tokens (w ∷ ws) ps = ap (λ ts. tokens.Word w ∷ tokens.Sign signs.Equals ∷ ts) (dests_tokens ws ps)
-
 -- ---- expressions
-
-side_tokens : (o : Option BusSource) → tokens_of (side o) ≡ table.side o
-side_tokens None = refl
-side_tokens (Some x) = refl
-
-spaced_side_tokens : (o : Option BusSource) → tokens_of (behind_space (side o)) ≡ table.side o
-spaced_side_tokens None = refl
-spaced_side_tokens (Some x) = refl
-
-between : (a : Option BusSource) (ps : List PrintedToken) (ts : List Token) → tokens_of ps ≡ ts → tokens_of (side a ++ ps) ≡ table.side a ++ ts
-between None ps ts h = h
-between (Some x) ps ts h = ap (λ ts. tokens.Word (source_word x) ∷ ts) h
-
-expression_tokens : (op : AluOp) (a b : Option BusSource) → tokens_of (expression op (side a) (side b)) ≡ spelling op (table.side a) (table.side b)
-expression_tokens ops.A a b = side_tokens a
-expression_tokens ops.B a b = side_tokens b
-expression_tokens ops.NotA a b = ap (λ ts. tokens.Word words.Not ∷ ts) (spaced_side_tokens a)
-expression_tokens ops.NotB a b = ap (λ ts. tokens.Word words.Not ∷ ts) (spaced_side_tokens b)
-expression_tokens ops.Sum a b = between a (sign signs.Plus ∷ side b) (table.plus ∷ table.side b) (ap (λ ts. table.plus ∷ ts) (side_tokens b))
-expression_tokens ops.SumInc a b =
-    between a (sign signs.Plus ∷ (side b ++ plus_one)) (table.plus ∷ (table.side b ++ table.plus ∷ table.one_token ∷ [])) (ap (λ ts. table.plus ∷ ts) (between b plus_one (table.plus ∷ table.one_token ∷ []) refl))
-expression_tokens ops.IncA a b = between a plus_one (table.plus ∷ table.one_token ∷ []) refl
-expression_tokens ops.IncB a b = between b plus_one (table.plus ∷ table.one_token ∷ []) refl
-expression_tokens ops.Sub a b = between b (sign signs.Minus ∷ side a) (table.minus ∷ table.side a) (ap (λ ts. table.minus ∷ ts) (side_tokens a))
-expression_tokens ops.DecB a b = between b (sign signs.Minus ∷ number (pos 1) (codes "1") ∷ []) (table.minus ∷ table.one_token ∷ []) refl
-expression_tokens ops.NegA a b = ap (λ ts. table.minus ∷ ts) (side_tokens a)
-expression_tokens ops.And a b = between a (spaced (word words.And) ∷ behind_space (side b)) (tokens.Word words.And ∷ table.side b) (ap (λ ts. tokens.Word words.And ∷ ts) (spaced_side_tokens b))
-expression_tokens ops.Or a b = between a (spaced (word words.Or) ∷ behind_space (side b)) (tokens.Word words.Or ∷ table.side b) (ap (λ ts. tokens.Word words.Or ∷ ts) (spaced_side_tokens b))
-expression_tokens _ a b = refl
-
-shift_tokens : (s : Shift) → tokens_of (shifted s) ≡ tail_tokens (tail_with s)
-shift_tokens shifts.None = refl
-shift_tokens _ = refl
 
 source_expr : (x : BusSource) → is_expr_word (source_word x) ≡ true
 source_expr bus.Mdr = refl
 source_expr _ = refl
 
-side_expr : (o : Option BusSource) (ts : List Token) → list_all is_expr ts ≡ true → list_all is_expr (table.side o ++ ts) ≡ true
-side_expr None ts h = h
-side_expr (Some x) ts h = ap (λ b. b && list_all is_expr ts) (source_expr x) ∙ h
+expr_side : (o : Option BusSource) → Each (λ t. is_expr t ≡ true) (table.side o)
+expr_side None = tt
+expr_side (Some x) = (source_expr x, tt)
 
-one_side : (o : Option BusSource) → list_all is_expr (table.side o) ≡ true
-one_side None = refl
-one_side (Some x) = ap (λ b. b && true) (source_expr x)
+all_expr : (ts : List Token) → Each (λ t. is_expr t ≡ true) ts → list_all is_expr ts ≡ true
+all_expr [] h = refl
+all_expr (t ∷ ts) h = ap (λ b. b && list_all is_expr ts) h.0 ∙ all_expr ts h.1
 
-pub spelling_expr : (op : AluOp) (a b : Option BusSource) → list_all is_expr (spelling op (table.side a) (table.side b)) ≡ true
-spelling_expr ops.B a b = one_side b
-spelling_expr ops.NotB a b = one_side b
-spelling_expr ops.Sum a b = side_expr a (table.plus ∷ table.side b) (one_side b)
-spelling_expr ops.SumInc a b = side_expr a (table.plus ∷ (table.side b ++ table.plus ∷ table.one_token ∷ [])) (side_expr b (table.plus ∷ table.one_token ∷ []) refl)
-spelling_expr ops.IncA a b = side_expr a (table.plus ∷ table.one_token ∷ []) refl
-spelling_expr ops.IncB a b = side_expr b (table.plus ∷ table.one_token ∷ []) refl
-spelling_expr ops.Sub a b = side_expr b (table.minus ∷ table.side a) (one_side a)
-spelling_expr ops.DecB a b = side_expr b (table.minus ∷ table.one_token ∷ []) refl
-spelling_expr ops.And a b = side_expr a (tokens.Word words.And ∷ table.side b) (one_side b)
-spelling_expr ops.Or a b = side_expr a (tokens.Word words.Or ∷ table.side b) (one_side b)
-spelling_expr ops.Zero a b = refl
-spelling_expr ops.One a b = refl
-spelling_expr ops.MinusOne a b = refl
-spelling_expr _ a b = one_side a
+spelling_expr : (op : AluOp) (a b : Option BusSource) → list_all is_expr (spelling op (table.side a) (table.side b)) ≡ true
+spelling_expr op a b =
+    let e : Expressed (λ t. is_expr t ≡ true) = record { plus = refl; minus = refl; zero = refl; one = refl; inverse = refl; both = refl; either = refl } in
+    all_expr (spelling op (table.side a) (table.side b)) (each_spelling (λ t. is_expr t ≡ true) e op (table.side a) (table.side b) (expr_side a) (expr_side b))
 
--- ---- what stands in a word
-
-pub record Fits (m : Machine) (part : Part) : Type 0 where
-  pub dests : nat_lt part.dests 512 ≡ true
-  pub op : has_operation m part.op ≡ true
-  pub a : fits_side (row part.op).uses_a (may_be_a m) part.a ≡ true
-  pub b : fits_side (row part.op).uses_b (may_be_b m) part.b ≡ true
-  pub mixed : not (is_mixed part.a part.b) ≡ true
-  pub fetch : may_fetch m part.fetch ≡ true
-
-pub part_fits : (m : Machine) (part : Part) → is_part m part ≡ true → Fits m part
-part_fits m part h =
-    let f = and_parts (nat_lt part.dests 512 && has_operation m part.op && fits_side (row part.op).uses_a (may_be_a m) part.a && fits_side (row part.op).uses_b (may_be_b m) part.b && not (is_mixed part.a part.b)) (may_fetch m part.fetch) h in
-    let e = and_parts (nat_lt part.dests 512 && has_operation m part.op && fits_side (row part.op).uses_a (may_be_a m) part.a && fits_side (row part.op).uses_b (may_be_b m) part.b) (not (is_mixed part.a part.b)) f.0 in
-    let d = and_parts (nat_lt part.dests 512 && has_operation m part.op && fits_side (row part.op).uses_a (may_be_a m) part.a) (fits_side (row part.op).uses_b (may_be_b m) part.b) e.0 in
-    let c = and_parts (nat_lt part.dests 512 && has_operation m part.op) (fits_side (row part.op).uses_a (may_be_a m) part.a) d.0 in
-    let b = and_parts (nat_lt part.dests 512) (has_operation m part.op) c.0 in
-    record { dests = b.0; op = b.1; a = c.1; b = d.1; mixed = e.1; fetch = f.1 }
+-- ---- what the part computes
 
 -- nothing stands where the operation uses none
 pub unused : (may : BusSource → Bool) (o : Option BusSource) → fits_side false may o ≡ true → o ≡ None
@@ -232,19 +150,10 @@ filled_spelling m ops.And a b f g = filled_behind a (tokens.Word words.And) (tab
 filled_spelling m ops.Or a b f g = filled_behind a (tokens.Word words.Or) (table.side b)
 filled_spelling m _ a b f g = refl
 
-value_tokens : (part : Part) → tokens_of (value part) ≡ spelling part.op (table.side part.a) (table.side part.b) ++ tail_tokens (tail_with part.shift)
-value_tokens part =
-    tokens_append (expression part.op (side part.a) (side part.b)) (shifted part.shift)
-    ∙ (ap (λ ts. ts ++ tokens_of (shifted part.shift)) (expression_tokens part.op part.a part.b)
-    ∙ ap (λ ts. spelling part.op (table.side part.a) (table.side part.b) ++ ts) (shift_tokens part.shift))
-
 abbrev pub assignment_of : Part → Assignment
 assignment_of part = record { dests = part.dests; operation = Some (operation_of part) }
 
-pub chain_tokens : (part : Part) (next : Next Target) → tokens_of (chain part next) ≡ dest_tokens (heads (dests_of part.dests) next) ++ (spelling part.op (table.side part.a) (table.side part.b) ++ tail_tokens (tail_with part.shift))
-chain_tokens part next = dests_tokens (heads (dests_of part.dests) next) (value part) ∙ ap (λ ts. dest_tokens (heads (dests_of part.dests) next) ++ ts) (value_tokens part)
-
-pub chain_is : (m : Machine) (part : Part) (next : Next Target) → Fits m part → IsAssignment m (tokens_of (chain part next)) (assignment_of part)
+pub chain_is : (m : Machine) (part : Part) (next : Next Token) → Fits m part → IsAssignment m (chain part next) (assignment_of part)
 chain_is m part next h = record {
   dests = heads (dests_of part.dests) next;
   body = spelling part.op (table.side part.a) (table.side part.b);
@@ -253,7 +162,7 @@ chain_is m part next h = record {
   some = heads_filled (dests_of part.dests) next;
   expr = spelling_expr part.op part.a part.b;
   not_empty = filled_spelling m part.op part.a part.b h.a h.b;
-  spelled = chain_tokens part next;
+  spelled = refl;
   bits = sym (heads_bits (dests_of part.dests) next ∙ mask part.dests h.dests);
   coded = record { fitting = operation_fits m part h; spelled = inl refl; shifted = refl };
 }

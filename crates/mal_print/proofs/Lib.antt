@@ -1,9 +1,8 @@
-pub mod Prints
-pub mod Bare
+pub mod Widths
+pub mod Fitting
+pub mod Each
 pub mod Spelling
-pub mod Apart
 pub mod Plain
 pub mod Chained
 pub mod Parted
-pub mod Owned
 pub mod Stated

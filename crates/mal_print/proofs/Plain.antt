@@ -1,6 +1,6 @@
 -- What is printed has no newline, no carriage return and no slash.
 use Rattle.std.proofs.Common.{◌≡◌, ℕ, Bool, true, false, List, [], ◌∷◌, ◌++◌, refl, ap, ◌∙◌, arith, cond}
-use Rattle.std.specs.Prelude.{◌&&◌}
+use Rattle.std.specs.Prelude.{◌&&◌, codes}
 use Rattle.std.specs.List.{list_all}
 use Rattle.std.proofs.lemmas.Bool.Decides.{nat_tests}
 use Rattle.std.proofs.lemmas.Bool.{and_parts}
@@ -14,10 +14,13 @@ use Rattle.mal_tokens.specs.declared.token.Token.{Token}
 use Rattle.mal_tokens.specs.declared.token.Token.TheVariants as tokens
 use Rattle.mal_tokens.specs.Words.{sign_text, word_text}
 use Rattle.mal_tokens.specs.Tokens.{IsLexeme}
-use Rattle.mal_print.specs.Pieces.{PrintedToken, printed}
+use Rattle.mal_print.specs.Printed.{is_spaced, is_spacing, printed_after, token_text}
 use Rattle.mal_print.specs.StatementText.{is_plain}
-use Rattle.mal_print.proofs.Apart.{all_append}
 use Rattle.mal_print.proofs.Spelling.{AreLexemes}
+
+pub all_append : {A : Type 0} (p : A → Bool) (xs ys : List A) → list_all p xs ≡ true → list_all p ys ≡ true → list_all p (xs ++ ys) ≡ true
+all_append p [] ys h g = g
+all_append p (x ∷ xs) ys h g = let t = and_parts (p x) (list_all p xs) h in ap (λ b. b && list_all p (xs ++ ys)) t.0 ∙ all_append p xs ys t.1 g
 
 plain_byte : (b : ℕ) → is_name_byte b ≡ true → is_plain b ≡ true
 plain_byte b h = grind (arith, nat_tests)
@@ -40,12 +43,12 @@ plain_lexeme (tokens.Sign s) text l = ap (list_all is_plain) l ∙ plain_sign s
 plain_lexeme (tokens.Name n) text l = ap (list_all is_plain) l.0 ∙ plain_bytes n (named n l.1.0).all
 plain_lexeme (tokens.Number v) text l = plain_bytes text l.1
 
-pub plain_printed : (ps : List PrintedToken) → AreLexemes ps → list_all is_plain (printed ps) ≡ true
-plain_printed [] l = refl
-plain_printed (p ∷ ps) l =
-    all_append is_plain (cond p.spaced (32 ∷ []) []) (p.text ++ printed ps) (gap p.spaced)
-    (all_append is_plain p.text (printed ps) (plain_lexeme p.token p.text l.0) (plain_printed ps l.1))
+pub plain_printed : (spacing : Bool) (ts : List Token) → AreLexemes spacing ts → list_all is_plain (printed_after spacing ts) ≡ true
+plain_printed spacing [] l = refl
+plain_printed spacing (t ∷ ts) l =
+    all_append is_plain (cond (is_spaced spacing t) (codes " ") []) (token_text (is_spaced spacing t) t ++ printed_after (is_spacing t) ts) (gap (is_spaced spacing t))
+    (all_append is_plain (token_text (is_spaced spacing t) t) (printed_after (is_spacing t) ts) (plain_lexeme t (token_text (is_spaced spacing t) t) l.0) (plain_printed (is_spacing t) ts l.1))
   where
-    gap : (b : Bool) → list_all is_plain (cond b (32 ∷ []) []) ≡ true
+    gap : (b : Bool) → list_all is_plain (cond b (codes " ") []) ≡ true
     gap true = refl
     gap false = refl

@@ -1,7 +1,6 @@
--- Pieces spell their tokens where each text is its token's and no two words meet.
-use Rattle.std.proofs.Common.{◌≡◌, ℕ, Bool, true, false, List, [], ◌∷◌, ◌++◌, refl, sym, ap, ◌∙◌, cond}
-use Rattle.std.specs.Prelude.{not, ◌&&◌, ◌||◌}
-use Rattle.std.proofs.lemmas.Bool.{and_from, and_parts}
+-- What is printed spells its tokens, where each text is its token's.
+use Rattle.std.proofs.Common.{◌≡◌, ℕ, Bool, true, false, List, [], ◌∷◌, ◌++◌, refl, ap, ◌∙◌, cond}
+use Rattle.std.specs.Prelude.{◌&&◌, ◌||◌, codes}
 use Rattle.mic_base.specs.Name.{is_name_byte}
 use Rattle.source_text.specs.Runs.{begins_with, ends_with}
 use Rattle.source_text.specs.Tokens.{AreBlank}
@@ -11,25 +10,21 @@ use Rattle.mal_tokens.specs.declared.sign.Sign.{Sign}
 use Rattle.mal_tokens.specs.declared.sign.Sign.TheVariants as signs
 use Rattle.mal_tokens.specs.Words.{sign_text}
 use Rattle.mal_tokens.specs.Tokens.{IsLexeme, SpellsTokens}
-use Rattle.mal_print.specs.Pieces.{behind_space, PrintedToken, printed, tokens_of}
+use Rattle.mal_print.specs.Printed.{is_open, is_spaced, is_spacing, is_wordy, printed_after, token_text}
+use Rattle.mal_print.proofs.Each.{Each}
 
--- a token that ends, or may begin, with a letter or a digit
-abbrev pub is_wordy : Token → Bool
-is_wordy (tokens.Word w) = true
-is_wordy (tokens.Name n) = true
-is_wordy (tokens.Number v) = true
-is_wordy (tokens.Sign signs.Label) = true
-is_wordy (tokens.Sign signs.Default) = true
-is_wordy (tokens.Sign _) = false
+-- the text that is printed of each token spells it
+abbrev pub AreLexemes : Bool → List Token → Type 0
+AreLexemes spacing [] = Unit {0}
+AreLexemes spacing (t ∷ ts) = IsLexeme t (token_text (is_spaced spacing t) t) × AreLexemes (is_spacing t) ts
 
--- no two words meet, in what follows a word or not
-abbrev pub apart : Bool → List PrintedToken → Bool
-apart after [] = true
-apart after (p ∷ ps) = (not (is_wordy p.token) || (p.spaced || not after)) && apart (is_wordy p.token) ps
+-- after a space or not, the text of the token spells it
+abbrev pub IsShown : Token → Type 0
+IsShown t = (spaced : Bool) → IsLexeme t (token_text spaced t)
 
-abbrev pub AreLexemes : List PrintedToken → Type 0
-AreLexemes [] = Unit {0}
-AreLexemes (p ∷ ps) = IsLexeme p.token p.text × AreLexemes ps
+pub shown_lexemes : (spacing : Bool) (ts : List Token) → Each IsShown ts → AreLexemes spacing ts
+shown_lexemes spacing [] h = tt
+shown_lexemes spacing (t ∷ ts) h = (h.0 (is_spaced spacing t), shown_lexemes (is_spacing t) ts h.1)
 
 -- ---- texts of signs
 
@@ -52,65 +47,39 @@ bare_ends _ text h is = absurd (cc)
 
 -- ---- what is printed spells its tokens
 
+not_wordy : (o w : Bool) → (o || (w && true)) ≡ false → w ≡ false
+not_wordy true w h = absurd (cc)
+not_wordy false true h = absurd (cc)
+not_wordy false false h = refl
+
+wordy_spacing : (t : Token) → is_wordy t ≡ true → is_spacing t ≡ true
+wordy_spacing (tokens.Sign signs.Label) h = refl
+wordy_spacing (tokens.Sign signs.Default) h = refl
+wordy_spacing (tokens.Sign _) h = absurd (cc)
+wordy_spacing _ h = refl
+
 -- what follows a word begins with no letter or digit
-begins_fine : (ps : List PrintedToken) → apart true ps ≡ true → AreLexemes ps → begins_with is_name_byte (printed ps) ≡ false
-begins_fine [] h l = refl
-begins_fine (p ∷ ps) h l = go p.spaced (is_wordy p.token) refl (and_parts (not (is_wordy p.token) || (p.spaced || false)) (apart (is_wordy p.token) ps) h).0
+begins_fine : (ts : List Token) → AreLexemes true ts → begins_with is_name_byte (printed_after true ts) ≡ false
+begins_fine [] l = refl
+begins_fine (t ∷ ts) l = go (is_spaced true t) refl
   where
-    go : (s w : Bool) → is_wordy p.token ≡ w → (not w || (s || false)) ≡ true → begins_with is_name_byte (cond s (32 ∷ []) [] ++ (p.text ++ printed ps)) ≡ false
-    go true w e h = refl
-    go false true e h = absurd (cc)
-    go false false e h = bare_begins p.token p.text (printed ps) e l.0
+    go : (s : Bool) → is_spaced true t ≡ s → begins_with is_name_byte (cond s (codes " ") [] ++ (token_text (is_spaced true t) t ++ printed_after (is_spacing t) ts)) ≡ false
+    go true e = refl
+    go false e = bare_begins t (token_text (is_spaced true t) t) (printed_after (is_spacing t) ts) (not_wordy (is_open t) (is_wordy t) e) l.0
 
-pub prints : (after : Bool) (ps : List PrintedToken) → apart after ps ≡ true → AreLexemes ps → SpellsTokens (printed ps) (tokens_of ps)
-prints after [] h l = refl
-prints after (p ∷ ps) h l = (cond p.spaced (32 ∷ []) [], p.text, printed ps, refl, blank p.spaced, l.0, ends (is_wordy p.token) refl behind, prints (is_wordy p.token) ps behind l.1)
+pub prints : (spacing : Bool) (ts : List Token) → AreLexemes spacing ts → SpellsTokens (printed_after spacing ts) ts
+prints spacing [] l = refl
+prints spacing (t ∷ ts) l =
+    (cond (is_spaced spacing t) (codes " ") [], token_text (is_spaced spacing t) t, printed_after (is_spacing t) ts, refl, blank (is_spaced spacing t), l.0, ends (is_wordy t) refl, prints (is_spacing t) ts l.1)
   where
-    behind : apart (is_wordy p.token) ps ≡ true
-    behind = (and_parts (not (is_wordy p.token) || (p.spaced || not after)) (apart (is_wordy p.token) ps) h).1
-
-    blank : (s : Bool) → AreBlank (cond s (32 ∷ []) [])
+    blank : (s : Bool) → AreBlank (cond s (codes " ") [])
     blank true = refl
     blank false = refl
 
-    ends : (w : Bool) → is_wordy p.token ≡ w → apart (is_wordy p.token) ps ≡ true → ends_with is_name_byte p.text ≡ true → begins_with is_name_byte (printed ps) ≡ false
-    ends true e h g = begins_fine ps (ap (λ w. apart w ps) (sym e) ∙ h) l.1
-    ends false e h g = absurd (let k = bare_ends p.token p.text e l.0 in cc)
+    begins : (s : Bool) → s ≡ true → AreLexemes s ts → begins_with is_name_byte (printed_after s ts) ≡ false
+    begins true e h = begins_fine ts h
+    begins false e h = absurd (cc)
 
--- ---- what follows others
-
-pub apart_weak : (ps : List PrintedToken) → apart true ps ≡ true → apart false ps ≡ true
-apart_weak [] h = refl
-apart_weak (p ∷ ps) h = go (is_wordy p.token) p.spaced (apart (is_wordy p.token) ps) h
-  where
-    go : (w s a : Bool) → ((not w || (s || false)) && a) ≡ true → ((not w || (s || true)) && a) ≡ true
-    go true true a h = h
-    go true false a h = absurd (cc)
-    go false s a h = h
-
-pub apart_any : (b : Bool) (ps : List PrintedToken) → apart true ps ≡ true → apart b ps ≡ true
-apart_any true ps h = h
-apart_any false ps h = apart_weak ps h
-
-pub apart_append : (b : Bool) (ps qs : List PrintedToken) → apart b ps ≡ true → apart true qs ≡ true → apart b (ps ++ qs) ≡ true
-apart_append b [] qs h g = apart_any b qs g
-apart_append b (p ∷ ps) qs h g =
-    let t = and_parts (not (is_wordy p.token) || (p.spaced || not b)) (apart (is_wordy p.token) ps) h in
-    and_from (not (is_wordy p.token) || (p.spaced || not b)) (apart (is_wordy p.token) (ps ++ qs)) t.0 (apart_append (is_wordy p.token) ps qs t.1 g)
-
-pub apart_spaced : (ps : List PrintedToken) → apart false ps ≡ true → apart true (behind_space ps) ≡ true
-apart_spaced [] h = refl
-apart_spaced (p ∷ ps) h = go (is_wordy p.token) p.spaced (apart (is_wordy p.token) ps) h
-  where
-    go : (w s a : Bool) → ((not w || (s || true)) && a) ≡ true → ((not w || (true || false)) && a) ≡ true
-    go true true a h = h
-    go true false a h = h
-    go false s a h = h
-
-pub lexemes_append : (ps qs : List PrintedToken) → AreLexemes ps → AreLexemes qs → AreLexemes (ps ++ qs)
-lexemes_append [] qs h g = g
-lexemes_append (p ∷ ps) qs h g = (h.0, lexemes_append ps qs h.1 g)
-
-pub lexemes_spaced : (ps : List PrintedToken) → AreLexemes ps → AreLexemes (behind_space ps)
-lexemes_spaced [] h = h
-lexemes_spaced (p ∷ ps) h = h
+    ends : (w : Bool) → is_wordy t ≡ w → ends_with is_name_byte (token_text (is_spaced spacing t) t) ≡ true → begins_with is_name_byte (printed_after (is_spacing t) ts) ≡ false
+    ends true e g = begins (is_spacing t) (wordy_spacing t e) l.1
+    ends false e g = absurd (let k = bare_ends t (token_text (is_spaced spacing t) t) e l.0 in cc)

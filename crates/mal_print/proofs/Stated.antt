@@ -1,29 +1,38 @@
 -- The canonical text of a statement spells that statement.
-use Rattle.std.proofs.Common.{◌≡◌, ℕ, Bool, true, false, List, ◌∷◌, Option, Some, None, refl, ap, ◌∙◌, inl}
-use Rattle.std.specs.Prelude.{IfSome, option_map, pos, ◌<◌}
+use Rattle.std.proofs.Common.{◌≡◌, ℕ, zero, suc, ◌+◌, ◌<◌, ◌≤◌, ◌/◌, ◌%◌, Bool, true, false, List, [], ◌∷◌, ◌++◌, Option, Some, None, refl, ap, ◌∙◌, inl, arith, cond}
+use Rattle.std.specs.Prelude.{◌&&◌, ◌||◌, ◌^◌, IfSome, Ok, codes, nat_lt, option_map, pos}
+use Rattle.std.specs.Fmt.{digits}
+use Rattle.std.specs.Char.{digit_char}
+use Rattle.std.specs.List.{list_all}
+use Rattle.std.proofs.lemmas.Bool.Decides.{nat_tests}
 use Rattle.mic_words.specs.declared.machine.Machine.{Machine}
-use Rattle.mic_words.specs.declared.machine.Machine.TheVariants.{Mic1, Mic2}
 use Rattle.micro_word.specs.declared.statement.Part.{Part}
 use Rattle.micro_word.specs.Words.{is_part}
+use Rattle.mic_base.specs.Digits.{hex_text}
+use Rattle.mic_base.specs.Name.{is_name_byte}
+use Rattle.mic_base.specs.Number.{number_of}
 use Rattle.mal_tokens.specs.declared.sign.Sign.TheVariants as signs
 use Rattle.mal_tokens.specs.declared.token.Token.{Token}
 use Rattle.mal_tokens.specs.declared.token.Token.TheVariants as tokens
+use Rattle.mal_tokens.specs.Words.{IsLabelText}
+use Rattle.mal_tokens.specs.Tokens.{IsLexeme}
 use Rattle.mal_line.specs.declared.content.Parts.{Parts}
+use Rattle.mal_line.specs.declared.content.Content.{Content}
 use Rattle.mal_line.specs.declared.content.Content.TheVariants as contents
 use Rattle.mal_line.specs.declared.line.Form.TheVariants as forms
 use Rattle.mal_line.specs.declared.next.Next.{Next}
 use Rattle.mal_line.specs.declared.next.Next.TheVariants as nexts
-use Rattle.mal_line.specs.Lines.{names_foreign, next_by_jump, part_by, part_of, parts_by, parts_of, SpellsLine, with_access}
-use Rattle.mal_print.specs.Pieces.{printed, tokens_of}
-use Rattle.mal_print.specs.StatementText.{fallback, fix, HasLabels, is_absent, labelled, printed_tokens, statement}
-use Rattle.mal_tokens.specs.Words.{IsLabelText}
-use Rattle.mal_print.proofs.Apart.{AreLabels, ReadsHex, fine_fallback, fine_fix, fine_statement}
-use Rattle.mal_print.proofs.Chained.{absent_bare, Fits, part_fits, tokens_spaced}
-use Rattle.mal_print.proofs.Owned.{own_lone, own_pieces}
-use Rattle.mal_print.proofs.Parted.{assigned_by, jump_of, or_semicolon_is, or_semicolon_some, tree_for, tree_is}
-use Rattle.mal_print.proofs.Plain.{plain_printed}
-use Rattle.mal_print.proofs.Spelling.{prints}
+use Rattle.mal_line.specs.Lines.{is_foreign, names_foreign, next_by_jump, part_by, part_of, parts_by, parts_of, SpellsLine, with_access}
+use Rattle.mal_line.specs.Targets.{EachTarget}
 use Rattle.mal_print.specs.Lines.{IsLineOf}
+use Rattle.mal_print.specs.Printed.{address_of, number_text, printed, token_text}
+use Rattle.mal_print.specs.StatementText.{fallback, fix, HasLabels, is_absent, labelled, or_semicolon, parts, statement}
+use Rattle.mal_print.proofs.Chained.{absent_bare}
+use Rattle.mal_print.proofs.Each.{Each, each_lone, each_parts, Stands}
+use Rattle.mal_print.proofs.Fitting.{Fits, part_fits}
+use Rattle.mal_print.proofs.Parted.{assigned_by, jump_of, or_semicolon_is, or_semicolon_some, tree_for, tree_is}
+use Rattle.mal_print.proofs.Plain.{all_append, plain_printed}
+use Rattle.mal_print.proofs.Spelling.{AreLexemes, IsShown, prints, shown_lexemes}
 
 -- ---- what the parts say
 
@@ -41,83 +50,118 @@ next_again _ = refl
 parts_again : (m : Machine) (p : Parts) → Fits m p.part → parts_of (tree_for p.part p.next) ≡ Some p
 parts_again m p h = ap (λ o. parts_by o (next_by_jump (jump_of p.next))) (part_again m p.part p.next h) ∙ ap (parts_by (Some p.part)) (next_again p.next)
 
--- ---- which tokens the lines have
+-- ---- what holds of each token
 
-own_name : (m : Machine) (label : List ℕ) (ts : List Token) → names_foreign m ts ≡ false → names_foreign m (tokens.Name label ∷ ts) ≡ false
-own_name Mic1 label ts h = h
-own_name Mic2 label ts h = h
+-- no word of the other machine
+abbrev pub IsOwn : Machine → Token → Type 0
+IsOwn m t = is_foreign m t ≡ false
 
-own_default : (m : Machine) (ts : List Token) → names_foreign m ts ≡ false → names_foreign m (tokens.Sign signs.Default ∷ ts) ≡ false
-own_default Mic1 ts h = h
-own_default Mic2 ts h = h
+own_targets : (m : Machine) (next : Next (List ℕ)) → EachTarget (IsOwn m) (labelled next)
+own_targets m nexts.Following = tt
+own_targets m (nexts.Goto label) = refl
+own_targets m (nexts.Dispatch high) = tt
+own_targets m (nexts.Branch test high low) = (refl, refl)
 
-statement_means : (m : Machine) (label : Option (List ℕ)) (p : Parts) → Fits m p.part → SpellsLine m (tokens_of (statement m label p.part (labelled p.next))) (contents.Statement label p)
-statement_means m None p h = record {
-  form = forms.Statement None (tree_for p.part p.next);
-  has = (or_semicolon_some (printed_tokens m p.part (labelled p.next)), or_semicolon_is m p.part p.next h);
-  own = own_lone m (printed_tokens m p.part (labelled p.next)) (own_pieces m p.part p.next h);
-  says = ap (option_map (λ p. contents.Statement None p)) (parts_again m p h);
-}
-statement_means m (Some label) p h =
-    let e = tokens_spaced (printed_tokens m p.part (labelled p.next)) in
-    record {
+own_parts : (m : Machine) (part : Part) (next : Next (List ℕ)) → Fits m part → Each (IsOwn m) (parts m part (labelled next))
+own_parts m part next f =
+    let of : Stands (IsOwn m) m = record { word = λ w h. h; sign = λ s h. refl; zero = refl; one = refl; eight = refl; offset = refl } in
+    each_parts (IsOwn m) m of refl part (labelled next) f (own_targets m next)
+
+own_all : (m : Machine) (ts : List Token) → Each (IsOwn m) ts → names_foreign m ts ≡ false
+own_all m [] h = refl
+own_all m (t ∷ ts) h = ap (λ b. b || names_foreign m ts) h.0 ∙ own_all m ts h.1
+
+shown_number : (v : ℕ) → IsLexeme (tokens.Number (pos v)) (token_text true (tokens.Number (pos v))) → IsLexeme (tokens.Number (pos v)) (token_text false (tokens.Number (pos v))) → IsShown (tokens.Number (pos v))
+shown_number v h g true = h
+shown_number v h g false = g
+
+shown_targets : (next : Next (List ℕ)) → HasLabels next → EachTarget IsShown (labelled next)
+shown_targets nexts.Following h = tt
+shown_targets (nexts.Goto label) h = λ b. (refl, h)
+shown_targets (nexts.Dispatch high) h = tt
+shown_targets (nexts.Branch test high low) h = (λ b. (refl, h.0), λ b. (refl, h.1))
+
+shown_parts : (m : Machine) (part : Part) (next : Next (List ℕ)) → Fits m part → HasLabels next → Each IsShown (parts m part (labelled next))
+unfolding number_of hex_text digits
+shown_parts m part next f h =
+    let of : Stands IsShown m = record {
+      word = λ w h b. refl;
+      sign = λ s h b. refl;
+      zero = shown_number 0 (refl, refl, refl) (refl, refl, refl);
+      one = shown_number 1 (refl, refl, refl) (refl, refl, refl);
+      eight = shown_number 8 (refl, refl, refl) (refl, refl, refl);
+      offset = shown_number 256 (refl, refl, refl) (refl, refl, refl);
+    } in
+    each_parts IsShown m of (λ b. refl) part (labelled next) f (shown_targets next h)
+
+shown_label : (label : List ℕ) → IsLabelText label → IsShown (tokens.Name label)
+shown_label label h = λ b. (refl, h)
+
+-- ---- lines
+
+line_of : (m : Machine) (ts : List Token) (content : Content) → AreLexemes false ts → SpellsLine m ts content → IsLineOf m (printed ts) content
+line_of m ts content l s = record { sequence = ts; plain = plain_printed false ts l; spelled = prints false ts l; means = s }
+
+pub statement_said : (m : Machine) (label : Option (List ℕ)) (p : Parts) → is_part m p.part ≡ true → IfSome label IsLabelText → HasLabels p.next
+    → IsLineOf m (printed (statement m label p.part (labelled p.next))) (contents.Statement label p)
+statement_said m None p h l n =
+    let f = part_fits m p.part h in
+    let ts = parts m p.part (labelled p.next) in
+    line_of m (or_semicolon ts) (contents.Statement None p)
+    (shown_lexemes false (or_semicolon ts) (each_lone IsShown (λ b. refl) ts (shown_parts m p.part p.next f n)))
+    (record {
+      form = forms.Statement None (tree_for p.part p.next);
+      has = (or_semicolon_some ts, or_semicolon_is m p.part p.next f);
+      own = own_all m (or_semicolon ts) (each_lone (IsOwn m) refl ts (own_parts m p.part p.next f));
+      says = ap (option_map (λ p. contents.Statement None p)) (parts_again m p f);
+    })
+statement_said m (Some label) p h l n =
+    let f = part_fits m p.part h in
+    let ts = parts m p.part (labelled p.next) in
+    line_of m (tokens.Name label ∷ ts) (contents.Statement (Some label) p)
+    (shown_lexemes false (tokens.Name label ∷ ts) (shown_label label l, shown_parts m p.part p.next f n))
+    (record {
       form = forms.Statement (Some label) (tree_for p.part p.next);
-      has = (tokens_of (printed_tokens m p.part (labelled p.next)), inl (ap (λ ts. tokens.Name label ∷ ts) e), tree_is m p.part p.next h);
-      own = ap (λ ts. names_foreign m (tokens.Name label ∷ ts)) e ∙ own_name m label (tokens_of (printed_tokens m p.part (labelled p.next))) (own_pieces m p.part p.next h);
-      says = ap (option_map (λ p. contents.Statement (Some label) p)) (parts_again m p h);
-    }
-
-fallback_means : (m : Machine) (p : Parts) → Fits m p.part → SpellsLine m (tokens_of (fallback m p.part (labelled p.next))) (contents.Fallback p)
-fallback_means m p h =
-    let e = tokens_spaced (printed_tokens m p.part (labelled p.next)) in
-    record {
-      form = forms.Fallback (tree_for p.part p.next);
-      has = (tokens_of (printed_tokens m p.part (labelled p.next)), ap (λ ts. tokens.Sign signs.Default ∷ ts) e, tree_is m p.part p.next h);
-      own = ap (λ ts. names_foreign m (tokens.Sign signs.Default ∷ ts)) e ∙ own_default m (tokens_of (printed_tokens m p.part (labelled p.next))) (own_pieces m p.part p.next h);
-      says = ap (option_map (λ p. contents.Fallback p)) (parts_again m p h);
-    }
-
-own_fix : (m : Machine) (label : List ℕ) (address : ℕ) → names_foreign m (tokens_of (fix label address)) ≡ false
-own_fix Mic1 label address = refl
-own_fix Mic2 label address = refl
-
-fix_means : (m : Machine) (label : List ℕ) (address : ℕ) → SpellsLine m (tokens_of (fix label address)) (contents.Fix label (pos address))
-fix_means m label address = record { form = forms.Fix label (pos address); has = refl; own = own_fix m label address; says = refl }
-
--- ---- which texts the lines have
-
-labels_of : (next : Next (List ℕ)) → HasLabels next → AreLabels (labelled next)
-labels_of nexts.Following h = tt
-labels_of (nexts.Goto label) h = h
-labels_of (nexts.Dispatch high) h = tt
-labels_of (nexts.Branch test high low) h = h
-
-pub statement_said : (m : Machine) (label : Option (List ℕ)) (p : Parts) → is_part m p.part ≡ true → IfSome label IsLabelText → HasLabels p.next → IsLineOf m (printed (statement m label p.part (labelled p.next))) (contents.Statement label p)
-statement_said m label p h l n =
-    let f = fine_statement m label p.part (labelled p.next) l (labels_of p.next n) in
-    record {
-      sequence = tokens_of (statement m label p.part (labelled p.next));
-      plain = plain_printed (statement m label p.part (labelled p.next)) f.lexemes;
-      spelled = prints false (statement m label p.part (labelled p.next)) f.apart f.lexemes;
-      means = statement_means m label p (part_fits m p.part h);
-    }
+      has = (ts, inl refl, tree_is m p.part p.next f);
+      own = own_all m (tokens.Name label ∷ ts) (refl, own_parts m p.part p.next f);
+      says = ap (option_map (λ p. contents.Statement (Some label) p)) (parts_again m p f);
+    })
 
 pub fallback_said : (m : Machine) (p : Parts) → is_part m p.part ≡ true → HasLabels p.next → IsLineOf m (printed (fallback m p.part (labelled p.next))) (contents.Fallback p)
 fallback_said m p h n =
-    let f = fine_fallback m p.part (labelled p.next) (labels_of p.next n) in
-    record {
-      sequence = tokens_of (fallback m p.part (labelled p.next));
-      plain = plain_printed (fallback m p.part (labelled p.next)) f.lexemes;
-      spelled = prints false (fallback m p.part (labelled p.next)) f.apart f.lexemes;
-      means = fallback_means m p (part_fits m p.part h);
-    }
+    let f = part_fits m p.part h in
+    let ts = parts m p.part (labelled p.next) in
+    line_of m (tokens.Sign signs.Default ∷ ts) (contents.Fallback p)
+    (shown_lexemes false (tokens.Sign signs.Default ∷ ts) ((λ b. refl), shown_parts m p.part p.next f n))
+    (record {
+      form = forms.Fallback (tree_for p.part p.next);
+      has = (ts, refl, tree_is m p.part p.next f);
+      own = own_all m (tokens.Sign signs.Default ∷ ts) (refl, own_parts m p.part p.next f);
+      says = ap (option_map (λ p. contents.Fallback p)) (parts_again m p f);
+    })
+
+-- ---- addresses
+
+hex_name : (n value : ℕ) → list_all is_name_byte (hex_text n value) ≡ true
+unfolding hex_text
+hex_name zero value = refl
+hex_name (suc n) value = all_append is_name_byte (hex_text n (value / 16)) (digit_char (value % 16) ∷ []) (hex_name n (value / 16)) (digit_name (value % 16) (omega arith))
+  where
+    digit_name : (d : ℕ) → d < 16 → (is_name_byte (digit_char d) && true) ≡ true
+    digit_name d h = grind arith
+
+-- digits after `0x` are read as their value
+abbrev pub ReadsHex : Type 0
+ReadsHex = (digits value : ℕ) → 1 ≤ digits → value < 16 ^ digits → value < 2 ^ 32 → number_of (codes "0x" ++ hex_text digits value) ≡ Ok (pos value)
+
+shown_address : ReadsHex → (address : ℕ) → address < 512 → IsLexeme (tokens.Number (pos address)) (number_text true (address_of (pos address)) (pos address))
+shown_address hex address lt = go (nat_lt address 4096) (grind (arith, nat_tests))
+  where
+    go : (b : Bool) → b ≡ true → IsLexeme (tokens.Number (pos address)) (number_text true (cond b (Some address) None) (pos address))
+    go true e = (refl, hex_name 3 address, hex 3 address (omega arith) (omega (arith, lt)) (omega (arith, lt)))
+    go false e = absurd (cc)
 
 pub fix_said : ReadsHex → (m : Machine) (label : List ℕ) (address : ℕ) → IsLabelText label → address < 512 → IsLineOf m (printed (fix label address)) (contents.Fix label (pos address))
 fix_said hex m label address l lt =
-    let f = fine_fix hex label address l lt in
-    record {
-      sequence = tokens_of (fix label address);
-      plain = plain_printed (fix label address) f.lexemes;
-      spelled = prints false (fix label address) f.apart f.lexemes;
-      means = fix_means m label address;
-    }
+    line_of m (fix label address) (contents.Fix label (pos address)) (refl, ((refl, l), (shown_address hex address lt, tt)))
+    (record { form = forms.Fix label (pos address); has = refl; own = own_all m (fix label address) (refl, (refl, (refl, tt))); says = refl })

@@ -1,3 +1,3 @@
-pub mod Pieces
+pub mod Printed
 pub mod StatementText
 pub mod Lines

@@ -10,7 +10,7 @@ use Rattle.mal_line.specs.declared.content.Parts.{Parts}
 use Rattle.mal_line.specs.declared.content.Content.{Content}
 use Rattle.mal_line.specs.declared.content.Content.TheVariants as contents
 use Rattle.mal_line.specs.Lines as lines
-use Rattle.mal_print.specs.Pieces.{printed}
+use Rattle.mal_print.specs.Printed.{printed}
 use Rattle.mal_print.specs.StatementText.{HasLabels, fallback, fix, is_plain, labelled, statement}
 
 -- the text is one line without a comment, and spells this on the machine

@@ -1,16 +1,15 @@
-//! The text of an assignment.
+//! The tokens of an assignment.
 
-ghost use Rattle.std.specs.Prelude.{◌≡◌, ◌≤◌, ◌+◌, ◌*◌, ◌++◌, ◌∷◌, [], length, false};
-ghost use Rattle.mal_line.specs.Expressions.{source_word};
-ghost use Rattle.mal_tokens.specs.declared.word.Word.TheVariants as words;
-ghost use Rattle.mal_tokens.specs.Words.{sign_text};
-ghost use Rattle.mal_print.specs.Pieces.{behind_space, printed, sign, spaced, word};
-ghost use Rattle.mal_print.specs.StatementText.{are_before, chain_part, dest_pieces, dests_among, dests_of, expression, has_dest, heads, is_absent, is_idle, is_nothing, joined_behind, shifted, side, tested};
+ghost use Rattle.std.specs.Prelude.{◌≡◌, ◌≤◌, ◌+◌, ◌*◌, ◌++◌, ◌∷◌, [], length, option_to_list};
+ghost use Rattle.mal_tokens.specs.declared.token.Token.{Token};
+ghost use Rattle.mal_tokens.specs.declared.sign.Sign.{Sign};
+ghost use Rattle.mal_line.specs.Expressions.{side, source_word, spelling, tail_with};
+ghost use Rattle.mal_line.specs.Chains.{dest_tokens, tail_tokens};
+ghost use Rattle.mal_print.specs.StatementText.{assignment, dests_among, dests_of, has_dest, heads, is_absent, is_idle, is_nothing, present, tested};
 
-use crate::target::Target;
+use crate::token_list::{Tokens, add};
 use mal_line::{Next, bit};
-use mal_tokens::{Sign, Word};
-use mic_base::Line;
+use mal_tokens::{Sign, Token, Word};
 use micro_word::{AluOp, BusSource, Part, Shift, Test};
 
 const DESTS: [Word; 9] = [
@@ -25,6 +24,20 @@ const DESTS: [Word; 9] = [
     Word::Mar,
 ];
 
+const PLUS: Option<Token> = Some(Token::Sign(Sign::Plus));
+
+const MINUS: Option<Token> = Some(Token::Sign(Sign::Minus));
+
+const NOT: Option<Token> = Some(Token::Word(Word::Not));
+
+const AND: Option<Token> = Some(Token::Word(Word::And));
+
+const OR: Option<Token> = Some(Token::Word(Word::Or));
+
+const ZERO: Option<Token> = Some(Token::Number(0));
+
+const ONE: Option<Token> = Some(Token::Number(1));
+
 fn has_dest(dests: u16, word: Word) -> bool
     ensures { result ≡ has_dest dests word }
 {
@@ -32,26 +45,71 @@ fn has_dest(dests: u16, word: Word) -> bool
 }
 
 /// Appends a destination and its `=`.
-fn print_dest(word: Word, line: &mut Line)
-    requires { length line.old + 6 ≤ 512 }
-    ensures text { line.new ≡ line.old ++ printed (dest_pieces (word ∷ [])) }
-    ensures len { length line.new ≤ length line.old + 6 }
+fn add_dest(word: Word, tokens: &mut Tokens)
+    requires { length tokens.old.items + 2 ≤ 48 }
+    ensures all { tokens.new.items ≡ tokens.old.items ++ Token.Word word ∷ Token.Sign Sign.Equals ∷ [] }
+    ensures len { length tokens.new.items ≡ length tokens.old.items + 2 }
 {
-    line.text(word.text());
-    line.text("=");
+    tokens.push(Token::Word(word));
+    tokens.push(Token::Sign(Sign::Equals));
 }
 
 /// Appends those of the words that are destinations.
-fn print_dests(dests: u16, words: &[Word], line: &mut Line)
-    requires { length line.old + 6 * length words.now ≤ 512 }
-    ensures text { line.new ≡ line.old ++ printed (dest_pieces (dests_among dests words.now)) }
-    ensures len { length line.new ≤ length line.old + 6 * length words.now }
+fn add_dests(dests: u16, words: &[Word], tokens: &mut Tokens)
+    requires { length tokens.old.items + 2 * length words.now ≤ 48 }
+    ensures all { tokens.new.items ≡ tokens.old.items ++ dest_tokens (dests_among dests words.now) }
+    ensures len { length tokens.new.items ≤ length tokens.old.items + 2 * length words.now }
 {
     if let Some((word, rest)) = words.split_first() {
         if has_dest(dests, *word) {
-            print_dest(*word, line);
+            add_dest(*word, tokens);
         }
-        print_dests(dests, rest, line);
+        add_dests(dests, rest, tokens);
+    }
+}
+
+fn is_nothing(dests: u16, words: &[Word]) -> bool
+    ensures { result ≡ is_nothing (dests_among dests words.now) }
+{
+    match words.split_first() {
+        None => true,
+        Some((word, rest)) => !has_dest(dests, *word) && is_nothing(dests, rest),
+    }
+}
+
+fn is_idle(part: &Part) -> bool
+    ensures { result ≡ is_idle part.now }
+{
+    matches!((part.op, part.shift), (AluOp::Zero, Shift::None))
+}
+
+/// Whether nothing is computed and nothing assigned.
+fn is_absent(part: &Part) -> bool
+    ensures { result ≡ is_absent part.now }
+{
+    is_nothing(part.dests, &DESTS) && is_idle(part)
+}
+
+/// The destination of a value that no register takes.
+fn tested(next: &Next<Token>) -> Word
+    ensures { result ≡ tested next.now }
+{
+    match next {
+        Next::Branch { test: Test::N, .. } => Word::N,
+        _ => Word::Z,
+    }
+}
+
+/// Appends the destinations, each with its `=`.
+fn add_heads(dests: u16, next: &Next<Token>, tokens: &mut Tokens)
+    requires { length tokens.old.items + 18 ≤ 48 }
+    ensures all { tokens.new.items ≡ tokens.old.items ++ dest_tokens (heads (dests_of dests) next.now) }
+    ensures len { length tokens.new.items ≤ length tokens.old.items + 18 }
+{
+    if is_nothing(dests, &DESTS) {
+        add_dest(tested(next), tokens);
+    } else {
+        add_dests(dests, &DESTS, tokens);
     }
 }
 
@@ -76,171 +134,56 @@ fn source_word(source: BusSource) -> Word
     }
 }
 
-fn print_side(source: Option<BusSource>, line: &mut Line)
-    requires { length line.old + 5 ≤ 512 }
-    ensures text { line.new ≡ line.old ++ printed (side source) }
-    ensures len { length line.new ≤ length line.old + 5 }
+fn side(source: Option<BusSource>) -> Option<Token>
+    ensures { option_to_list result ≡ side source }
 {
-    if let Some(source) = source {
-        line.text(source_word(source).text());
-    }
+    Some(Token::Word(source_word(source?)))
 }
 
-fn print_spaced_side(source: Option<BusSource>, line: &mut Line)
-    requires { length line.old + 6 ≤ 512 }
-    ensures text { line.new ≡ line.old ++ printed (behind_space (side source)) }
-    ensures len { length line.new ≤ length line.old + 6 }
-{
-    if let Some(source) = source {
-        line.text(" ");
-        line.text(source_word(source).text());
-    }
-}
-
-/// Appends two sides with a sign between them.
-fn print_sides(a: Option<BusSource>, between: Sign, b: Option<BusSource>, line: &mut Line)
-    requires room { length line.old + 11 ≤ 512 }
-    requires one { length (sign_text between) ≡ 1 }
-    ensures text { line.new ≡ line.old ++ printed (side a ++ sign between ∷ side b) }
-    ensures len { length line.new ≤ length line.old + 11 }
-{
-    print_side(a, line);
-    line.text(between.text());
-    print_side(b, line);
-}
-
-/// Appends two sides with AND or OR between them.
-fn print_words(a: Option<BusSource>, between: Word, b: Option<BusSource>, line: &mut Line)
-    requires { length line.old + 17 ≤ 512 }
-    ensures text { line.new ≡ line.old ++ printed (side a ++ spaced (word between) ∷ behind_space (side b)) }
-    ensures len { length line.new ≤ length line.old + 17 }
-{
-    print_side(a, line);
-    line.text(" ");
-    line.text(between.text());
-    print_spaced_side(b, line);
-}
-
-fn print_not(source: Option<BusSource>, line: &mut Line)
-    requires { length line.old + 9 ≤ 512 }
-    ensures text { line.new ≡ line.old ++ printed (word words.Not ∷ behind_space (side source)) }
-    ensures len { length line.new ≤ length line.old + 9 }
-{
-    line.text("NOT");
-    print_spaced_side(source, line);
-}
-
-fn print_expression(op: AluOp, a: Option<BusSource>, b: Option<BusSource>, line: &mut Line)
-    requires { length line.old + 18 ≤ 512 }
-    ensures text { line.new ≡ line.old ++ printed (expression op (side a) (side b)) }
-    ensures len { length line.new ≤ length line.old + 18 }
+/// The tokens of an operation, by the table of expressions.
+fn spelling(op: AluOp, a: Option<Token>, b: Option<Token>) -> [Option<Token>; 5]
+    ensures { present result ≡ spelling op (option_to_list a) (option_to_list b) }
 {
     match op {
-        AluOp::A => print_side(a, line),
-        AluOp::B => print_side(b, line),
-        AluOp::NotA => print_not(a, line),
-        AluOp::NotB => print_not(b, line),
-        AluOp::Sum => print_sides(a, Sign::Plus, b, line),
-        AluOp::Sub => print_sides(b, Sign::Minus, a, line),
-        AluOp::And => print_words(a, Word::And, b, line),
-        AluOp::Or => print_words(a, Word::Or, b, line),
-        AluOp::Zero => line.text("0"),
-        AluOp::One => line.text("1"),
-        AluOp::MinusOne => line.text("-1"),
-        AluOp::NegA => {
-            line.text("-");
-            print_side(a, line);
-        }
-        AluOp::IncA => print_behind(a, "+1", line),
-        AluOp::IncB => print_behind(b, "+1", line),
-        AluOp::DecB => print_behind(b, "-1", line),
-        AluOp::SumInc => {
-            print_sides(a, Sign::Plus, b, line);
-            line.text("+1");
-        }
+        AluOp::A => [a, None, None, None, None],
+        AluOp::B => [b, None, None, None, None],
+        AluOp::NotA => [NOT, a, None, None, None],
+        AluOp::NotB => [NOT, b, None, None, None],
+        AluOp::Sum => [a, PLUS, b, None, None],
+        AluOp::SumInc => [a, PLUS, b, PLUS, ONE],
+        AluOp::IncA => [a, PLUS, ONE, None, None],
+        AluOp::IncB => [b, PLUS, ONE, None, None],
+        AluOp::Sub => [b, MINUS, a, None, None],
+        AluOp::DecB => [b, MINUS, ONE, None, None],
+        AluOp::NegA => [MINUS, a, None, None, None],
+        AluOp::And => [a, AND, b, None, None],
+        AluOp::Or => [a, OR, b, None, None],
+        AluOp::Zero => [ZERO, None, None, None, None],
+        AluOp::One => [ONE, None, None, None, None],
+        AluOp::MinusOne => [MINUS, ONE, None, None, None],
     }
 }
 
-/// Appends a side and a text after it.
-fn print_behind(source: Option<BusSource>, behind: &str, line: &mut Line)
-    requires { length line.old + 5 + length behind.now ≤ 512 }
-    ensures text { line.new ≡ line.old ++ (printed (side source) ++ behind.now) }
-    ensures len { length line.new ≤ length line.old + 5 + length behind.now }
-{
-    print_side(source, line);
-    line.text(behind);
-}
-
-fn print_shift(shift: Shift, line: &mut Line)
-    requires { length line.old + 3 ≤ 512 }
-    ensures text { line.new ≡ line.old ++ printed (shifted shift) }
-    ensures len { length line.new ≤ length line.old + 3 }
+fn tail(shift: Shift) -> [Option<Token>; 2]
+    ensures { present result ≡ tail_tokens (tail_with shift) }
 {
     match shift {
-        Shift::None => {}
-        Shift::Left8 => line.text("<<8"),
-        Shift::Right1 => line.text(">>1"),
+        Shift::None => [None, None],
+        Shift::Left8 => [Some(Token::Sign(Sign::Left)), Some(Token::Number(8))],
+        Shift::Right1 => [Some(Token::Sign(Sign::Right)), Some(Token::Number(1))],
     }
 }
 
-fn is_nothing(dests: u16, words: &[Word]) -> bool
-    ensures { result ≡ is_nothing (dests_among dests words.now) }
+/// The assignment, where there is one.
+pub(crate) fn assignment(part: &Part, next: &Next<Token>) -> Tokens
+    ensures all { result.items ≡ assignment part.now next.now }
+    ensures len { length result.items ≤ 25 }
 {
-    match words.split_first() {
-        None => true,
-        Some((word, rest)) => !has_dest(dests, *word) && is_nothing(dests, rest),
+    let mut tokens = Tokens::new();
+    if !is_absent(part) {
+        add_heads(part.dests, next, &mut tokens);
+        add(&mut tokens, &spelling(part.op, side(part.a), side(part.b)));
+        add(&mut tokens, &tail(part.shift));
     }
-}
-
-fn is_idle(part: &Part) -> bool
-    ensures { result ≡ is_idle part.now }
-{
-    matches!((part.op, part.shift), (AluOp::Zero, Shift::None))
-}
-
-/// Whether nothing is computed and nothing assigned.
-pub(crate) fn is_absent(part: &Part) -> bool
-    ensures { result ≡ is_absent part.now }
-{
-    is_nothing(part.dests, &DESTS) && is_idle(part)
-}
-
-/// The destination of a value that no register takes.
-fn tested(next: &Next<Target>) -> Word
-    ensures { result ≡ tested next.now }
-{
-    match next {
-        Next::Branch { test: Test::N, .. } => Word::N,
-        _ => Word::Z,
-    }
-}
-
-/// Appends the destinations, each with its `=`.
-fn print_heads(dests: u16, next: &Next<Target>, line: &mut Line)
-    requires { length line.old + 54 ≤ 512 }
-    ensures text { line.new ≡ line.old ++ printed (dest_pieces (heads (dests_of dests) next.now)) }
-    ensures len { length line.new ≤ length line.old + 54 }
-{
-    if is_nothing(dests, &DESTS) {
-        print_dest(tested(next), line);
-    } else {
-        print_dests(dests, &DESTS, line);
-    }
-}
-
-/// Appends the assignment, and returns whether there is one.
-#[tactic(auto, using(crate::proofs::Prints::no_chain_prints))]
-pub(crate) fn print_chain(part: &Part, next: &Next<Target>, line: &mut Line) -> bool
-    requires { length line.old + 75 ≤ 512 }
-    ensures text { line.new ≡ line.old ++ printed (joined_behind false (chain_part part.now next.now)) }
-    ensures len { length line.new ≤ length line.old + 75 }
-    ensures some { result ≡ are_before false (chain_part part.now next.now) }
-{
-    if is_absent(part) {
-        return false;
-    }
-    print_heads(part.dests, next, line);
-    print_expression(part.op, part.a, part.b, line);
-    print_shift(part.shift, line);
-    true
+    tokens
 }

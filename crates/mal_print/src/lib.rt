@@ -1,13 +1,15 @@
-//! The canonical text of the statements and of the lines of the microassembly language.
+//! The canonical text of the statements and of the lines of the microassembly language: its tokens, and how they are printed.
 #![tactic(auto)]
 
 mod assignment;
 mod laws;
 mod line;
 mod parts;
-mod target;
+mod printing;
+mod token_list;
 
 pub use laws::lines_spell_what_is_printed;
-pub use line::{print_default, print_fix, print_line, print_lone};
-pub use parts::print_parts;
-pub use target::Target;
+pub use line::{fallback, fix, lone, statement};
+pub use parts::parts_of;
+pub use printing::print_tokens;
+pub use token_list::Tokens;

@@ -1,96 +1,67 @@
-//! The text of a statement's line.
+//! The tokens of a line.
 
-ghost use Rattle.std.specs.Prelude.{◌≡◌, ◌≤◌, ◌<◌, ◌+◌, ◌++◌, length};
-ghost use Rattle.mal_print.specs.Pieces.{behind_space, printed};
-ghost use Rattle.mal_print.specs.StatementText.{fallback, FitTargets, fix, has_parts, or_semicolon, printed_tokens, statement};
+ghost use Rattle.std.specs.Prelude.{◌≡◌, ◌≤◌};
+ghost use Rattle.mal_print.specs.Printed.{width};
+ghost use Rattle.mal_print.specs.StatementText.{fallback, fix, or_semicolon, parts, statement};
 
-use crate::assignment::is_absent;
-use crate::parts::print_parts;
-use crate::target::Target;
+use crate::parts::parts_of;
+use crate::token_list::Tokens;
 use mal_line::Next;
-use mic_base::{Line, Name};
-use micro_word::{Machine, Mem, Part};
+use mal_tokens::{Sign, Token};
+use mic_base::Name;
+use micro_word::{Machine, Part};
 
-fn has_parts(part: &Part, next: &Next<Target>) -> bool
-    ensures { result ≡ has_parts part.now next.now }
+fn or_semicolon(mut tokens: Tokens) -> Tokens
+    ensures { result.items ≡ or_semicolon tokens.items }
 {
-    !is_absent(part)
-        || !matches!(part.mem, Mem::None)
-        || part.fetch
-        || !matches!(next, Next::Following)
-}
-
-/// Appends the parts of a statement, `;` where it has none.
-#[tactic(auto, using(crate::proofs::Bare::or_semicolon_some, crate::proofs::Bare::or_semicolon_none))]
-pub fn print_lone(machine: Machine, part: &Part, next: &Next<Target>, line: &mut Line)
-    requires room { length line.old + 256 ≤ 512 }
-    requires fit { FitTargets next.now }
-    ensures text { line.new ≡ line.old ++ printed (or_semicolon (printed_tokens machine part.now next.now)) }
-    ensures len { length line.new ≤ length line.old + 256 }
-{
-    if has_parts(part, next) {
-        print_parts(machine, part, next, line);
-    } else {
-        line.text(";");
+    if tokens.is_empty() {
+        tokens.push(Token::Sign(Sign::Semicolon));
     }
+    tokens
 }
 
-/// Appends a space and the parts, or nothing where there are none.
-#[tactic(auto, using(crate::proofs::Bare::spaced_some, crate::proofs::Bare::spaced_none))]
-fn print_behind_space(machine: Machine, part: &Part, next: &Next<Target>, line: &mut Line)
-    requires room { length line.old + 257 ≤ 512 }
-    requires fit { FitTargets next.now }
-    ensures text { line.new ≡ line.old ++ printed (behind_space (printed_tokens machine part.now next.now)) }
-    ensures len { length line.new ≤ length line.old + 257 }
+/// The parts of a statement, `;` where it has none.
+#[tactic(auto, using(crate::proofs::Widths::lone_width))]
+pub fn lone(machine: Machine, part: &Part, next: &Next<Token>) -> Tokens
+    ensures all { result.items ≡ or_semicolon (parts machine part.now next.now) }
+    ensures width { width result.items ≤ 256 }
 {
-    if has_parts(part, next) {
-        line.text(" ");
-        print_parts(machine, part, next, line);
-    }
+    or_semicolon(parts_of(machine, part, next))
 }
 
-/// Appends the line of a statement: its label and its parts.
-pub fn print_line(
-    machine: Machine,
-    label: Option<Name>,
-    part: &Part,
-    next: &Next<Target>,
-    line: &mut Line,
-)
-    requires room { length line.old + 321 ≤ 512 }
-    requires fit { FitTargets next.now }
-    ensures text { line.new ≡ line.old ++ printed (statement machine label part.now next.now) }
-    ensures len { length line.new ≤ length line.old + 321 }
+/// The line of a statement: its label and its parts.
+pub fn statement(machine: Machine, label: Option<Name>, part: &Part, next: &Next<Token>) -> Tokens
+    ensures all { result.items ≡ statement machine label part.now next.now }
+    ensures width { width result.items ≤ 321 }
 {
     match label {
-        None => print_lone(machine, part, next, line),
+        None => lone(machine, part, next),
         Some(label) => {
-            line.text(label.text());
-            print_behind_space(machine, part, next, line);
+            let mut tokens = parts_of(machine, part, next);
+            tokens.insert(0, Token::Name(label));
+            tokens
         }
     }
 }
 
-/// Appends the line of the statement that unused words hold.
-pub fn print_default(machine: Machine, part: &Part, next: &Next<Target>, line: &mut Line)
-    requires room { length line.old + 265 ≤ 512 }
-    requires fit { FitTargets next.now }
-    ensures text { line.new ≡ line.old ++ printed (fallback machine part.now next.now) }
-    ensures len { length line.new ≤ length line.old + 265 }
+/// The line of the statement that unused words hold.
+pub fn fallback(machine: Machine, part: &Part, next: &Next<Token>) -> Tokens
+    ensures all { result.items ≡ fallback machine part.now next.now }
+    ensures width { width result.items ≤ 265 }
 {
-    line.text(".default");
-    print_behind_space(machine, part, next, line);
+    let mut tokens = parts_of(machine, part, next);
+    tokens.insert(0, Token::Sign(Sign::Default));
+    tokens
 }
 
-/// Appends the line that fixes a label's address.
-pub fn print_fix(label: Name, address: u16, line: &mut Line)
-    requires room { length line.old + 77 ≤ 512 }
-    requires below { address < 512 }
-    ensures text { line.new ≡ line.old ++ printed (fix label address) }
-    ensures len { length line.new ≤ length line.old + 77 }
+/// The line that fixes a label's address.
+pub fn fix(label: Name, address: u16) -> [Token; 3]
+    ensures all { result ≡ fix label address }
+    ensures width { width result ≤ 93 }
 {
-    line.text(".label ");
-    line.text(label.text());
-    line.text(" 0x");
-    line.hex(u64::from(address), 3);
+    [
+        Token::Sign(Sign::Label),
+        Token::Name(label),
+        Token::Number(i64::from(address)),
+    ]
 }

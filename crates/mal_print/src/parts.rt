@@ -1,179 +1,115 @@
-//! The text of a statement's parts.
+//! The tokens of a statement's parts.
 
-ghost use Rattle.std.specs.Prelude.{◌≡◌, ◌≤◌, ◌<◌, ◌+◌, ◌++◌, ◌∷◌, [], length, codes, if◌then◌else◌};
-ghost use Rattle.mal_print.specs.Pieces.{printed};
-ghost use Rattle.mal_print.specs.StatementText.{are_before, byte_word, dispatch_part, else_part, fetch_part, FitsTarget, FitTargets, goto_part, if_part, joined_behind, memory_part, next_parts, printed_tokens, target};
+ghost use Rattle.std.specs.Prelude.{◌≡◌, ◌≤◌, ◌+◌, length, option_to_list};
+ghost use Rattle.mal_tokens.specs.declared.token.Token.{Token};
+ghost use Rattle.mal_line.specs.Statements.{test_word};
+ghost use Rattle.mal_print.specs.Printed.{width};
+ghost use Rattle.mal_print.specs.StatementText.{beside, byte_word, fetches, leads, memory, parts};
 
-use crate::assignment::print_chain;
-use crate::target::Target;
+use crate::assignment::assignment;
+use crate::token_list::{Tokens, add_part};
 use mal_line::Next;
-use mal_tokens::Word;
-use mic_base::Line;
+use mal_tokens::{Sign, Token, Word};
 use micro_word::{Machine, Mem, Part, Test};
 
-/// Appends the separator between a part and those before it.
-fn divide(others: bool, line: &mut Line)
-    requires { length line.old + 2 ≤ 512 }
-    ensures text { line.new ≡ line.old ++ (if others then codes "; " else []) }
-    ensures len { length line.new ≤ length line.old + 2 }
-{
-    if others {
-        line.text("; ");
-    }
-}
+const OPEN: Token = Token::Sign(Sign::Open);
 
-fn print_target(to: &Target, line: &mut Line)
-    requires room { length line.old + 65 ≤ 512 }
-    requires fits { FitsTarget to.now }
-    ensures text { line.new ≡ line.old ++ printed (target to.now ∷ []) }
-    ensures len { length line.new ≤ length line.old + 65 }
-{
-    line.text(" ");
-    match to {
-        Target::Label(label) => line.text(label.text()),
-        Target::Address(address) => {
-            line.text("0x");
-            line.hex(u64::from(*address), 3);
-        }
-    }
-}
+const CLOSE: Token = Token::Sign(Sign::Close);
 
-fn print_goto(to: &Target, line: &mut Line)
-    requires room { length line.old + 69 ≤ 512 }
-    requires fits { FitsTarget to.now }
-    ensures text { line.new ≡ line.old ++ printed (goto_part to.now) }
-    ensures len { length line.new ≤ length line.old + 69 }
-{
-    line.text("goto");
-    print_target(to, line);
-}
+const GOTO: Token = Token::Word(Word::Goto);
 
-fn byte_word(machine: Machine) -> Word
-    ensures { result ≡ byte_word machine }
-{
-    match machine {
-        Machine::Mic1 => Word::Mbr,
-        Machine::Mic2 => Word::Mbr1,
-    }
-}
-
-fn print_dispatch(machine: Machine, high: bool, line: &mut Line)
-    requires { length line.old + 21 ≤ 512 }
-    ensures text { line.new ≡ line.old ++ printed (dispatch_part machine high) }
-    ensures len { length line.new ≤ length line.old + 21 }
-{
-    line.text("goto (");
-    line.text(byte_word(machine).text());
-    if high {
-        line.text(" OR 0x100");
-    }
-    line.text(")");
-}
-
-fn print_if(test: Test, to: &Target, line: &mut Line)
-    requires room { length line.old + 76 ≤ 512 }
-    requires fits { FitsTarget to.now }
-    ensures text { line.new ≡ line.old ++ printed (if_part test to.now) }
-    ensures len { length line.new ≤ length line.old + 76 }
-{
-    match test {
-        Test::N => line.text("if (N) goto"),
-        Test::Z => line.text("if (Z) goto"),
-    }
-    print_target(to, line);
-}
-
-fn print_else(to: &Target, line: &mut Line)
-    requires room { length line.old + 74 ≤ 512 }
-    requires fits { FitsTarget to.now }
-    ensures text { line.new ≡ line.old ++ printed (else_part to.now) }
-    ensures len { length line.new ≤ length line.old + 74 }
-{
-    line.text("else goto");
-    print_target(to, line);
-}
-
-fn print_branch(test: Test, yes: &Target, no: &Target, line: &mut Line)
-    requires room { length line.old + 152 ≤ 512 }
-    requires high { FitsTarget yes.now }
-    requires low { FitsTarget no.now }
-    ensures text { line.new ≡ line.old ++ (printed (if_part test yes.now) ++ 59 ∷ 32 ∷ printed (else_part no.now)) }
-    ensures len { length line.new ≤ length line.old + 152 }
-{
-    print_if(test, yes, line);
-    line.text("; ");
-    print_else(no, line);
-}
-
-/// Appends rd or wr after the others, and returns whether there is any part now.
-fn print_memory(mem: Mem, others: bool, line: &mut Line) -> bool
-    requires { length line.old + 4 ≤ 512 }
-    ensures text { line.new ≡ line.old ++ printed (joined_behind others (memory_part mem)) }
-    ensures len { length line.new ≤ length line.old + 4 }
-    ensures some { result ≡ are_before others (memory_part mem) }
+fn memory(mem: Mem) -> Option<Token>
+    ensures { option_to_list result ≡ memory mem }
 {
     match mem {
-        Mem::None => others,
-        Mem::Read => {
-            divide(others, line);
-            line.text("rd");
-            true
-        }
-        Mem::Write => {
-            divide(others, line);
-            line.text("wr");
-            true
-        }
+        Mem::None => None,
+        Mem::Read => Some(Token::Word(Word::Rd)),
+        Mem::Write => Some(Token::Word(Word::Wr)),
     }
 }
 
-fn print_fetch(fetch: bool, others: bool, line: &mut Line) -> bool
-    requires { length line.old + 7 ≤ 512 }
-    ensures text { line.new ≡ line.old ++ printed (joined_behind others (fetch_part fetch)) }
-    ensures len { length line.new ≤ length line.old + 7 }
-    ensures some { result ≡ are_before others (fetch_part fetch) }
+fn fetches(fetch: bool) -> Option<Token>
+    ensures { option_to_list result ≡ fetches fetch }
 {
-    if !fetch {
-        return others;
-    }
-    divide(others, line);
-    line.text("fetch");
-    true
+    fetch.then_some(Token::Word(Word::Fetch))
 }
 
-#[tactic(auto, using(crate::proofs::Prints::goto_prints, crate::proofs::Prints::dispatch_prints, crate::proofs::Prints::branch_prints))]
-fn print_next(machine: Machine, next: &Next<Target>, others: bool, line: &mut Line)
-    requires room { length line.old + 154 ≤ 512 }
-    requires fit { FitTargets next.now }
-    ensures text { line.new ≡ line.old ++ printed (joined_behind others (next_parts machine next.now)) }
-    ensures len { length line.new ≤ length line.old + 154 }
+fn byte_word(machine: Machine) -> Token
+    ensures { result ≡ Token.Word (byte_word machine) }
+{
+    match machine {
+        Machine::Mic1 => Token::Word(Word::Mbr),
+        Machine::Mic2 => Token::Word(Word::Mbr1),
+    }
+}
+
+fn test_word(test: Test) -> Token
+    ensures { result ≡ Token.Word (test_word test) }
+{
+    match test {
+        Test::N => Token::Word(Word::N),
+        Test::Z => Token::Word(Word::Z),
+    }
+}
+
+/// Appends a part of one word, where it is there.
+fn add_word(tokens: &mut Tokens, word: Option<Token>)
+    requires { length tokens.old.items + 2 ≤ 48 }
+    ensures all { tokens.new.items ≡ beside tokens.old.items (option_to_list word) }
+    ensures len { length tokens.new.items ≤ length tokens.old.items + 2 }
+{
+    if let Some(word) = word {
+        add_part(tokens, &[word]);
+    }
+}
+
+/// Appends where the statement goes next.
+fn add_next(machine: Machine, next: &Next<Token>, tokens: &mut Tokens)
+    requires { length tokens.old.items ≤ 29 }
+    ensures all { tokens.new.items ≡ beside tokens.old.items (leads machine next.now) }
+    ensures len { length tokens.new.items ≤ 40 }
 {
     match next {
         Next::Following => {}
-        Next::Goto(to) => {
-            divide(others, line);
-            print_goto(to, line);
+        Next::Goto(to) => add_part(tokens, &[GOTO, *to]),
+        Next::Dispatch { high: false } => {
+            add_part(tokens, &[GOTO, OPEN, byte_word(machine), CLOSE]);
         }
-        Next::Dispatch { high } => {
-            divide(others, line);
-            print_dispatch(machine, *high, line);
+        Next::Dispatch { high: true } => {
+            let (or, offset) = (Token::Word(Word::Or), Token::Number(0x100));
+            add_part(tokens, &[GOTO, OPEN, byte_word(machine), or, offset, CLOSE]);
         }
         Next::Branch { test, yes, no } => {
-            divide(others, line);
-            print_branch(*test, yes, no, line);
+            let (semicolon, otherwise) = (Token::Sign(Sign::Semicolon), Token::Word(Word::Else));
+            let condition = Token::Word(Word::If);
+            add_part(
+                tokens,
+                &[
+                    condition,
+                    OPEN,
+                    test_word(*test),
+                    CLOSE,
+                    GOTO,
+                    *yes,
+                    semicolon,
+                    otherwise,
+                    GOTO,
+                    *no,
+                ],
+            );
         }
     }
 }
 
-/// Appends the parts of a statement in canonical text: its assignment, rd or wr, fetch, and where it goes next.
-pub fn print_parts(machine: Machine, part: &Part, next: &Next<Target>, line: &mut Line)
-    requires room { length line.old + 240 ≤ 512 }
-    requires fit { FitTargets next.now }
-    ensures text { line.new ≡ line.old ++ printed (printed_tokens machine part.now next.now) }
-    ensures len { length line.new ≤ length line.old + 240 }
+/// The parts of a statement in canonical text: its assignment, rd or wr, fetch, and where it goes next.
+pub fn parts_of(machine: Machine, part: &Part, next: &Next<Token>) -> Tokens
+    ensures all { result.items ≡ parts machine part.now next.now }
+    ensures len { length result.items ≤ 40 }
+    ensures width { width result.items ≤ 251 }
 {
-    let assigned = print_chain(part, next, line);
-    let accessed = print_memory(part.mem, assigned, line);
-    let fetched = print_fetch(part.fetch, accessed, line);
-    print_next(machine, next, fetched, line);
+    let mut tokens = assignment(part, next);
+    add_word(&mut tokens, memory(part.mem));
+    add_word(&mut tokens, fetches(part.fetch));
+    add_next(machine, next, &mut tokens);
+    tokens
 }

@@ -5,6 +5,7 @@ ghost use Rattle.mic_base.specs.Name.{begins_digit, is_name_byte};
 ghost use Rattle.mic_base.specs.Number.{number_of};
 ghost use Rattle.source_text.specs.Runs.{begins_with};
 ghost use Rattle.mal_tokens.specs.Words.{find_sign, find_word};
+ghost use Rattle.mal_tokens.specs.declared.sign.Sign.{Sign};
 ghost use Rattle.mal_tokens.specs.declared.token.Token.{Token};
 ghost use Rattle.mal_tokens.specs.Reading.{begins, number_token, read, sign_or, word_or_name};
 ghost use Rattle.mal_tokens.specs.Tokens.{SpellsTokens};
@@ -23,6 +24,15 @@ pub enum Token {
     Name(Name),
     /// The value of the number.
     Number(i64),
+}
+
+/// The semicolon, which is the empty statement.
+impl Default for Token {
+    ghost is_default = { λ token. token ≡ Token.Sign Sign.Semicolon };
+
+    fn default() -> Token {
+        Token::Sign(Sign::Semicolon)
+    }
 }
 
 /// The microassembly language.
