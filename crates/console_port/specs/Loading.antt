@@ -12,6 +12,10 @@ abbrev pub text_word : List ℕ → ℕ → ℕ
 text_word text at =
     big_endian_word (slice_index text (4 * at)) (slice_index text (4 * at + 1)) (slice_index text (4 * at + 2)) (slice_index text (4 * at + 3))
 
+-- each word of a text stands in a memory, from word 0 on
+abbrev pub HasTextWords : List ℕ → List ℕ → Type 0
+HasTextWords text words = (at : ℕ) → 4 * at < length text → slice_index words at ≡ text_word text at
+
 -- each word outside this range stays
 abbrev pub StaysOutside : ℕ → ℕ → List ℕ → List ℕ → Type 0
 StaysOutside from to old new = (at : ℕ) → (at < from) ⊎ (to ≤ at) → slice_index new at ≡ slice_index old at

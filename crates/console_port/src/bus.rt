@@ -5,7 +5,7 @@ ghost use Rattle.std.specs.Prelude.{◌/◌, ◌==◌, ◌≡◌, ◌≢◌, ◌
 ghost use Rattle.console_port.specs.Access.{IsAccess, IsByMap};
 ghost use Rattle.console_port.specs.Bus.{Shows, Stands, IsLed, ChangesOnly, FailsAsRefused, refused_by, IsRead};
 ghost use Rattle.console_port.specs.Console.{IsFault, HasFaultCause, most_kept};
-ghost use Rattle.console_port.specs.Loading.{IsLoaded};
+ghost use Rattle.console_port.specs.Loading.{HasTextWords, IsLoaded};
 ghost use Rattle.console_port.specs.Streams.{SinkGoesOn};
 ghost use Rattle.console_port.specs.World.{World, console_at, read_refusal, write_refusal, word_refusal, fetch_refusal, byte_in, read_value, after_write};
 
@@ -53,6 +53,7 @@ impl Bus {
         requires pool { length pool.now ≤ MOST_POOL }
         requires memory { FRAME ≤ length self.old.words }
         ensures words { IsLoaded text.now pool.now self.old.words self.new.words }
+        ensures text { HasTextWords text.now self.new.words }
         ensures console { self.new.console ≡ self.old.console }
     {
         write_image(&mut self.memory, text, pool);

@@ -1,7 +1,7 @@
 //! An image's text and pool, written into memory.
 
 ghost use Rattle.std.specs.Prelude.{◌≡◌, ◌+◌, ◌*◌, ◌<◌, ◌≤◌, ℕ, length, slice_index};
-ghost use Rattle.console_port.specs.Loading.{text_word, IsLoaded, StaysOutside};
+ghost use Rattle.console_port.specs.Loading.{text_word, HasTextWords, IsLoaded, StaysOutside};
 
 use crate::map::{FRAME, MOST_POOL, MOST_TEXT, POOL};
 use crate::pages::Pages;
@@ -54,7 +54,8 @@ pub fn write_image(memory: &mut Pages, text: &[u8], pool: &[u32])
     requires text { length text.now ≤ MOST_TEXT }
     requires pool { length pool.now ≤ MOST_POOL }
     requires memory { FRAME ≤ length memory.old }
-    ensures { IsLoaded text.now pool.now memory.old memory.new }
+    ensures loaded { IsLoaded text.now pool.now memory.old memory.new }
+    ensures text { HasTextWords text.now memory.new }
 {
     write_text(memory, text);
     write_pool(memory, pool);

@@ -78,7 +78,7 @@ module _ {M S : Type 0} (state : M → S) (m : Meaning S) (IsReady : ℕ → Lis
   abbrev begins : (input : List ℕ) → Untaken left false input → Here
   begins input told =
       let sim = simulated v s.image s.accepted board0.bus.words s.loaded (told_of held) m IsReady IsShipped entry timing promises known board.store.words has bound input in
-      record { shipped = has; words = board0.bus.words; loaded = s.loaded; input = input; told = told; simulates = sim; finish = sim.finishes.0; finishes = sim.finishes.1 }
+      record { shipped = has; words = board0.bus.words; loaded = s.loaded; text = s.text; input = input; told = told; simulates = sim; finish = sim.finishes.0; finishes = sim.finishes.1 }
 
   abbrev world : List ℕ → World
   world input = record { words = board0.bus.words; untaken = input; given = told_of held }

@@ -37,6 +37,7 @@ module _ {M S : Type 0} (state : M → S) (m : Meaning S) (IsReady : ℕ → Lis
           shipped = ships board.store.words b.shipped;
           words = b.words;
           loaded = b.loaded;
+          text = b.text;
           input = b.input;
           told = b.told;
           simulates = b.simulates;

@@ -1,7 +1,7 @@
 -- The headline of a machine that was clocked over a verified image from its reset, with the store that ships: its run
 -- stands for the definition's run, and the board that is left shows where that run ended, or where a fault cut it.
 use Rattle.std.specs.Prelude.{◌≡◌, ◌⊎◌, ℕ, List, [], ◌++◌, replicate, Option, Some, IfSome, IsSome, unwrap_or, false}
-use Rattle.console_port.specs.Loading.{IsLoaded}
+use Rattle.console_port.specs.Loading.{HasTextWords, IsLoaded}
 use Rattle.console_port.specs.Console.{Untaken, LosesLast}
 use Rattle.console_port.specs.World.{World}
 use Rattle.mic_clock.specs.Meaning.{Meaning, ReadsConsole, UsesConsole}
@@ -34,6 +34,7 @@ module _ {M S : Type 0} (state : M → S) (m : Meaning S) (IsReady : ℕ → Lis
       pub shipped : IsShipped store
       pub words : List ℕ
       pub loaded : IsLoaded v.image.text v.image.pool (replicate v.map.stack_end 0) words
+      pub text : HasTextWords v.image.text words
       pub input : List ℕ
       pub told : Untaken left false input
       pub simulates : Simulates m (IsAt m IsReady entry (record { words = words; given = before })) store bound

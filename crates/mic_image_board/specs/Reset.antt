@@ -2,7 +2,7 @@
 use Rattle.std.specs.Prelude.{◌≡◌, ℕ, ◌+◌, ◌-◌, List, [], replicate, Option, None, false}
 use Rattle.console_port.specs.World.{World}
 use Rattle.console_port.specs.Bus.{Shows}
-use Rattle.console_port.specs.Loading.{IsLoaded}
+use Rattle.console_port.specs.Loading.{HasTextWords, IsLoaded}
 use Rattle.mic_clock.specs.Meaning.{Meaning}
 use Rattle.mic_clock.specs.View.{BoardView}
 use Rattle.mic_clock.specs.Run.{MicroRun, start_run, start_buses, start_counts}
@@ -21,6 +21,7 @@ pub record IsAtReset {M State : Type 0} (state : M → State) (m : Meaning State
   pub accepted : IsAccepted program
   pub image : IsImage program.image
   pub loaded : IsLoaded program.image.text program.image.pool (replicate program.map.stack_end 0) board.bus.words
+  pub text : HasTextWords program.image.text board.bus.words
   pub kept : board.bus.console.kept ≡ []
   pub ended : board.bus.console.ended ≡ false
   pub counts : board.counts ≡ start_counts
