@@ -7,3 +7,5 @@ pub mod Giving
 pub mod TwoCalls
 pub mod AtLimit
 pub mod TinyCalls
+pub mod SameRuns
+pub mod CachedRun

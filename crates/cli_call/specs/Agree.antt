@@ -1,20 +1,32 @@
 -- That `run` and `reference` of one program agree: the same output, the same status, and the same first three lines
 -- of their reports. That `run` agrees on two machines: the same output, status, end and number of instructions.
-use Rattle.std.specs.Prelude.{◌≡◌, ◌≢◌, ◌⊎◌, ℕ, List, ◌++◌, Some, codes}
+-- That `cache` counts the accesses of the run that `run` makes on Mic-1: the same output, status and report.
+use Rattle.std.specs.Prelude.{◌≡◌, ◌≢◌, ◌⊎◌, ℕ, List, ◌++◌, Some, codes, replicate}
 use Rattle.mic_base.specs.Causes.{Rose}
 use Rattle.mic_base.specs.Files.{Contents}
 use Rattle.mic_words.specs.declared.machine.Machine.{Machine}
 use Rattle.mic_words.specs.declared.machine.Machine.TheVariants.{Mic1, Mic2}
+use Rattle.console_port.specs.Loading.{IsLoaded}
+use Rattle.console_port.specs.World.{World}
 use Rattle.console_port.specs.declared.map.MemoryMap.{MemoryMap}
 use Rattle.mic_clock.specs.declared.counts.Counts.{Counts}
 use Rattle.mic_clock.specs.declared.end.End.{End}
 use Rattle.mic_clock.specs.declared.registers.Registers.{Registers}
+use Rattle.mic_clock.specs.Run.{MicroRun, turns}
+use Rattle.mic_watched.specs.declared.cycle.Cycle.{Cycle}
+use Rattle.mic_watched.specs.Cycles.{cycles_of}
+use Rattle.mic_image_board.specs.Reset.{reset_run}
+use Rattle.mic1_datapath.specs.Micro.{Micro}
+use Rattle.mic1_datapath.specs.Mic1.{mic1_meaning, registers_of}
+use Rattle.mal_shipped.specs.Shipped.{HasShipped}
+use Rattle.verifier_facts.specs.Accepted.{VerifiedView}
 use Rattle.ijvm_reference.specs.declared.plain.PlainReport.{PlainReport}
 use Rattle.cli_outside.specs.Status as exits
 use Rattle.cli_outside.specs.Outside.{Got, OutsideView}
 use Rattle.mic_clock.specs.State.{state_line}
 use Rattle.cli_run_texts.specs.Report.{plain_head, report as report_of}
-use Rattle.cli_words.specs.Words.{Reference, Run}
+use Rattle.cli_watchers.specs.Cached.{accesses_of, cache_line, counts_of}
+use Rattle.cli_words.specs.Words.{Cache, Reference, Run}
 use Rattle.cli_call.specs.CallEnds.{CallEnds}
 
 -- a call met no fault of its files and its streams, and was not out of memory
@@ -49,6 +61,32 @@ pub record CallsEndAlike (old one other : OutsideView) (status status' : ℕ) : 
   pub one_says : Got old.err.held (report_of end counts registers) one.err.held
   pub other_says : Got old.err.held (report_of end counts' registers') other.err.held
 
+-- A run of Mic-1 by the microprogram that ships, from its reset over a loaded program and this input: its turns show these cycles, and come here.
+pub record RunsTo (program : VerifiedView) (input : List ℕ) (bound : ℕ) (store : List ℕ) (cycles : List Cycle) (last : MicroRun Micro) : Type 0 where
+  pub shipped : HasShipped Mic1 store
+  pub world : World
+  pub loaded : IsLoaded program.image.text program.image.pool (replicate program.map.stack_end 0) world.words
+  pub untaken : world.untaken ≡ input
+  pub n : ℕ
+  pub shows : cycles_of mic1_meaning store (Some bound) n (reset_run mic1_meaning 0x002 program.main_locals world) ≡ cycles
+  pub comes : turns mic1_meaning store (Some bound) n (reset_run mic1_meaning 0x002 program.main_locals world) ≡ last
+
+-- `run` led to the outside `ran`, and `cache` with this many lines to `cached`: both made this run.
+pub record CountsTheRun (input : List ℕ) (lines bound : ℕ) (old ran cached : OutsideView) (status status' : ℕ) : Type 0 where
+  pub same_status : status ≡ status'
+  pub same_out : (given given' : List ℕ) → ran.out.held ≡ Some given → cached.out.held ≡ Some given' → given ≡ given'
+  pub program : VerifiedView
+  pub store : List ℕ
+  pub cycles : List Cycle
+  pub last : MicroRun Micro
+  pub runs : RunsTo program input bound store cycles last
+  pub end : End
+  pub ended : last.end ≡ Some end
+  -- `run` prints the report, and `cache` the same, and then the hits and the misses among the accesses of the cycles
+  pub run_says : Got old.err.held (report_of end last.counts (registers_of last.state)) ran.err.held
+  pub cache_says : Got old.err.held (report_of end last.counts (registers_of last.state)
+      ++ cache_line lines (counts_of lines program.map.stack_end (accesses_of Mic1 store cycles))) cached.err.held
+
 -- Two calls over one file end alike: neither has a program, for the same cause, or both run one, of which this holds.
 pub data CallsAgree (Agree : Type 0) (status status' : ℕ) : Type 0 where
   NoneHad : status ≡ status' → (status ≡ exits.refused) ⊎ (status ≡ exits.too_long) → CallsAgree Agree status status'
@@ -70,3 +108,12 @@ RunsEndAlike file map bound bound' =
     CallEnds (Some (Run file Mic1 bound map)) old one status → CallEnds (Some (Run file Mic2 bound' map)) old other status' →
     IsQuiet old one status → IsQuiet old other status' → status ≢ exits.bound → status' ≢ exits.bound →
     CallsAgree (CallsEndAlike old one other status status') status status'
+
+-- `run` on Mic-1 and `cache`, with one bound: they make one run.
+abbrev pub CacheCountsTheRun : List ℕ → MemoryMap → ℕ → ℕ → Type 0
+CacheCountsTheRun file map lines bound =
+    (input : List ℕ) (contents : Contents) (old ran cached : OutsideView) (status status' : ℕ) →
+    old.console.left ≡ Some input → old.files.contents ≡ Some contents →
+    CallEnds (Some (Run file Mic1 bound map)) old ran status → CallEnds (Some (Cache file lines bound map)) old cached status' →
+    IsQuiet old ran status → IsQuiet old cached status' →
+    CallsAgree (CountsTheRun input lines bound old ran cached status status') status status'

@@ -6,12 +6,14 @@ ghost use Rattle.console_port.specs.declared.map.MemoryMap.{MemoryMap};
 ghost use Rattle.mic1_datapath.specs.Mic1.{mic1_meaning};
 ghost use Rattle.mic2_datapath.specs.Mic2.{mic2_meaning};
 ghost use Rattle.cli_session.specs.Giving.{OnlyGives};
-ghost use Rattle.cli_call.specs.Agree.{RunIsAsReference, RunsEndAlike};
+ghost use Rattle.cli_call.specs.Agree.{CacheCountsTheRun, RunIsAsReference, RunsEndAlike};
 ghost use Rattle.cli_call.specs.Meant.{TinyIsAsMeant};
 
 use cli_programs::a_file_has_one_program;
 use ijvm_meaning::runs_end_once;
-use ijvm_simulation::interpreters_agree;
+use ijvm_simulation::{Interpreter, interpreters_agree};
+use mal_shipped::loaded_programs_are_shipped;
+use mic_clock::one_end;
 use shipped_microcode::{Mic1Interpreter, Mic2Interpreter};
 use tiny_compiler::{compiled_programs_run_as_meant, texts_compile_to_one_program};
 
@@ -30,6 +32,16 @@ pub fn run_agrees_on_both_machines()
     ensures { (file : List ℕ) (map : MemoryMap) (bound bound' : ℕ) → RunsEndAlike file map bound bound' }
 {
     interpreters_agree::<Mic1Interpreter, Mic2Interpreter>();
+    a_file_has_one_program();
+}
+
+/// Two calls over one file, `run` on Mic-1 and `cache`, with the same map, bound and input, make one run where no fault
+/// comes and neither is out of memory: `cache` counts the hits and the misses of the run that `run` reports.
+pub fn cache_counts_the_run()
+    ensures { (file : List ℕ) (map : MemoryMap) (lines bound : ℕ) → CacheCountsTheRun file map lines bound }
+{
+    one_end(&Mic1Interpreter::machine());
+    loaded_programs_are_shipped();
     a_file_has_one_program();
 }
 

@@ -16,7 +16,7 @@ mod usage;
 
 pub use answers::{each_answer_has_its_cause, mic_main};
 pub use laws::{
-    machines_only_give, run_agrees_on_both_machines, run_agrees_with_reference,
-    tiny_does_what_is_meant,
+    cache_counts_the_run, machines_only_give, run_agrees_on_both_machines,
+    run_agrees_with_reference, tiny_does_what_is_meant,
 };
 pub use usage::misused;

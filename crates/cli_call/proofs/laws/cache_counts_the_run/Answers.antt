@@ -1,0 +1,58 @@
+use Rattle.std.proofs.Common.{◌≡◌, ℕ, List, Some, None, subst}
+use Rattle.mic_base.specs.Files.{Contents}
+use Rattle.mic_words.specs.declared.machine.Machine.TheVariants.{Mic1}
+use Rattle.console_port.specs.declared.map.MemoryMap.{MemoryMap}
+use Rattle.mic_clock.specs.Run.{HasOneEnd}
+use Rattle.mic1_datapath.specs.Mic1.{mic1_meaning}
+use Rattle.mic1_datapath.specs.View.{micro_of}
+use Rattle.mal_parser.specs.Program.{MalView}
+use Rattle.mal_shipped.specs.declared.loaded.Loaded.{Loaded}
+use Rattle.mal_shipped.specs.Listing.{listed_program}
+use Rattle.mal_shipped.specs.Loaded.{IsLoadedFor}
+use Rattle.mal_shipped.specs.Shipped.{HasShipped}
+use Rattle.verifier_facts.specs.Accepted.{VerifiedView}
+use Rattle.cli_outside.specs.Outside.{OutsideView}
+use Rattle.cli_outside.specs.Work.{Did, Ends, NotHad}
+use Rattle.cli_words.specs.Words.{Cache, Run}
+use Rattle.cli_programs.specs.Program.{IsAcceptedProgram, IsRefusedProgram}
+use Rattle.cli_boards.specs.Cached.{IsCached}
+use Rattle.cli_boards.specs.Prepared.{EndsPrepared, Unprepared, Clocked, NoProgram, NoMicroprogram}
+use Rattle.cli_call.specs.Agree.{CallsAgree, CountsTheRun, IsQuiet}
+use Rattle.cli_call.specs.CallEnds.{CallEnds, Done, NoRoom}
+use Rattle.cli_call.proofs.Agreeing.{said}
+use Rattle.cli_call.proofs.CachedRun.{cache_counts}
+use Rattle.cli_call.proofs.TwoCalls.{both_end}
+use Rattle.cli_call.proofs.laws.cache_counts_the_run.Goals as goal
+
+module _ (one_end : HasOneEnd mic1_meaning) (words : (l : Loaded) → IsLoadedFor Mic1 l → HasShipped Mic1 l.store.words)
+    (entry : (l : Loaded) → IsLoadedFor Mic1 l → l.entry ≡ 0x002)
+    (one_program : (map : MemoryMap) (bytes : List ℕ) (p q : VerifiedView) → IsAcceptedProgram map bytes p → IsAcceptedProgram map bytes q → p ≡ q)
+    (not_both : (map : MemoryMap) (bytes reason : List ℕ) (p : VerifiedView) → IsAcceptedProgram map bytes p → IsRefusedProgram map bytes reason → ⊥)
+    (file : List ℕ) (map : MemoryMap) (lines bound : ℕ) (input : List ℕ) (contents : Contents) (old ran cached : OutsideView) (status status' : ℕ)
+    (left : old.console.left ≡ Some input) (tells : old.files.contents ≡ Some contents) (quiet : IsQuiet old ran status) (quiet' : IsQuiet old cached status') where
+  abbrev Caches : VerifiedView → OutsideView → OutsideView → ℕ → Type 0
+  Caches = IsCached micro_of mic1_meaning lines bound (listed_program Mic1)
+
+  -- the microprogram of `cache` is the one that ships
+  ends_over : EndsPrepared Mic1 map (IsCached micro_of mic1_meaning lines bound) file None old cached status' →
+      Ends (IsRefusedProgram map) (IsAcceptedProgram map) Caches file old cached status'
+  ends_over (Unprepared (NoProgram none)) = NotHad none
+  ends_over (Unprepared (NoMicroprogram program had short)) = absurd (quiet'.memory (said old.err cached.err _ _ status' quiet'.err short.says).0)
+  ends_over (Clocked micro program prepared does) =
+      Did program prepared.had (subst (λ (m : MalView). IsCached micro_of mic1_meaning lines bound m program old cached status') prepared.chosen does)
+
+  calls_agree : CallEnds (Some (Run file Mic1 bound map)) old ran status → CallEnds (Some (Cache file lines bound map)) old cached status' →
+      CallsAgree (CountsTheRun input lines bound old ran cached status status') status status'
+  calls_agree (NoRoom short) ends = absurd (quiet.memory (said old.err ran.err _ _ status quiet.err short.says).0)
+  calls_agree (Done ends) (NoRoom short) = absurd (quiet'.memory (said old.err cached.err _ _ status' quiet'.err short.says).0)
+  calls_agree (Done ends) (Done ends') =
+      both_end (IsRefusedProgram map) (IsAcceptedProgram map) file old contents tells (one_program map) (not_both map) _ Caches ran cached status status' _
+      (λ program does does'. cache_counts one_end words entry program lines bound input old ran cached status status' left quiet quiet' does does')
+      quiet quiet' ends (ends_over ends')
+
+pub returns : goal.returns
+returns c =
+    λ file map lines bound input contents old ran cached status status' left tells ends ends' quiet quiet'.
+    calls_agree c.one_end.ensures (c.loaded_programs_are_shipped.ensures.words Mic1) (c.loaded_programs_are_shipped.ensures.entry Mic1)
+    c.a_file_has_one_program.ensures.one_program c.a_file_has_one_program.ensures.not_both
+    file map lines bound input contents old ran cached status status' left tells quiet quiet' ends ends'
