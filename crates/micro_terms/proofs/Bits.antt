@@ -1,0 +1,28 @@
+-- The bits that two words share, and the bits that either has.
+use Rattle.std.proofs.Common.{◌≡◌, ℕ, ◌+◌, ◌-◌, ◌<◌, ◌%◌, ◌∙◌, arith}
+use Rattle.std.specs.Prelude.{bit_and, bit_or}
+use Rattle.std.specs.Int.Bits.{and_self, or_add_and}
+use Rattle.mic_words.specs.Arithmetic.{wrap}
+use Rattle.std.proofs.lemmas.Nat.{and_comm, and_mask, and-not, and_le_l, or_of_32}
+
+pub and_all : (x : ℕ) → x < 4294967296 → bit_and 4294967295 x ≡ x
+and_all x h = and_comm 4294967295 x ∙ (and_mask x 32 ∙ (let e : x % 4294967296 ≡ x = omega arith in e))
+
+-- what NOT x and x share with n is n
+and_turned : (x n : ℕ) → x < 4294967296 → n < 4294967296 → bit_and (4294967295 - x) n + bit_and x n ≡ n
+and_turned x n h k = and-not 32 x n h k
+
+pub and_inverted : (x : ℕ) → x < 4294967296 → bit_and x (4294967295 - x) ≡ 0
+and_inverted x h =
+    let e = and_turned x x h h in
+    let s = and_self x in
+    and_comm x (4294967295 - x) ∙ (let z : bit_and (4294967295 - x) x ≡ 0 = omega (arith, e, s) in z)
+
+-- a sum less what both words have is what either has
+pub or_is : (x y : ℕ) → x < 4294967296 → y < 4294967296 → wrap (wrap (x + y) + (4294967296 - bit_and x y)) ≡ bit_or x y
+unfolding wrap
+or_is x y h k =
+    let e = or_add_and x y in
+    let l = or_of_32 x y h k in
+    let m = and_le_l x y in
+    omega (arith, e, l, m)

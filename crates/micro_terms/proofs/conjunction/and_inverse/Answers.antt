@@ -1,0 +1,13 @@
+use Rattle.std.proofs.Common.{◌∙◌, sym, ap, refl}
+use Rattle.std.specs.Prelude.{bit_and}
+use Rattle.micro_terms.specs.Value.{value}
+use Rattle.micro_terms.proofs.Bits.{and_inverted}
+use Rattle.micro_terms.proofs.Weights.{value_lt}
+use Rattle.micro_terms.proofs.conjunction.and_inverse.Goals as goal
+
+pub returns-then-same : goal.returns-then-same
+returns-then-same c env =
+    let a = c.args.left.now in
+    c.of_word.ensures env
+    ∙ (sym (and_inverted (value env a) (value_lt env a))
+    ∙ ap (λ w. bit_and (value env a) w) (sym (c.in_ok-inverse.ensures env) ∙ c.if-same.ensures refl env))

@@ -1,0 +1,5 @@
+pub mod Environment
+pub mod Meaning
+pub mod Ordered
+pub mod Ranges
+pub mod Value
