@@ -1,0 +1,9 @@
+pub mod Accesses
+pub mod Cycles
+pub mod Loads
+pub mod ReadAccesses
+pub mod Refusals
+pub mod Settled
+pub mod Tests
+pub mod Trails
+pub mod Writes

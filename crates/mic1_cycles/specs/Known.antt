@@ -1,0 +1,14 @@
+-- When what is known of a start is true of it.
+use Rattle.std.specs.Prelude.{◌≡◌, ◌≤◌, length}
+use Rattle.std.specs.List.{All}
+use Rattle.console_port.specs.World.{byte_in, console_at}
+use Rattle.micro_terms.specs.Ranges.{IsIn}
+use Rattle.micro_terms.specs.Environment.{Environment}
+use Rattle.mic1_cycles.specs.declared.known.Known.{Known}
+
+-- memory has the text and the pool, and is not so long that it has the console's address
+pub record Knows (e : Environment) (k : Known) : Type 0 where
+  pub ranges : IsIn e.word k.ranges.items
+  pub long : 0x8000 ≤ length e.start.words
+  pub size : length e.start.words ≤ console_at
+  pub bytes : All (λ b. byte_in e.start.words (e.word b.at) ≡ b.byte) k.bytes.items

@@ -1,0 +1,9 @@
+pub mod Access
+pub mod Cycle
+pub mod Known
+pub mod Paths
+pub mod Questions
+pub mod Refusals
+pub mod Sites
+pub mod Symbols
+pub mod Trail
