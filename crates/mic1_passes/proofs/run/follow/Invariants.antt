@@ -1,0 +1,18 @@
+use Rattle.std.proofs.Common.{◌≡◌, ◌+◌, ℕ}
+use Rattle.mic1_datapath.specs.Mic1.{mic1_meaning}
+use Rattle.ijvm_simulation.specs.Passes.{pass}
+use Rattle.micro_terms.specs.Meaning.{Holds, Grows}
+use Rattle.mic1_cycles.specs.Known.{Knows}
+use Rattle.mic1_cycles.specs.Paths.{IsPath}
+use Rattle.mic1_passes.specs.Moments.{moment}
+use Rattle.mic1_passes.proofs.Walks.{Came}
+use Rattle.mic1_passes.proofs.run.follow.Given as goal
+
+abbrev pub invariant-loop-n : goal.invariant-loop-n
+invariant-loop-n l =
+    record {
+      walked : Holds l.nodes (λ e. Knows e l.known → IsPath e l.fn.path →
+          IsPath e l.path × ((stalls k : ℕ) → pass mic1_meaning l.store.words (l.n + k) (moment e stalls l.entry l.fn.path) ≡ pass mic1_meaning l.store.words k (moment e stalls l.entry l.path)));
+      came : Holds l.nodes (λ e. Knows e l.known → IsPath e l.fn.path → (stalls n : ℕ) → l.n ≡ n + 1 → Came e l.store.words stalls l.entry n l.fn.path l.path);
+      grows : Grows l.fn.nodes l.nodes;
+    }
