@@ -1,0 +1,73 @@
+-- What is known at a boundary of an accepted image's run.
+use Rattle.std.proofs.Common.{◌≡◌, ℕ, zero, suc, ◌+◌, ◌/◌, ◌%◌, ◌-◌, ◌^◌, ◌<◌, ◌≤◌, length, arith, sym, ap, ◌∙◌, List}
+use Rattle.std.specs.Prelude.{slice_index}
+use Rattle.mic_words.specs.Arithmetic.{wrap, plus}
+use Rattle.console_port.specs.World.{byte_in, console_at}
+use Rattle.ijvm_instr.specs.declared.instr.Instr.{Instr}
+use Rattle.ijvm_meaning.specs.Frames.{base, frames_of}
+use Rattle.ijvm_simulation.specs.Stack.{IsMapEnd, StackLaw}
+use Rattle.micro_terms.specs.Environment.{Environment}
+use Rattle.micro_terms.specs.Ranges.{IsIn, end_of}
+use Rattle.mic1_cycles.specs.declared.symbols.Symbols.{Symbols}
+use Rattle.mic1_checks.specs.declared.instruction.Instruction.{Instruction}
+use Rattle.mic1_checks.specs.Situation.{HasBytes, StartsBefore}
+use Rattle.mic1_checks.specs.Start.{register_ranges}
+
+-- PC, SP and LV are in their ranges, and the others in that of any word
+in_ranges : (word : ℕ → ℕ) → ((i : ℕ) → word i < 4294967296) → word 2 < 0x10000 → 0x7FFF ≤ word 3 → word 3 < 0x20000 →
+    0x8000 ≤ word 4 → word 4 ≤ 0x20000 → IsIn word register_ranges
+unfolding end_of
+in_ranges word small pc sp sp' lv lv' zero = (omega arith, omega (arith, small 0))
+in_ranges word small pc sp sp' lv lv' (suc zero) = (omega arith, omega (arith, small 1))
+in_ranges word small pc sp sp' lv lv' (suc (suc zero)) = (omega arith, omega (arith, pc))
+in_ranges word small pc sp sp' lv lv' (suc (suc (suc zero))) = (omega (arith, sp), omega (arith, sp'))
+in_ranges word small pc sp sp' lv lv' (suc (suc (suc (suc zero)))) = (omega (arith, lv), omega (arith, lv'))
+in_ranges word small pc sp sp' lv lv' (suc (suc (suc (suc (suc n))))) = (omega arith, omega (arith, small (suc (suc (suc (suc (suc n)))))))
+
+plus_is : (x y z : ℕ) → x ≡ y → y + 1 ≡ z → z < 2 ^ 32 → plus x 1 ≡ z
+unfolding wrap
+plus_is x y z e h l = omega (arith, e, h)
+
+byte_kept : (words origin : List ℕ) {x p : ℕ} → ((a : ℕ) → a < 0x8000 → slice_index words a ≡ slice_index origin a) → x ≡ p → p < 0x20000 →
+    byte_in words x ≡ byte_in origin p
+unfolding byte_in
+byte_kept words origin {x} {p} h e l =
+    ap (λ (k : ℕ). slice_index words (k / 4) / 256 ^ (3 - k % 4) % 256) e
+    ∙ ap (λ (v : ℕ). v / 256 ^ (3 - p % 4) % 256) (h (p / 4) (omega arith))
+
+module _ (law : StackLaw) (e : Environment) (n : Instruction) (x : Symbols) (i : Instr) (b : StartsBefore e n x i) where
+  map : IsMapEnd (length b.o.words)
+  map = law.map b.v b.o b.loads
+
+  low : b.s.at < 0x10000
+  low = law.inside b.v b.o b.s i b.loads b.next
+
+  long : length e.start.words ≡ length b.o.words
+  long = b.holds.memory.long
+
+  pub long_enough : 0x8000 ≤ length e.start.words
+  long_enough = omega (arith, long, map.low)
+
+  pub size : length e.start.words ≤ console_at
+  size = omega (arith, long, map.high)
+
+  pub ranges : ((k : ℕ) → e.word k < 4294967296) → IsIn e.word register_ranges
+  ranges small =
+      let pc : e.word 2 ≡ b.s.at = ap e.word (sym b.start.pc) ∙ b.pc in
+      let sp : e.word 3 + 1 ≡ base (frames_of b.s) = ap (λ (k : ℕ). e.word k + 1) (sym b.start.sp) ∙ b.holds.sp_is in
+      let lv : e.word 4 ≡ base b.s.callers = ap e.word (sym b.start.lv) ∙ b.holds.lv_is in
+      let high = b.holds.fits in
+      let top = law.above (frames_of b.s) in
+      let bottom = law.above b.s.callers in
+      let below : base b.s.callers ≤ base (frames_of b.s) = omega arith in
+      in_ranges e.word small (omega (arith, pc, low)) (omega (arith, sp, top)) (omega (arith, sp, high, map.near))
+      (omega (arith, lv, bottom)) (omega (arith, lv, below, sp, high, map.near))
+
+  pub bytes : HasBytes e n x
+  bytes =
+      record {
+        opcode = byte_kept e.start.words b.o.words b.holds.memory.kept b.pc (omega (arith, low)) ∙ b.suits.opcode;
+        second = λ k is.
+            byte_kept e.start.words b.o.words b.holds.memory.kept (plus_is (e.word x.pc) b.s.at (b.s.at + 1) b.pc (omega arith) (omega (arith, low))) (omega (arith, low))
+            ∙ b.suits.second k is;
+      }

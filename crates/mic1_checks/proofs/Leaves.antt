@@ -1,0 +1,93 @@
+-- What a leaf says, and that two halves of a tree make a whole.
+use Rattle.std.proofs.Common.{◌≡◌, ◌+◌, ◌<◌, ℕ, true, false, List, [], ◌∷◌, ◌++◌, refl, sym, ap, subst, inl, inr}
+use Rattle.std.specs.List.{All, Contains}
+use Rattle.std.proofs.lemmas.Bool.{cases_Bool}
+use Rattle.std.proofs.lemmas.List.Elements.{All-push, Contains-push}
+use Rattle.mic1_datapath.specs.Micro.{Micro}
+use Rattle.mic1_datapath.specs.Mic1.{mic1_meaning, IsReady}
+use Rattle.ijvm_simulation.specs.Stands.{IsAt}
+use Rattle.ijvm_simulation.specs.Passes.{Moment}
+use Rattle.ijvm_simulation.specs.Law.{Moves, Overruns}
+use Rattle.micro_terms.specs.Environment.{Environment}
+use Rattle.mic1_cycles.specs.declared.symbols.Symbols.{Symbols}
+use Rattle.mic1_cycles.specs.declared.question.Answer.{Answer}
+use Rattle.mic1_cycles.specs.declared.path.Path.{Path}
+use Rattle.mic1_cycles.specs.declared.refusal.Stop.TheVariants.{Limit, OutOfMap}
+use Rattle.mic1_cycles.specs.Questions.{AreAnswered, truth}
+use Rattle.mic1_passes.specs.Moments.{moment, StopsAt}
+use Rattle.mic1_checks.specs.Transfer.{Carries, LeadAlike, LimitAlike, OneEnd, Transfers, TransfersLimits}
+use Rattle.mic1_checks.specs.declared.leaf.Counts.{Counts}
+use Rattle.mic1_checks.specs.Start.{start_moment}
+use Rattle.mic1_checks.specs.Carried.{CarriedBy, CarriesOver}
+
+-- each question has one answer
+pub either : (e : Environment) (answers so not_so : List Answer) (a : Answer) (P : Type 0) → AreAnswered e answers →
+    so ≡ answers ++ record a { is = true } ∷ [] → not_so ≡ answers ++ record a { is = false } ∷ [] →
+    (AreAnswered e so → P) → (AreAnswered e not_so → P) → P
+either e answers so not_so a P all so_is not_is if_so if_not =
+    let IsTrueAnswer : Answer → Type 0 = λ (x : Answer). truth e x.question (e.word x.number) ≡ x.is in
+    elim (cases_Bool (truth e a.question (e.word a.number))) [
+      | inl t1 ↦ if_so (subst (λ (xs : List Answer). AreAnswered e xs) (sym so_is) (All-push IsTrueAnswer answers (record a { is = true }) all t1))
+      | inr t0 ↦ if_not (subst (λ (xs : List Answer). AreAnswered e xs) (sym not_is) (All-push IsTrueAnswer answers (record a { is = false }) all t0))
+    ]
+
+module _ (e : Environment) (s : Symbols) (store store' : List ℕ) (entry entry' : ℕ) where
+  pub more : (xs ys : List Counts) → ((c : Counts) → Contains xs c → Contains ys c) → CarriesOver e s store store' entry entry' xs → CarriesOver e s store store' entry entry' ys
+  more xs ys kept h =
+      record {
+        moves = λ before o stalls spent to m.
+            let by : CarriedBy xs store' before o entry' spent (start_moment e stalls entry' s) to = h.moves before o stalls spent to m in
+            record { counts = by.counts; is_leaf = kept by.counts by.is_leaf; carries = by.carries };
+        limits = h.limits;
+      }
+
+  module _ (one : OneEnd) (first last : Path) (from : (stalls : ℕ) → moment e stalls entry first ≡ start_moment e stalls entry s) where
+    -- the first store is refused otherwise
+    pub refused : (n : ℕ) → ((stalls : ℕ) → StopsAt e store stalls entry n OutOfMap first last) → CarriesOver e s store store' entry entry' []
+    refused n stops =
+        record {
+          moves = λ before o stalls spent to m.
+              let h : Moves mic1_meaning store (IsAt mic1_meaning IsReady entry o) before (moment e stalls entry first) spent to =
+              subst (λ (q : Moment Micro). Moves mic1_meaning store (IsAt mic1_meaning IsReady entry o) before q spent to) (sym (from stalls)) m in
+              absurd (one.no_boundary store before o stalls entry n spent e OutOfMap first last to (stops stalls) h);
+          limits = λ before o stalls left m.
+              let h : Overruns mic1_meaning store (IsAt mic1_meaning IsReady entry o) before (moment e stalls entry first) left =
+              subst (λ (q : Moment Micro). Overruns mic1_meaning store (IsAt mic1_meaning IsReady entry o) before q left) (sym (from stalls)) m in
+              absurd (one.out_of_map store before o stalls entry n e first last left (stops stalls) h);
+        }
+
+    module _ (first' last' : Path) (from' : (stalls : ℕ) → moment e stalls entry' first' ≡ start_moment e stalls entry' s) where
+      pub alike : Transfers → (c : Counts) → ((stalls : ℕ) → LeadAlike store store' stalls entry entry' c.first c.second e first first' last last') →
+          CarriesOver e s store store' entry entry' (c ∷ [])
+      alike transfers c leads =
+          record {
+            moves = λ before o stalls spent to m.
+                let h : Moves mic1_meaning store (IsAt mic1_meaning IsReady entry o) before (moment e stalls entry first) spent to =
+                subst (λ (q : Moment Micro). Moves mic1_meaning store (IsAt mic1_meaning IsReady entry o) before q spent to) (sym (from stalls)) m in
+                let carried : Carries store' before o entry' c.first c.second spent (moment e stalls entry' first') to =
+                transfers store store' before o stalls entry entry' c.first c.second spent e first first' last last' to (leads stalls) h in
+                record {
+                  counts = c;
+                  is_leaf = Contains-push [] c;
+                  carries = subst (λ (q : Moment Micro). Carries store' before o entry' c.first c.second spent q to) (from' stalls) carried;
+                };
+            limits = λ before o stalls left m.
+                let h : Overruns mic1_meaning store (IsAt mic1_meaning IsReady entry o) before (moment e stalls entry first) left =
+                subst (λ (q : Moment Micro). Overruns mic1_meaning store (IsAt mic1_meaning IsReady entry o) before q left) (sym (from stalls)) m in
+                absurd (one.no_limit store store' before o stalls entry entry' c.first c.second e first first' last last' left (leads stalls) h);
+          }
+
+      pub limited : TransfersLimits → (n n' : ℕ) → ((stalls : ℕ) → LimitAlike store store' stalls entry entry' n n' e first first' last last') →
+          CarriesOver e s store store' entry entry' []
+      limited transfers n n' leads =
+          record {
+            moves = λ before o stalls spent to m.
+                let h : Moves mic1_meaning store (IsAt mic1_meaning IsReady entry o) before (moment e stalls entry first) spent to =
+                subst (λ (q : Moment Micro). Moves mic1_meaning store (IsAt mic1_meaning IsReady entry o) before q spent to) (sym (from stalls)) m in
+                absurd (one.no_boundary store before o stalls entry n spent e Limit first last to (leads stalls).stops h);
+            limits = λ before o stalls left m.
+                let h : Overruns mic1_meaning store (IsAt mic1_meaning IsReady entry o) before (moment e stalls entry first) left =
+                subst (λ (q : Moment Micro). Overruns mic1_meaning store (IsAt mic1_meaning IsReady entry o) before q left) (sym (from stalls)) m in
+                subst (λ (q : Moment Micro). Overruns mic1_meaning store' (IsAt mic1_meaning IsReady entry' o) before q left) (from' stalls)
+                (transfers store store' before o stalls entry entry' n n' e first first' last last' left (leads stalls) h);
+          }

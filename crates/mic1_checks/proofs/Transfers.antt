@@ -1,0 +1,113 @@
+-- What the first store's law says of the second.
+use Rattle.std.proofs.Common.{◌≡◌, ℕ, ◌+◌, ◌<◌, ◌==◌, ◌||◌, ◌&&◌, not, Bool, true, false, Option, Some, None, List, refl, sym, ap, ap₂, ◌∙◌, subst, arith}
+use Rattle.std.specs.Prelude.{drop, ◌++◌}
+use Rattle.console_port.specs.World.{World, Refusal, StackLimit, OutOfMap}
+use Rattle.mic_clock.specs.Meaning.{Outcome, Done, Refused}
+use Rattle.mic1_datapath.specs.Micro.{Micro}
+use Rattle.mic1_datapath.specs.Mic1.{mic1_meaning, IsReady}
+use Rattle.ijvm_meaning.specs.Frames.{State}
+use Rattle.ijvm_simulation.specs.Stands.{Origin, IsAt, RegistersStand}
+use Rattle.ijvm_simulation.specs.Passes.{Moment, is_inside, outcome_at, pass}
+use Rattle.ijvm_simulation.specs.Law.{Moves, Overruns}
+use Rattle.micro_terms.specs.Environment.{Environment}
+use Rattle.mic1_cycles.specs.declared.symbols.Write.{Write}
+use Rattle.mic1_cycles.specs.Trail.{Trail, world_of, given_by}
+use Rattle.mic1_cycles.specs.Symbols.{word_in, byte_in as byte_symbol}
+use Rattle.mic1_cycles.specs.declared.path.Path.{Path}
+use Rattle.mic1_cycles.specs.Paths.{trail_of, refusal_of}
+use Rattle.mic1_cycles.specs.declared.refusal.Stop.TheVariants.{OutOfMap as Out}
+use Rattle.mic1_passes.specs.Moments.{moment}
+use Rattle.mic1_checks.specs.Transfer.{AreAlike, LeadAlike, Carries, Transfers, LimitAlike, TransfersLimits, OneEnd}
+use Rattle.mic1_checks.proofs.Passes.{Same, only, only_refused, not_both}
+
+-- where MPC is the entry, no pass goes on
+at_entry : (m : Micro) → m.mpc ≡ m.entry → m.clocked ≡ true → is_inside mic1_meaning m ≡ false
+at_entry m e on =
+    let t : (m.mpc == m.entry) ≡ true = grind (arith, e) in
+    rw on (rw t refl)
+
+module _ (o : Origin) (stalls entry entry' : ℕ) (e : Environment) (last last' : Path) (s : State) (a : AreAlike entry entry' last last') where
+  same_trail : trail_of last ≡ trail_of last'
+  same_trail = λ i. record { writes = a.writes i; taken = a.taken i; given = a.given i }
+
+  same_world : (moment e stalls entry last).world ≡ (moment e stalls entry' last').world
+  same_world = ap (λ (t : Trail). world_of e.word e.start t) same_trail
+
+  stands : IsAt mic1_meaning IsReady entry o s (moment e stalls entry last).state (moment e stalls entry last).world →
+      IsAt mic1_meaning IsReady entry' o s (moment e stalls entry' last').state (moment e stalls entry' last').world
+  stands h =
+      let held : RegistersStand o s (e.word last'.symbols.sp) (e.word last'.symbols.lv) (e.word last'.symbols.cpp) (e.word last'.symbols.tos) (moment e stalls entry' last').world =
+      subst (λ (w : World). RegistersStand o s (e.word last'.symbols.sp) (e.word last'.symbols.lv) (e.word last'.symbols.cpp) (e.word last'.symbols.tos) w) same_world
+      (subst (λ (x : ℕ). RegistersStand o s (e.word last'.symbols.sp) (e.word last'.symbols.lv) (e.word last'.symbols.cpp) (e.word x) (moment e stalls entry last).world) a.tos
+      (subst (λ (x : ℕ). RegistersStand o s (e.word last'.symbols.sp) (e.word last'.symbols.lv) (e.word x) (e.word last.symbols.tos) (moment e stalls entry last).world) a.cpp
+      (subst (λ (x : ℕ). RegistersStand o s (e.word last'.symbols.sp) (e.word x) (e.word last.symbols.cpp) (e.word last.symbols.tos) (moment e stalls entry last).world) a.lv
+      (subst (λ (x : ℕ). RegistersStand o s (e.word x) (e.word last.symbols.lv) (e.word last.symbols.cpp) (e.word last.symbols.tos) (moment e stalls entry last).world) a.sp h.holds)))) in
+      record {
+        holds = held;
+        ready = record {
+          pc = ap e.word (sym a.pc) ∙ h.ready.pc;
+          mbr = ap e.word (sym a.opcode) ∙ h.ready.mbr;
+          mpc = a.mpc';
+          entry = refl;
+          clocked = refl;
+          word = ap (word_in e.word) a.no_word;
+          byte = ap (byte_symbol e.word) a.no_byte;
+        };
+      }
+
+pub transfers : Transfers
+transfers = λ store store' before o stalls entry entry' n n' spent e first first' last last' to l h.
+    let inside : is_inside mic1_meaning h.there.state ≡ false = at_entry h.there.state h.stands.ready.mpc h.stands.ready.clocked in
+    let inside' : is_inside mic1_meaning (moment e stalls entry last).state ≡ false = at_entry (moment e stalls entry last).state l.alike.mpc refl in
+    let same : Same mic1_meaning store h.n n h.there (moment e stalls entry last) = only mic1_meaning store h.n n (moment e stalls entry first) h.there (moment e stalls entry last) h.passes l.passes inside inside' in
+    let there : IsAt mic1_meaning IsReady entry o to (moment e stalls entry last).state (moment e stalls entry last).world =
+    subst (λ (t : Moment Micro). IsAt mic1_meaning IsReady entry o to t.state t.world) same.there h.stands in
+    record {
+      spent_is = h.spent_is ∙ ap (λ (k : ℕ). k + 1) same.count;
+      moves = record {
+        n = n';
+        spent_is = refl;
+        short = l.short;
+        begins = record { no_halt = l.begins.no_halt; no_err = l.begins.no_err };
+        there = moment e stalls entry' last';
+        passes = l.passes';
+        stands = stands o stalls entry entry' e last last' to l.alike there;
+      };
+      words = l.words;
+    }
+
+pub transfers_limits : TransfersLimits
+transfers_limits = λ store store' before o stalls entry entry' n n' e first first' last last' left l h.
+    let same : Same mic1_meaning store h.n n h.there (moment e stalls entry last) =
+    only_refused mic1_meaning store h.n n (moment e stalls entry first) h.there (moment e stalls entry last) (StackLimit h.at) (StackLimit l.stops.at) h.passes l.stops.passes h.refused l.stops.refused in
+    record {
+      n = n';
+      short = l.short;
+      begins = record { no_halt = l.begins.no_halt; no_err = l.begins.no_err };
+      there = moment e stalls entry' last';
+      passes = l.stops'.passes;
+      inside = l.stops'.inside;
+      at = l.stops'.at;
+      refused = l.stops'.refused;
+      untaken = ap (λ (k : ℕ). drop k e.start.untaken) (sym l.taken) ∙ (ap (λ (t : Moment Micro). t.world.untaken) (sym same.there) ∙ h.untaken);
+      given = ap (λ (vs : List ℕ). e.start.given ++ given_by e.word vs) (sym l.given) ∙ (ap (λ (t : Moment Micro). t.world.given) (sym same.there) ∙ h.given);
+    }
+
+-- a refusal for one reason is none for another
+other_reason : (a b : ℕ) (o : Outcome Micro) → o ≡ Refused (StackLimit a) → o ≡ Refused (OutOfMap b) → ⊥
+other_reason a b o h h' = cc
+
+pub one_end : OneEnd
+one_end = record {
+  no_limit = λ store store' before o stalls entry entry' n n' e first first' last last' left l h.
+      let inside : is_inside mic1_meaning (moment e stalls entry last).state ≡ false = at_entry (moment e stalls entry last).state l.alike.mpc refl in
+      not_both mic1_meaning store n h.n (moment e stalls entry first) (moment e stalls entry last) h.there (StackLimit h.at) l.passes inside h.passes h.inside h.refused;
+  no_boundary = λ store before o stalls entry n spent e why first last to l h.
+      let inside : is_inside mic1_meaning h.there.state ≡ false = at_entry h.there.state h.stands.ready.mpc h.stands.ready.clocked in
+      not_both mic1_meaning store h.n n (moment e stalls entry first) h.there (moment e stalls entry last) (refusal_of why l.at) h.passes inside l.passes l.inside l.refused;
+  out_of_map = λ store before o stalls entry n e first last left l h.
+      let same : Same mic1_meaning store h.n n h.there (moment e stalls entry last) =
+      only_refused mic1_meaning store h.n n (moment e stalls entry first) h.there (moment e stalls entry last) (StackLimit h.at) (refusal_of Out l.at) h.passes l.passes h.refused l.refused in
+      other_reason h.at l.at (outcome_at mic1_meaning store (moment e stalls entry last))
+      (ap (λ (q : Moment Micro). outcome_at mic1_meaning store q) (sym same.there) ∙ h.refused) l.refused;
+}

@@ -1,0 +1,20 @@
+use Rattle.std.proofs.Common.{List, sym, subst}
+use Rattle.micro_terms.specs.declared.range.Range.{Range}
+use Rattle.micro_terms.specs.Ranges.{IsIn}
+use Rattle.mic1_checks.proofs.Knowledge.{bytes, long_enough, ranges, size}
+use Rattle.mic1_checks.proofs.facts.known_of.Goals as goal
+
+pub returns-clause-value : goal.returns-clause-value
+returns-clause-value c e fits i b =
+    let law = c.stack_law.ensures in
+    let n = c.args.n in
+    let x = c.args.s.now in
+    record {
+      knows = record {
+        ranges = subst (λ (rs : List Range). IsIn e.word rs) (sym c.in_ok-ranges.ensures) (ranges law e n x i b fits.words);
+        long = long_enough law e n x i b;
+        size = size law e n x i b;
+        bytes = c.in_ok-bytes.ensures.value e fits (bytes law e n x i b);
+      };
+      words = b.words;
+    }

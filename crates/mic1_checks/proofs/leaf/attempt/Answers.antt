@@ -1,0 +1,83 @@
+use Rattle.std.proofs.Common.{◌≡◌, ℕ, ◌==◌, false, refl, Result, Ok, [], ◌∷◌, sym, ap, ◌∙◌, subst}
+use Rattle.std.specs.declared.alloc.AllocError.{AllocError}
+use Rattle.micro_terms.specs.Meaning.{Fits}
+use Rattle.mic1_cycles.specs.declared.refusal.Stop.TheVariants as stops
+use Rattle.mic1_passes.specs.Moments.{StopsAt}
+use Rattle.mic1_passes.specs.declared.run.Followed.TheVariants as followed
+use Rattle.mic1_checks.specs.Transfer.{IsNoEnd, LeadAlike, LimitAlike}
+use Rattle.mic1_checks.specs.declared.leaf.Counts.{Counts}
+use Rattle.mic1_checks.specs.declared.leaf.Tried.{Tried}
+use Rattle.mic1_checks.specs.declared.leaf.Tried.TheVariants.{Unlike}
+use Rattle.mic1_checks.specs.Carried.{AreAtBoundary, AreAtLimit, CarriesOver}
+use Rattle.mic1_checks.proofs.KeptWords.{has_words}
+use Rattle.mic1_checks.proofs.Leaves.{alike, limited, refused}
+use Rattle.mic1_checks.proofs.leaf.attempt.Goals as goal
+
+tried_in : Result Tried AllocError → Tried
+tried_in (Ok t) = t
+tried_in _ = Unlike
+
+pub returns-in-Boundary-clause-alike : goal.returns-in-Boundary-clause-alike
+unfolding tried_in
+returns-in-Boundary-clause-alike c k is e fits known signs answered =
+    let s = c.args.s.now in
+    let store = c.args.store.now.words in
+    let other = c.args.other.now.words in
+    let entry = c.args.entry in
+    let entry' = c.args.other_entry in
+    let first = c.in_ok-first.first in
+    let second = c.in_ok-second.second in
+    let last = c.follow.new.path in
+    let last' = c.follow-2.new.path in
+    let mid : Fits e c.follow.new.nodes.nodes.items = c.in_ok-b.ensures.grows e fits in
+    let ends : AreAtBoundary entry entry' c.in-Boundary.n c.in_ok-b.b k last last' = c.at_boundary.ensures.alike k (ap tried_in is) in
+    let path = c.in_ok-first.ensures.path e signs answered in
+    let path' = c.in_ok-second.ensures.path e signs answered in
+    let begins : IsNoEnd second.symbols.mpc = subst IsNoEnd (sym c.in_ok-second.ensures.mpc) (c.if-not-is_no_end.ensures refl) in
+    alike e s store other entry entry' c.transfer_law.ensures.one first last (c.in_ok-first.ensures.moment e) second last' (c.in_ok-second.ensures.moment e)
+    c.transfer_law.ensures.moves k (λ stalls.
+    let p1 = c.in_ok-a.ensures.boundary k.first stalls (λ i. Ok ((c.in-Boundary.is ∙ ap followed.Boundary ends.first) i)) e mid known.knows path in
+    let p2 = c.in_ok-b.ensures.boundary k.second stalls (λ i. Ok (ends.second i)) e fits known.knows path' in
+    record {
+      begins = begins;
+      passes = p1.1;
+      passes' = p2.1;
+      alike = ends.alike;
+      words = has_words e c.follow-2.new.nodes.nodes.items fits known.words stalls entry' last';
+      short = ends.short;
+    })
+
+pub returns-in-Limit-clause-stopped : goal.returns-in-Limit-clause-stopped
+unfolding tried_in
+returns-in-Limit-clause-stopped c is e fits known signs answered =
+    let s = c.args.s.now in
+    let store = c.args.store.now.words in
+    let other = c.args.other.now.words in
+    let entry = c.args.entry in
+    let entry' = c.args.other_entry in
+    let first = c.in_ok-first.first in
+    let second = c.in_ok-second.second in
+    let last = c.follow.new.path in
+    let last' = c.follow-2.new.path in
+    let mid : Fits e c.follow.new.nodes.nodes.items = c.in_ok-b.ensures.grows e fits in
+    let ends : AreAtLimit c.in_ok-b.b last last' = c.at_limit.ensures.stopped (ap tried_in is) in
+    let path = c.in_ok-first.ensures.path e signs answered in
+    let path' = c.in_ok-second.ensures.path e signs answered in
+    let begins : IsNoEnd second.symbols.mpc = subst IsNoEnd (sym c.in_ok-second.ensures.mpc) (c.if-not-is_no_end.ensures refl) in
+    limited e s store other entry entry' c.transfer_law.ensures.one first last (c.in_ok-first.ensures.moment e) second last' (c.in_ok-second.ensures.moment e)
+    c.transfer_law.ensures.limits c.in-Limit.field-0 ends.n (λ stalls.
+    record {
+      begins = begins;
+      stops = c.in_ok-a.ensures.limit c.in-Limit.field-0 stalls (λ i. Ok (c.in-Limit.is i)) e mid known.knows path;
+      stops' = c.in_ok-b.ensures.limit ends.n stalls (λ i. Ok (ends.second i)) e fits known.knows path';
+      taken = ends.taken;
+      given = ends.given;
+      short = ends.short;
+    })
+
+pub returns-in-OutOfMap-clause-stopped : goal.returns-in-OutOfMap-clause-stopped
+returns-in-OutOfMap-clause-stopped c is e fits known signs answered =
+    let s = c.args.s.now in
+    let first = c.in_ok-first.first in
+    refused e s c.args.store.now.words c.args.other.now.words c.args.entry c.args.other_entry c.transfer_law.ensures.one first c.follow.new.path (c.in_ok-first.ensures.moment e)
+    c.in-OutOfMap.field-0 (λ stalls. c.in_ok-a.ensures.out c.in-OutOfMap.field-0 stalls (λ i. Ok (c.in-OutOfMap.is i)) e fits known.knows (c.in_ok-first.ensures.path e signs answered))

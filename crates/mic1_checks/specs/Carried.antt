@@ -1,0 +1,66 @@
+-- What a second control store takes of an instruction, if a first one takes it.
+use Rattle.std.specs.Prelude.{◌≡◌, ◌<◌, ℕ, List}
+use Rattle.std.specs.List.{Contains}
+use Rattle.mic1_datapath.specs.Micro.{Micro}
+use Rattle.mic1_datapath.specs.Mic1.{mic1_meaning, IsReady}
+use Rattle.ijvm_instr.specs.declared.instr.Instr.{Instr}
+use Rattle.ijvm_meaning.specs.Cost.{Timing, cost}
+use Rattle.ijvm_meaning.specs.Frames.{State}
+use Rattle.verifier_facts.specs.Accepted.{VerifiedView}
+use Rattle.ijvm_simulation.specs.Stands.{Origin, IsAt}
+use Rattle.ijvm_simulation.specs.Passes.{Moment}
+use Rattle.ijvm_simulation.specs.Law.{Moves, Overruns, Takes}
+use Rattle.ijvm_simulation.specs.Outcomes.{Went, Overran}
+use Rattle.micro_terms.specs.Environment.{Environment}
+use Rattle.mic1_cycles.specs.declared.path.Path.{Path}
+use Rattle.mic1_cycles.specs.declared.symbols.Symbols.{Symbols}
+use Rattle.mic1_passes.specs.declared.run.Followed.{Followed}
+use Rattle.mic1_passes.specs.declared.run.Followed.TheVariants as ends
+use Rattle.mic1_checks.specs.declared.instruction.Instruction.{Instruction}
+use Rattle.mic1_checks.specs.declared.leaf.Counts.{Counts}
+use Rattle.mic1_checks.specs.Situation.{StandsBefore, Suits}
+use Rattle.mic1_checks.specs.Start.{start_moment}
+use Rattle.mic1_checks.specs.Transfer.{AreAlike, Carries}
+
+-- the first path is at a boundary after n + 1 cycles, and the second at one alike
+pub record AreAtBoundary (entry entry' n : ℕ) (b : Followed) (c : Counts) (p q : Path) : Type 0 where
+  pub first : n ≡ c.first
+  pub second : b ≡ ends.Boundary c.second
+  pub alike : AreAlike entry entry' p q
+  pub short : c.second < 1024
+
+-- the second path meets the stack's end too, with the same console
+pub record AreAtLimit (b : Followed) (p q : Path) : Type 0 where
+  pub n : ℕ
+  pub second : b ≡ ends.Limit n
+  pub taken : p.taken ≡ q.taken
+  pub given : p.given.items ≡ q.given.items
+  pub short : n < 1023
+
+-- the second store moves too, with the counts of one of the leaves
+pub record CarriedBy (leaves : List Counts) (store' before : List ℕ) (o : Origin) (entry' spent : ℕ) (q' : Moment Micro) (to : State) : Type 0 where
+  pub counts : Counts
+  pub is_leaf : Contains leaves counts
+  pub carries : Carries store' before o entry' counts.first counts.second spent q' to
+
+-- where the first store moves from this start, the second does, and where the first meets the stack's end, the second does
+pub record CarriesOver (e : Environment) (s : Symbols) (store store' : List ℕ) (entry entry' : ℕ) (leaves : List Counts) : Type 0 where
+  pub moves : (before : List ℕ) (o : Origin) (stalls spent : ℕ) (to : State) →
+      Moves mic1_meaning store (IsAt mic1_meaning IsReady entry o) before (start_moment e stalls entry s) spent to →
+      CarriedBy leaves store' before o entry' spent (start_moment e stalls entry' s) to
+  pub limits : (before : List ℕ) (o : Origin) (stalls : ℕ) (left : State) →
+      Overruns mic1_meaning store (IsAt mic1_meaning IsReady entry o) before (start_moment e stalls entry s) left →
+      Overruns mic1_meaning store' (IsAt mic1_meaning IsReady entry' o) before (start_moment e stalls entry' s) left
+
+-- both ends of an instruction in the second store: the next boundary of the definition, or the stack's end
+pub record Onward (leaves : List Counts) (store' : List ℕ) (entry' : ℕ) (before : List ℕ) (timing : Timing) (v : VerifiedView) (o : Origin)
+    (s : State) (q : Moment Micro) (i : Instr) : Type 0 where
+  pub goes : (to : State) → Went v.image v.map.stack_end s to i → CarriedBy leaves store' before o entry' (cost v.image timing i s) q to
+  pub limits : (left : State) → Overran v.image v.map.stack_end s left i → Overruns mic1_meaning store' (IsAt mic1_meaning IsReady entry' o) before q left
+
+-- If the first store takes what every instruction takes of a machine, the second takes what those of this kind take.
+abbrev pub CarriesInstruction : Instruction → List ℕ → List ℕ → ℕ → ℕ → List Counts → Type 0
+CarriesInstruction n store store' entry entry' leaves =
+    (before : List ℕ) (timing : Timing) (v : VerifiedView) (o : Origin) (s : State) (q : Moment Micro) (i : Instr) →
+    Takes mic1_meaning store (IsAt mic1_meaning IsReady entry o) before timing v o (λ i. Unit {0}) →
+    StandsBefore entry' v o s q i → Suits n o s → Onward leaves store' entry' before timing v o s q i

@@ -1,0 +1,55 @@
+-- A boundary of an accepted image's run, at which an instruction comes next.
+use Rattle.std.specs.Prelude.{◌≡◌, ◌+◌, ◌<◌, ℕ, Some, slice_index}
+use Rattle.mic_words.specs.Arithmetic.{plus}
+use Rattle.console_port.specs.World.{byte_in}
+use Rattle.ijvm_instr.specs.declared.instr.Instr.{Instr}
+use Rattle.ijvm_meaning.specs.Frames.{State}
+use Rattle.verifier_facts.specs.Accepted.{VerifiedView}
+use Rattle.mic1_datapath.specs.Micro.{Micro}
+use Rattle.mic1_datapath.specs.Mic1.{mic1_meaning, IsReady}
+use Rattle.ijvm_simulation.specs.Stands.{Origin, IsAt, RegistersStand}
+use Rattle.ijvm_simulation.specs.Passes.{Moment}
+use Rattle.ijvm_simulation.specs.Verified.{Loads, Fine, IsNext}
+use Rattle.micro_terms.specs.Environment.{Environment}
+use Rattle.mic1_cycles.specs.declared.known.Known.{Known}
+use Rattle.mic1_cycles.specs.declared.symbols.Symbols.{Symbols}
+use Rattle.mic1_cycles.specs.Known.{Knows}
+use Rattle.mic1_checks.specs.declared.instruction.Instruction.{Instruction}
+use Rattle.mic1_checks.specs.Start.{IsStart}
+use Rattle.mic1_checks.specs.Words.{HasWords}
+
+-- the bytes of the instruction's kind stand where this state goes on
+pub record Suits (n : Instruction) (o : Origin) (s : State) : Type 0 where
+  pub opcode : byte_in o.words s.at ≡ n.opcode
+  pub second : (b : ℕ) → n.second ≡ Some b → byte_in o.words (s.at + 1) ≡ b
+
+-- a Mic-1 with this entry stands at this instruction of a verified image's run, and holds words
+pub record StandsBefore (entry : ℕ) (v : VerifiedView) (o : Origin) (s : State) (q : Moment Micro) (i : Instr) : Type 0 where
+  pub loads : Loads v o
+  pub fine : Fine v s
+  pub next : IsNext v o s i
+  pub at : IsAt mic1_meaning IsReady entry o s q.state q.world
+  pub words : HasWords q.state q.world
+
+-- symbols start at such an instruction
+pub record StartsBefore (e : Environment) (n : Instruction) (x : Symbols) (i : Instr) : Type 0 where
+  pub start : IsStart e n.opcode x
+  pub v : VerifiedView
+  pub o : Origin
+  pub loads : Loads v o
+  pub s : State
+  pub next : IsNext v o s i
+  pub suits : Suits n o s
+  pub pc : e.word x.pc ≡ s.at
+  pub holds : RegistersStand o s (e.word x.sp) (e.word x.lv) (e.word x.cpp) (e.word x.tos) e.start
+  pub words : (k : ℕ) → slice_index e.start.words k < 4294967296
+
+-- what is known is true where a run starts, and memory holds words there
+pub record IsKnown (e : Environment) (k : Known) : Type 0 where
+  pub knows : Knows e k
+  pub words : (i : ℕ) → slice_index e.start.words i < 4294967296
+
+-- where the symbols start, memory has the bytes of the instruction's kind
+pub record HasBytes (e : Environment) (n : Instruction) (x : Symbols) : Type 0 where
+  pub opcode : byte_in e.start.words (e.word x.pc) ≡ n.opcode
+  pub second : (b : ℕ) → n.second ≡ Some b → byte_in e.start.words (plus (e.word x.pc) 1) ≡ b

@@ -1,0 +1,85 @@
+-- When the passes of two control stores end alike, and what then carries over from the first store to the second.
+use Rattle.std.specs.Prelude.{◌≡◌, ℕ, ◌+◌, ◌<◌, ◌==◌, false, List, Some, None}
+use Rattle.mic1_datapath.specs.Micro.{Micro}
+use Rattle.mic1_datapath.specs.Mic1.{mic1_meaning, IsReady}
+use Rattle.ijvm_meaning.specs.Frames.{State}
+use Rattle.ijvm_simulation.specs.Stands.{Origin, IsAt}
+use Rattle.ijvm_simulation.specs.Passes.{Moment, pass}
+use Rattle.ijvm_simulation.specs.Law.{Moves, Overruns}
+use Rattle.micro_terms.specs.Environment.{Environment}
+use Rattle.mic1_cycles.specs.declared.path.Path.{Path}
+use Rattle.mic1_cycles.specs.declared.refusal.Stop.{Stop}
+use Rattle.mic1_cycles.specs.declared.refusal.Stop.TheVariants.{Limit, OutOfMap}
+use Rattle.mic1_passes.specs.Moments.{moment, StopsAt}
+use Rattle.mic1_checks.specs.Words.{HasWords}
+
+-- two paths have come to boundaries, each of its own entry, and have the same numbers there
+pub record AreAlike (entry entry' : ℕ) (p p' : Path) : Type 0 where
+  pub sp : p.symbols.sp ≡ p'.symbols.sp
+  pub lv : p.symbols.lv ≡ p'.symbols.lv
+  pub cpp : p.symbols.cpp ≡ p'.symbols.cpp
+  pub tos : p.symbols.tos ≡ p'.symbols.tos
+  pub pc : p.symbols.pc ≡ p'.symbols.pc
+  pub opcode : p.symbols.mbr.plain ≡ p'.symbols.mbr.plain
+  pub mpc : p.symbols.mpc ≡ entry
+  pub mpc' : p'.symbols.mpc ≡ entry'
+  pub no_word : p'.symbols.word ≡ None
+  pub no_byte : p'.symbols.byte ≡ None
+  pub writes : p.writes.items ≡ p'.writes.items
+  pub taken : p.taken ≡ p'.taken
+  pub given : p.given.items ≡ p'.given.items
+
+-- the entry is no end of a run
+pub record IsNoEnd (entry : ℕ) : Type 0 where
+  pub no_halt : (entry == 0x0FF) ≡ false
+  pub no_err : (entry == 0x0FE) ≡ false
+
+-- both stores lead from one boundary to boundaries that are alike
+pub record LeadAlike (store store' : List ℕ) (stalls entry entry' n n' : ℕ) (e : Environment) (first first' last last' : Path) : Type 0 where
+  pub begins : IsNoEnd first'.symbols.mpc
+  pub passes : pass mic1_meaning store n (moment e stalls entry first) ≡ Some (moment e stalls entry last)
+  pub passes' : pass mic1_meaning store' n' (moment e stalls entry' first') ≡ Some (moment e stalls entry' last')
+  pub alike : AreAlike entry entry' last last'
+  pub words : HasWords (moment e stalls entry' last').state (moment e stalls entry' last').world
+  pub short : n' < 1024
+
+-- what the second store takes, if the first one has spent n + 1 cycles; words are left there
+pub record Carries (store' before : List ℕ) (o : Origin) (entry' n n' spent : ℕ) (q' : Moment Micro) (to : State) : Type 0 where
+  pub spent_is : spent ≡ n + 1
+  pub moves : Moves mic1_meaning store' (IsAt mic1_meaning IsReady entry' o) before q' (n' + 1) to
+  pub words : HasWords moves.there.state moves.there.world
+
+abbrev pub Transfers : Type 0
+Transfers =
+    (store store' before : List ℕ) (o : Origin) (stalls entry entry' n n' spent : ℕ) (e : Environment) (first first' last last' : Path) (to : State) →
+    LeadAlike store store' stalls entry entry' n n' e first first' last last' →
+    Moves mic1_meaning store (IsAt mic1_meaning IsReady entry o) before (moment e stalls entry first) spent to →
+    Carries store' before o entry' n n' spent (moment e stalls entry' first') to
+
+-- both stores lead from one boundary to writes that meet the stack's end, with the same console
+pub record LimitAlike (store store' : List ℕ) (stalls entry entry' n n' : ℕ) (e : Environment) (first first' last last' : Path) : Type 0 where
+  pub begins : IsNoEnd first'.symbols.mpc
+  pub stops : StopsAt e store stalls entry n Limit first last
+  pub stops' : StopsAt e store' stalls entry' n' Limit first' last'
+  pub taken : last.taken ≡ last'.taken
+  pub given : last.given.items ≡ last'.given.items
+  pub short : n' < 1023
+
+abbrev pub TransfersLimits : Type 0
+TransfersLimits =
+    (store store' before : List ℕ) (o : Origin) (stalls entry entry' n n' : ℕ) (e : Environment) (first first' last last' : Path) (left : State) →
+    LimitAlike store store' stalls entry entry' n n' e first first' last last' →
+    Overruns mic1_meaning store (IsAt mic1_meaning IsReady entry o) before (moment e stalls entry first) left →
+    Overruns mic1_meaning store' (IsAt mic1_meaning IsReady entry' o) before (moment e stalls entry' first') left
+
+-- A pass comes to one end alone: what leads to a boundary overruns no stack, and what is refused leads to no boundary.
+pub record OneEnd : Type 0 where
+  pub no_limit : (store store' before : List ℕ) (o : Origin) (stalls entry entry' n n' : ℕ) (e : Environment) (first first' last last' : Path) (left : State) →
+      LeadAlike store store' stalls entry entry' n n' e first first' last last' →
+      Overruns mic1_meaning store (IsAt mic1_meaning IsReady entry o) before (moment e stalls entry first) left → ⊥
+  pub no_boundary : (store before : List ℕ) (o : Origin) (stalls entry n spent : ℕ) (e : Environment) (why : Stop) (first last : Path) (to : State) →
+      StopsAt e store stalls entry n why first last →
+      Moves mic1_meaning store (IsAt mic1_meaning IsReady entry o) before (moment e stalls entry first) spent to → ⊥
+  pub out_of_map : (store before : List ℕ) (o : Origin) (stalls entry n : ℕ) (e : Environment) (first last : Path) (left : State) →
+      StopsAt e store stalls entry n OutOfMap first last →
+      Overruns mic1_meaning store (IsAt mic1_meaning IsReady entry o) before (moment e stalls entry first) left → ⊥

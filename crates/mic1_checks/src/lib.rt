@@ -1,0 +1,19 @@
+//! That one control store of Mic-1 takes of each instruction of IJVM what another one takes: both are run symbolically
+//! from one boundary, under all answers to what their paths ask, and have to end alike.
+#![tactic(auto)]
+
+mod all;
+mod check;
+mod facts;
+mod instruction;
+mod laws;
+mod leaf;
+mod registers;
+mod start;
+mod tree;
+
+pub use all::takes_alike;
+pub use check::instruction_alike;
+pub use instruction::Instruction;
+pub use laws::transfer_law;
+pub use leaf::Counts;
