@@ -1,8 +1,7 @@
 -- Each instruction that does not end the run is in the list, and more leaves are no harm.
-use Rattle.std.proofs.Common.{◌≡◌, ◌⊎◌, inl, inr, ℕ, ◌+◌, ◌<◌, ◌≤◌, true, false, IsTrue, List, [], ◌∷◌, Some, None, length, refl, sym, ap, ◌∙◌, subst, arith}
+use Rattle.std.proofs.Common.{◌≡◌, ◌⊎◌, inl, inr, ℕ, ◌+◌, ◌<◌, List, Some, length, refl, ◌∙◌, arith}
 use Rattle.std.specs.Prelude.{slice_index_or}
 use Rattle.std.specs.List.{Contains}
-use Rattle.std.proofs.lemmas.List.Elements.{Contains-append_left, Contains-append_right}
 use Rattle.console_port.specs.World.{byte_in}
 use Rattle.ijvm_instr.specs.declared.instr.Instr.{Instr}
 use Rattle.ijvm_instr.specs.declared.instr.Instr.TheVariants.{Nop, Bipush, LdcW, Iload, Istore, Pop, Dup, Swap, Iadd, Isub, Iand, Iinc, Ifeq, Iflt, IfIcmpeq, Goto, Ireturn, Ior, Invokevirtual, WideIload, WideIstore, WideIinc, In, Out, Err, Halt}
@@ -12,8 +11,9 @@ use Rattle.ijvm_simulation.specs.Stands.{Origin}
 use Rattle.mic1_checks.specs.declared.instruction.Instruction.{Instruction}
 use Rattle.mic1_checks.specs.Situation.{Suits}
 use Rattle.mic1_checks.specs.declared.leaf.Counts.{Counts}
-use Rattle.mic1_checks.specs.Carried.{CarriedBy, CarriesInstruction, Onward}
-use Rattle.mic1_checks.specs.Listed.{instructions, plain, wide}
+use Rattle.mic1_checks.specs.declared.shape.Shape.{Shape}
+use Rattle.mic1_checks.specs.Carried.{CarriesInstruction, Onward}
+use Rattle.mic1_checks.specs.Listed.{CarriesEach, instructions, plain, wide}
 
 some_is : (a b : ℕ) → Some a ≡ Some b → a ≡ b
 some_is a b e = cc
@@ -63,11 +63,16 @@ module _ (o : Origin) (s : State) where
   listed c d e f Err r = inr (inl refl)
   listed c d e f Halt r = inl refl
 
-pub more : (n : Instruction) (store store' : List ℕ) (entry entry' : ℕ) (xs ys : List Counts) → ((c : Counts) → Contains xs c → Contains ys c) →
-    CarriesInstruction n store store' entry entry' xs → CarriesInstruction n store store' entry entry' ys
-more n store store' entry entry' xs ys kept h = λ before timing v o s q i takes stands suits.
-    let on : Onward xs store' entry' before timing v o s q i = h before timing v o s q i takes stands suits in
+pub more : (n : Instruction) (shape : Shape) (store store' : List ℕ) (entry entry' : ℕ) (xs ys : List Counts) → ((c : Counts) → Contains xs c → Contains ys c) →
+    CarriesInstruction n shape store store' entry entry' xs → CarriesInstruction n shape store store' entry entry' ys
+more n shape store store' entry entry' xs ys kept h = λ before timing v o s q i takes stands suits formed.
+    let on : Onward xs store' entry' before timing v o s q i = h before timing v o s q i takes stands suits formed in
     record {
       goes = λ to went. let by = on.goes to went in record { counts = by.counts; is_leaf = kept by.counts by.is_leaf; carries = by.carries };
       limits = on.limits;
     }
+
+-- each of some kinds, with more leaves
+pub each_more : (all : List Instruction) (shape : Shape) (store store' : List ℕ) (entry entry' : ℕ) (xs ys : List Counts) → ((c : Counts) → Contains xs c → Contains ys c) →
+    CarriesEach all shape store store' entry entry' xs → CarriesEach all shape store store' entry entry' ys
+each_more all shape store store' entry entry' xs ys kept h = λ k inside. more (slice_index_or all k (plain 0)) shape store store' entry entry' xs ys kept (h k inside)

@@ -1,13 +1,16 @@
 -- Words stay words.
-use Rattle.std.proofs.Common.{◌<◌, ℕ, zero, suc, List, [], ◌∷◌}
-use Rattle.std.specs.Prelude.{slice_index, slice_set}
+use Rattle.std.proofs.Common.{◌<◌, ℕ, zero, suc, List, [], ◌∷◌, Option, Some, None, sym, subst, arith}
+use Rattle.std.specs.Prelude.{slice_index, slice_set, unwrap_or}
 use Rattle.std.specs.List.{All}
 use Rattle.std.proofs.lemmas.List.Elements.{All-cons, All-nil}
+use Rattle.mic_words.specs.Arithmetic.{signed_byte}
 use Rattle.micro_terms.specs.declared.node.Node.{Node}
 use Rattle.micro_terms.specs.Environment.{Environment}
 use Rattle.micro_terms.specs.Meaning.{Fits}
 use Rattle.mic1_cycles.specs.declared.path.Path.{Path}
 use Rattle.mic1_cycles.specs.declared.symbols.Write.{Write}
+use Rattle.mic1_cycles.specs.Paths.{IsPath}
+use Rattle.mic1_cycles.specs.Symbols.{word_in}
 use Rattle.mic1_cycles.specs.Trail.{written_by}
 use Rattle.mic1_passes.specs.Moments.{moment}
 use Rattle.mic1_checks.specs.Words.{HasWords}
@@ -36,13 +39,21 @@ pub in_front : (word : ℕ → ℕ) → ((i : ℕ) → word i < 4294967296) → 
 in_front word h [] ys all = all
 in_front word h (k ∷ ks) ys all = All-cons IsWord (word k) (words_before word ks ys) (h k) (in_front word h ks ys all)
 
+under_way : (word : ℕ → ℕ) → ((i : ℕ) → word i < 4294967296) → (o : Option ℕ) → unwrap_or (word_in word o) 0 < 4294967296
+under_way word h None = omega arith
+under_way word h (Some n) = h n
+
 -- what a path stands for has words, if the memory where it starts has
 pub has_words : (e : Environment) (table : List Node) → Fits e table → ((i : ℕ) → slice_index e.start.words i < 4294967296) →
-    (stalls entry : ℕ) (p : Path) → HasWords (moment e stalls entry p).state (moment e stalls entry p).world
-has_words e table fits words stalls entry p =
+    (stalls entry : ℕ) (p : Path) → IsPath e p → HasWords (moment e stalls entry p).state (moment e stalls entry p).world
+has_words e table fits words stalls entry p path =
     let s = p.symbols in
     record {
       registers =
-          in_front e.word fits.words (s.mar ∷ s.mdr ∷ s.pc ∷ s.sp ∷ s.lv ∷ s.tos ∷ s.opc ∷ s.h ∷ []) [] (All-nil IsWord);
+          in_front e.word fits.words (s.mar ∷ s.mdr ∷ s.pc ∷ s.sp ∷ s.lv ∷ s.tos ∷ s.opc ∷ s.h ∷ s.mbr.plain ∷ [])
+          (signed_byte (e.word s.mbr.plain) ∷ unwrap_or (word_in e.word s.word) 0 ∷ [])
+          (All-cons IsWord (signed_byte (e.word s.mbr.plain)) (unwrap_or (word_in e.word s.word) 0 ∷ [])
+          (subst IsWord (sym path.signs.mbr) (fits.words s.mbr.signed))
+          (All-cons IsWord (unwrap_or (word_in e.word s.word) 0) [] (under_way e.word fits.words s.word) (All-nil IsWord)));
       memory = kept e.word fits.words p.writes.items e.start.words words;
     }

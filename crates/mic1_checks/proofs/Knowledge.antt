@@ -1,5 +1,5 @@
 -- What is known at a boundary of an accepted image's run.
-use Rattle.std.proofs.Common.{◌≡◌, ℕ, zero, suc, ◌+◌, ◌/◌, ◌%◌, ◌-◌, ◌^◌, ◌<◌, ◌≤◌, length, arith, sym, ap, ◌∙◌, List}
+use Rattle.std.proofs.Common.{◌≡◌, ℕ, zero, suc, ◌+◌, ◌/◌, ◌%◌, ◌-◌, ◌^◌, ◌<◌, ◌≤◌, length, arith, sym, ap, ◌∙◌, List, [], subst}
 use Rattle.std.specs.Prelude.{slice_index}
 use Rattle.mic_words.specs.Arithmetic.{wrap, plus}
 use Rattle.console_port.specs.World.{byte_in, console_at}
@@ -7,6 +7,7 @@ use Rattle.ijvm_instr.specs.declared.instr.Instr.{Instr}
 use Rattle.ijvm_meaning.specs.Frames.{base, frames_of}
 use Rattle.ijvm_simulation.specs.Stack.{IsMapEnd, StackLaw}
 use Rattle.micro_terms.specs.Environment.{Environment}
+use Rattle.micro_terms.specs.declared.range.Range.{Range}
 use Rattle.micro_terms.specs.Ranges.{IsIn, end_of}
 use Rattle.mic1_cycles.specs.declared.symbols.Symbols.{Symbols}
 use Rattle.mic1_checks.specs.declared.instruction.Instruction.{Instruction}
@@ -23,6 +24,11 @@ in_ranges word small pc sp sp' lv lv' (suc (suc zero)) = (omega arith, omega (ar
 in_ranges word small pc sp sp' lv lv' (suc (suc (suc zero))) = (omega (arith, sp), omega (arith, sp'))
 in_ranges word small pc sp sp' lv lv' (suc (suc (suc (suc zero)))) = (omega (arith, lv), omega (arith, lv'))
 in_ranges word small pc sp sp' lv lv' (suc (suc (suc (suc (suc n))))) = (omega arith, omega (arith, small (suc (suc (suc (suc (suc n)))))))
+
+-- any words are in no ranges
+pub in_none : (word : ℕ → ℕ) → ((i : ℕ) → word i < 4294967296) → (ranges : List Range) → ranges ≡ [] → IsIn word ranges
+unfolding end_of
+in_none word small ranges is = subst (IsIn word) (sym is) (λ n. (omega arith, omega (arith, small n)))
 
 plus_is : (x y z : ℕ) → x ≡ y → y + 1 ≡ z → z < 2 ^ 32 → plus x 1 ≡ z
 unfolding wrap

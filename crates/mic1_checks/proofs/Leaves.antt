@@ -1,6 +1,6 @@
 -- What a leaf says, and that two halves of a tree make a whole.
-use Rattle.std.proofs.Common.{◌≡◌, ◌+◌, ◌<◌, ℕ, true, false, List, [], ◌∷◌, ◌++◌, refl, sym, ap, subst, inl, inr}
-use Rattle.std.specs.List.{All, Contains}
+use Rattle.std.proofs.Common.{◌≡◌, ℕ, true, false, List, [], ◌∷◌, ◌++◌, sym, subst, inl, inr}
+use Rattle.std.specs.List.{Contains}
 use Rattle.std.proofs.lemmas.Bool.{cases_Bool}
 use Rattle.std.proofs.lemmas.List.Elements.{All-push, Contains-push}
 use Rattle.mic1_datapath.specs.Micro.{Micro}
@@ -17,6 +17,7 @@ use Rattle.mic1_cycles.specs.Questions.{AreAnswered, truth}
 use Rattle.mic1_passes.specs.Moments.{moment, StopsAt}
 use Rattle.mic1_checks.specs.Transfer.{Carries, LeadAlike, LimitAlike, OneEnd, Transfers, TransfersLimits}
 use Rattle.mic1_checks.specs.declared.leaf.Counts.{Counts}
+use Rattle.mic1_checks.specs.Ready.{IsReadyOrArriving}
 use Rattle.mic1_checks.specs.Start.{start_moment}
 use Rattle.mic1_checks.specs.Carried.{CarriedBy, CarriesOver}
 
@@ -31,19 +32,19 @@ either e answers so not_so a P all so_is not_is if_so if_not =
       | inr t0 ↦ if_not (subst (λ (xs : List Answer). AreAnswered e xs) (sym not_is) (All-push IsTrueAnswer answers (record a { is = false }) all t0))
     ]
 
-module _ (e : Environment) (s : Symbols) (store store' : List ℕ) (entry entry' : ℕ) where
-  pub more : (xs ys : List Counts) → ((c : Counts) → Contains xs c → Contains ys c) → CarriesOver e s store store' entry entry' xs → CarriesOver e s store store' entry entry' ys
+module _ (e : Environment) (s s' : Symbols) (store store' : List ℕ) (entry entry' : ℕ) where
+  pub more : (xs ys : List Counts) → ((c : Counts) → Contains xs c → Contains ys c) → CarriesOver e s s' store store' entry entry' xs → CarriesOver e s s' store store' entry entry' ys
   more xs ys kept h =
       record {
         moves = λ before o stalls spent to m.
-            let by : CarriedBy xs store' before o entry' spent (start_moment e stalls entry' s) to = h.moves before o stalls spent to m in
+            let by : CarriedBy xs store' before o entry' spent (start_moment e stalls entry' s') to = h.moves before o stalls spent to m in
             record { counts = by.counts; is_leaf = kept by.counts by.is_leaf; carries = by.carries };
         limits = h.limits;
       }
 
   module _ (one : OneEnd) (first last : Path) (from : (stalls : ℕ) → moment e stalls entry first ≡ start_moment e stalls entry s) where
     -- the first store is refused otherwise
-    pub refused : (n : ℕ) → ((stalls : ℕ) → StopsAt e store stalls entry n OutOfMap first last) → CarriesOver e s store store' entry entry' []
+    pub refused : (n : ℕ) → ((stalls : ℕ) → StopsAt e store stalls entry n OutOfMap first last) → CarriesOver e s s' store store' entry entry' []
     refused n stops =
         record {
           moves = λ before o stalls spent to m.
@@ -56,9 +57,9 @@ module _ (e : Environment) (s : Symbols) (store store' : List ℕ) (entry entry'
               absurd (one.out_of_map store before o stalls entry n e first last left (stops stalls) h);
         }
 
-    module _ (first' last' : Path) (from' : (stalls : ℕ) → moment e stalls entry' first' ≡ start_moment e stalls entry' s) where
+    module _ (first' last' : Path) (from' : (stalls : ℕ) → moment e stalls entry' first' ≡ start_moment e stalls entry' s') where
       pub alike : Transfers → (c : Counts) → ((stalls : ℕ) → LeadAlike store store' stalls entry entry' c.first c.second e first first' last last') →
-          CarriesOver e s store store' entry entry' (c ∷ [])
+          CarriesOver e s s' store store' entry entry' (c ∷ [])
       alike transfers c leads =
           record {
             moves = λ before o stalls spent to m.
@@ -78,7 +79,7 @@ module _ (e : Environment) (s : Symbols) (store store' : List ℕ) (entry entry'
           }
 
       pub limited : TransfersLimits → (n n' : ℕ) → ((stalls : ℕ) → LimitAlike store store' stalls entry entry' n n' e first first' last last') →
-          CarriesOver e s store store' entry entry' []
+          CarriesOver e s s' store store' entry entry' []
       limited transfers n n' leads =
           record {
             moves = λ before o stalls spent to m.
@@ -88,6 +89,6 @@ module _ (e : Environment) (s : Symbols) (store store' : List ℕ) (entry entry'
             limits = λ before o stalls left m.
                 let h : Overruns mic1_meaning store (IsAt mic1_meaning IsReady entry o) before (moment e stalls entry first) left =
                 subst (λ (q : Moment Micro). Overruns mic1_meaning store (IsAt mic1_meaning IsReady entry o) before q left) (sym (from stalls)) m in
-                subst (λ (q : Moment Micro). Overruns mic1_meaning store' (IsAt mic1_meaning IsReady entry' o) before q left) (from' stalls)
+                subst (λ (q : Moment Micro). Overruns mic1_meaning store' (IsAt mic1_meaning IsReadyOrArriving entry' o) before q left) (from' stalls)
                 (transfers store store' before o stalls entry entry' n n' e first first' last last' left (leads stalls) h);
           }

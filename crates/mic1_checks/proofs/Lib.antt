@@ -1,8 +1,12 @@
 pub mod Alike
+pub mod Begun
+pub mod Ended
 pub mod Instructions
 pub mod KeptWords
 pub mod Knowledge
 pub mod Leaves
 pub mod Passes
+pub mod Reset
+pub mod Shapes
 pub mod Starts
 pub mod Transfers

@@ -1,6 +1,7 @@
 -- Symbols that stand for a boundary.
-use Rattle.std.proofs.Common.{◌≡◌, ◌<◌, ℕ, zero, suc, true, List, [], ◌∷◌, Option, Some, None, refl, sym, ap, ◌∙◌, subst, arith}
-use Rattle.std.specs.Prelude.{slice_index}
+use Rattle.std.proofs.Common.{◌≡◌, ◌<◌, ℕ, zero, suc, Bool, true, false, if◌then◌else◌, List, [], ◌∷◌, Option, Some, None, refl, sym, ap, ◌∙◌, subst, arith}
+use Rattle.std.specs.Prelude.{slice_index, unwrap_or, is_some}
+use Rattle.mic_datapath.specs.Registers.{arrived}
 use Rattle.std.specs.List.{All}
 use Rattle.std.proofs.lemmas.List.Elements.{All-head, All-tail}
 use Rattle.console_port.specs.World.{World}
@@ -12,12 +13,14 @@ use Rattle.ijvm_simulation.specs.Stands.{Origin, IsAt}
 use Rattle.micro_terms.specs.Environment.{Environment}
 use Rattle.micro_terms.specs.Meaning.{Fits}
 use Rattle.micro_terms.specs.declared.node.Node.{Node}
-use Rattle.micro_terms.specs.Ordered.{AreOrdered, HasEnvironments, HasFree}
+use Rattle.micro_terms.specs.Ordered.{AreOrdered, HasEnvironments}
 use Rattle.mic1_cycles.specs.declared.symbols.Byte.{Byte}
 use Rattle.mic1_cycles.specs.declared.symbols.Symbols.{Symbols}
-use Rattle.mic1_cycles.specs.Symbols.{micro_of, word_in, byte_in, HasSigns, IsSignedIn}
-use Rattle.mic1_checks.specs.Start.{IsStart, HasRegisters}
-use Rattle.mic1_checks.specs.Words.{HasWords, registers_in}
+use Rattle.mic1_cycles.specs.Symbols.{micro_of, word_in, byte_in, HasSigns, IsSigned, IsSignedIn}
+use Rattle.mic1_checks.specs.declared.shape.Shape.{Shape}
+use Rattle.mic1_checks.specs.Ready.{IsReadyOrArriving, shape_of}
+use Rattle.mic1_checks.specs.Start.{IsStart, HasRegisters, shaped_symbols}
+use Rattle.mic1_checks.specs.Words.{HasWords, free_words}
 
 below : (xs : List ℕ) (i : ℕ) → All (λ x. x < 4294967296) xs → slice_index xs i < 4294967296
 below [] i h = omega arith
@@ -37,10 +40,13 @@ pub record Started (table : List Node) (m : Micro) (w : World) : Type 0 where
   pub tos : e.word 5 ≡ m.tos
   pub opc : e.word 6 ≡ m.opc
   pub h : e.word 7 ≡ m.h
+  pub mbr : e.word 8 ≡ m.mbr
+  pub sign : e.word 9 ≡ signed_byte m.mbr
+  pub word : e.word 10 ≡ unwrap_or m.word 0
 
 pub started : HasEnvironments → (table : List Node) → AreOrdered table → HasRegisters table → (m : Micro) (w : World) → HasWords m w → Started table m w
 started exist table ordered r m w words =
-    let x = exist table w (λ i. slice_index (registers_in m) i) ordered words.memory (λ i. below (registers_in m) i words.registers) in
+    let x = exist table w (λ i. slice_index (free_words m) i) ordered words.memory (λ i. below (free_words m) i words.registers) in
     record {
       e = x.0;
       fits = x.1;
@@ -53,44 +59,95 @@ started exist table ordered r m w words =
       tos = x.2.free_words 5 r.tos;
       opc = x.2.free_words 6 r.opc;
       h = x.2.free_words 7 r.h;
+      mbr = x.2.free_words 8 r.mbr;
+      sign = x.2.free_words 9 r.sign;
+      word = x.2.free_words 10 r.word;
     }
 
--- a machine with another entry, at it
+-- a machine with another entry, at it, in which what was under way has arrived
 abbrev pub twin : ℕ → Micro → Micro
-twin entry m = record m { mpc = entry; entry = entry }
+twin entry m = record m { mbr = arrived m.byte m.mbr; mpc = entry; word = None; byte = None; entry = entry }
 
-pub twin_stands : (o : Origin) (entry entry' : ℕ) (s : State) (m : Micro) (w : World) → IsAt mic1_meaning IsReady entry' o s m w → IsAt mic1_meaning IsReady entry o s (twin entry m) w
+pub twin_stands : (o : Origin) (entry entry' : ℕ) (s : State) (m : Micro) (w : World) → IsAt mic1_meaning IsReadyOrArriving entry' o s m w → IsAt mic1_meaning IsReady entry o s (twin entry m) w
 twin_stands o entry entry' s m w h =
     record {
       holds = h.holds;
-      ready = record { pc = h.ready.pc; mbr = h.ready.mbr; mpc = refl; entry = refl; clocked = h.ready.clocked; word = h.ready.word; byte = h.ready.byte };
+      ready = record { pc = h.ready.pc; mbr = h.ready.opcode; mpc = refl; entry = refl; clocked = h.ready.clocked; word = refl; byte = refl };
     }
 
-pub own_twin : (o : Origin) (entry' : ℕ) (s : State) (m : Micro) (w : World) → IsAt mic1_meaning IsReady entry' o s m w → twin entry' m ≡ m
-own_twin o entry' s m w h = λ i. record m { mpc = sym (h.ready.mpc ∙ h.ready.entry) i; entry = sym h.ready.entry i }
+module _ (table : List Node) (m : Micro) (w : World) (t : Started table m w) (opcode : ℕ) (s : Symbols) (is : IsStart t.e opcode s)
+    (cpp : m.cpp ≡ 0x4000) (code : arrived m.byte m.mbr ≡ opcode) (clocked : m.clocked ≡ true) where
+  -- the symbols stand for the twin
+  pub stand : (entry : ℕ) → micro_of t.e.word entry true (record s { mpc = entry }) ≡ twin entry m
+  stand entry =
+      λ i. record {
+        mar = (ap t.e.word is.mar ∙ t.mar) i;
+        mdr = (ap t.e.word is.mdr ∙ t.mdr) i;
+        pc = (ap t.e.word is.pc ∙ t.pc) i;
+        sp = (ap t.e.word is.sp ∙ t.sp) i;
+        lv = (ap t.e.word is.lv ∙ t.lv) i;
+        cpp = (is.cpp ∙ sym cpp) i;
+        tos = (ap t.e.word is.tos ∙ t.tos) i;
+        opc = (ap t.e.word is.opc ∙ t.opc) i;
+        h = (ap t.e.word is.h ∙ t.h) i;
+        mbr = (is.plain ∙ sym code) i;
+        mpc = entry;
+        word = ap (word_in t.e.word) is.word i;
+        byte = ap (byte_in t.e.word) is.byte i;
+        entry = entry;
+        clocked = sym clocked i;
+      }
 
--- the symbols stand for the machine
-pub stand : (table : List Node) (m : Micro) (w : World) (t : Started table m w) (opcode entry : ℕ) (s : Symbols) → IsStart t.e opcode s →
-    m.cpp ≡ 0x4000 → m.mbr ≡ opcode → m.clocked ≡ true → m.word ≡ None → m.byte ≡ None →
-    micro_of t.e.word entry true (record s { mpc = entry }) ≡ twin entry m
-stand table m w t opcode entry s is cpp mbr clocked word byte =
-    λ i. record {
-      mar = (ap t.e.word is.mar ∙ t.mar) i;
-      mdr = (ap t.e.word is.mdr ∙ t.mdr) i;
-      pc = (ap t.e.word is.pc ∙ t.pc) i;
-      sp = (ap t.e.word is.sp ∙ t.sp) i;
-      lv = (ap t.e.word is.lv ∙ t.lv) i;
-      cpp = (is.cpp ∙ sym cpp) i;
-      tos = (ap t.e.word is.tos ∙ t.tos) i;
-      opc = (ap t.e.word is.opc ∙ t.opc) i;
-      h = (ap t.e.word is.h ∙ t.h) i;
-      mbr = (is.plain ∙ sym mbr) i;
-      mpc = entry;
-      word = (ap (word_in t.e.word) is.word ∙ sym word) i;
-      byte = (ap (byte_in t.e.word) is.byte ∙ sym byte) i;
-      entry = entry;
-      clocked = sym clocked i;
-    }
+  -- MBR and what is under way, by what the machine has under way
+  mbr_in : (b : Bool) (o : Option ℕ) → is_some o ≡ b → arrived o m.mbr ≡ opcode → t.e.word (if b then record { plain = 8; signed = 9 } else s.mbr).plain ≡ m.mbr
+  mbr_in true o h a = t.mbr
+  mbr_in false None h a = is.plain ∙ sym a
+  mbr_in false (Some x) h a = absurd (cc)
+
+  byte_under_way : (b : Bool) (o : Option ℕ) → is_some o ≡ b → arrived o m.mbr ≡ opcode → byte_in t.e.word (if b then Some s.mbr else None) ≡ o
+  byte_under_way true None h a = absurd (cc)
+  byte_under_way true (Some x) h a = ap Some (is.plain ∙ sym a)
+  byte_under_way false None h a = refl
+  byte_under_way false (Some x) h a = absurd (cc)
+
+  word_under_way : (b : Bool) (o : Option ℕ) → is_some o ≡ b → t.e.word 10 ≡ unwrap_or o 0 → word_in t.e.word (if b then Some 10 else None) ≡ o
+  word_under_way true None h a = absurd (cc)
+  word_under_way true (Some x) h a = ap Some a
+  word_under_way false None h a = refl
+  word_under_way false (Some x) h a = absurd (cc)
+
+  -- the symbols of a shape stand for a machine of that shape
+  pub stand_shaped : (shape : Shape) → shape_of m ≡ shape → (entry : ℕ) → m.mpc ≡ entry → m.entry ≡ entry →
+      micro_of t.e.word entry true (record (shaped_symbols shape s) { mpc = entry }) ≡ m
+  stand_shaped shape same entry mpc at =
+      λ i. record {
+        mar = (ap t.e.word is.mar ∙ t.mar) i;
+        mdr = (ap t.e.word is.mdr ∙ t.mdr) i;
+        pc = (ap t.e.word is.pc ∙ t.pc) i;
+        sp = (ap t.e.word is.sp ∙ t.sp) i;
+        lv = (ap t.e.word is.lv ∙ t.lv) i;
+        cpp = (is.cpp ∙ sym cpp) i;
+        tos = (ap t.e.word is.tos ∙ t.tos) i;
+        opc = (ap t.e.word is.opc ∙ t.opc) i;
+        h = (ap t.e.word is.h ∙ t.h) i;
+        mbr = mbr_in shape.byte m.byte (ap (λ (k : Shape). k.byte) same) code i;
+        mpc = sym mpc i;
+        word = word_under_way shape.word m.word (ap (λ (k : Shape). k.word) same) t.word i;
+        byte = byte_under_way shape.byte m.byte (ap (λ (k : Shape). k.byte) same) code i;
+        entry = sym at i;
+        clocked = sym clocked i;
+      }
+
+  sign_of : (b : Bool) → IsSigned t.e.word (if b then record { plain = 8; signed = 9 } else s.mbr)
+  sign_of true = ap signed_byte t.mbr ∙ sym t.sign
+  sign_of false = ap signed_byte is.plain ∙ sym is.signed
+
+  sign_to_come : (b : Bool) → IsSignedIn t.e.word (if b then Some s.mbr else None)
+  sign_to_come true = ap signed_byte is.plain ∙ sym is.signed
+  sign_to_come false = tt
+
+  pub signs_shaped : (shape : Shape) → HasSigns t.e.word (shaped_symbols shape s)
+  signs_shaped shape = record { mbr = sign_of shape.byte; byte = sign_to_come shape.byte }
 
 pub signs : (e : Environment) (opcode : ℕ) (s : Symbols) → IsStart e opcode s → HasSigns e.word s
 signs e opcode s is =

@@ -1,23 +1,24 @@
 -- What the first store's law says of the second.
-use Rattle.std.proofs.Common.{◌≡◌, ℕ, ◌+◌, ◌<◌, ◌==◌, ◌||◌, ◌&&◌, not, Bool, true, false, Option, Some, None, List, refl, sym, ap, ap₂, ◌∙◌, subst, arith}
-use Rattle.std.specs.Prelude.{drop, ◌++◌}
-use Rattle.console_port.specs.World.{World, Refusal, StackLimit, OutOfMap}
-use Rattle.mic_clock.specs.Meaning.{Outcome, Done, Refused}
+use Rattle.std.proofs.Common.{◌≡◌, ℕ, ◌+◌, ◌==◌, true, false, Option, Some, None, List, refl, sym, ap, ◌∙◌, subst, arith}
+use Rattle.std.specs.Prelude.{drop, ◌++◌, unwrap_or}
+use Rattle.mic_datapath.specs.Registers.{arrived}
+use Rattle.mic1_cycles.specs.declared.symbols.Byte.{Byte}
+use Rattle.mic1_checks.specs.Ready.{IsReadyOrArriving}
+use Rattle.console_port.specs.World.{World, StackLimit, OutOfMap}
+use Rattle.mic_clock.specs.Meaning.{Outcome, Refused}
 use Rattle.mic1_datapath.specs.Micro.{Micro}
 use Rattle.mic1_datapath.specs.Mic1.{mic1_meaning, IsReady}
 use Rattle.ijvm_meaning.specs.Frames.{State}
 use Rattle.ijvm_simulation.specs.Stands.{Origin, IsAt, RegistersStand}
-use Rattle.ijvm_simulation.specs.Passes.{Moment, is_inside, outcome_at, pass}
-use Rattle.ijvm_simulation.specs.Law.{Moves, Overruns}
+use Rattle.ijvm_simulation.specs.Passes.{Moment, is_inside, outcome_at}
 use Rattle.micro_terms.specs.Environment.{Environment}
-use Rattle.mic1_cycles.specs.declared.symbols.Write.{Write}
 use Rattle.mic1_cycles.specs.Trail.{Trail, world_of, given_by}
-use Rattle.mic1_cycles.specs.Symbols.{word_in, byte_in as byte_symbol}
+use Rattle.mic1_cycles.specs.Symbols.{byte_in as byte_symbol}
 use Rattle.mic1_cycles.specs.declared.path.Path.{Path}
 use Rattle.mic1_cycles.specs.Paths.{trail_of, refusal_of}
 use Rattle.mic1_cycles.specs.declared.refusal.Stop.TheVariants.{OutOfMap as Out}
 use Rattle.mic1_passes.specs.Moments.{moment}
-use Rattle.mic1_checks.specs.Transfer.{AreAlike, LeadAlike, Carries, Transfers, LimitAlike, TransfersLimits, OneEnd}
+use Rattle.mic1_checks.specs.Transfer.{AreAlike, Transfers, TransfersLimits, OneEnd}
 use Rattle.mic1_checks.proofs.Passes.{Same, only, only_refused, not_both}
 
 -- where MPC is the entry, no pass goes on
@@ -25,6 +26,11 @@ at_entry : (m : Micro) → m.mpc ≡ m.entry → m.clocked ≡ true → is_insid
 at_entry m e on =
     let t : (m.mpc == m.entry) ≡ true = grind (arith, e) in
     rw on (rw t refl)
+
+-- the byte that MBR has once what is under way has arrived
+came : (word : ℕ → ℕ) (o : Option Byte) (b : Byte) → arrived (byte_symbol word o) (word b.plain) ≡ word (unwrap_or o b).plain
+came word None b = refl
+came word (Some n) b = refl
 
 module _ (o : Origin) (stalls entry entry' : ℕ) (e : Environment) (last last' : Path) (s : State) (a : AreAlike entry entry' last last') where
   same_trail : trail_of last ≡ trail_of last'
@@ -34,7 +40,7 @@ module _ (o : Origin) (stalls entry entry' : ℕ) (e : Environment) (last last' 
   same_world = ap (λ (t : Trail). world_of e.word e.start t) same_trail
 
   stands : IsAt mic1_meaning IsReady entry o s (moment e stalls entry last).state (moment e stalls entry last).world →
-      IsAt mic1_meaning IsReady entry' o s (moment e stalls entry' last').state (moment e stalls entry' last').world
+      IsAt mic1_meaning IsReadyOrArriving entry' o s (moment e stalls entry' last').state (moment e stalls entry' last').world
   stands h =
       let held : RegistersStand o s (e.word last'.symbols.sp) (e.word last'.symbols.lv) (e.word last'.symbols.cpp) (e.word last'.symbols.tos) (moment e stalls entry' last').world =
       subst (λ (w : World). RegistersStand o s (e.word last'.symbols.sp) (e.word last'.symbols.lv) (e.word last'.symbols.cpp) (e.word last'.symbols.tos) w) same_world
@@ -46,12 +52,10 @@ module _ (o : Origin) (stalls entry entry' : ℕ) (e : Environment) (last last' 
         holds = held;
         ready = record {
           pc = ap e.word (sym a.pc) ∙ h.ready.pc;
-          mbr = ap e.word (sym a.opcode) ∙ h.ready.mbr;
+          opcode = came e.word last'.symbols.byte last'.symbols.mbr ∙ (ap e.word (sym a.opcode) ∙ h.ready.mbr);
           mpc = a.mpc';
           entry = refl;
           clocked = refl;
-          word = ap (word_in e.word) a.no_word;
-          byte = ap (byte_symbol e.word) a.no_byte;
         };
       }
 

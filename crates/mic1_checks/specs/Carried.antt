@@ -18,6 +18,8 @@ use Rattle.mic1_passes.specs.declared.run.Followed.{Followed}
 use Rattle.mic1_passes.specs.declared.run.Followed.TheVariants as ends
 use Rattle.mic1_checks.specs.declared.instruction.Instruction.{Instruction}
 use Rattle.mic1_checks.specs.declared.leaf.Counts.{Counts}
+use Rattle.mic1_checks.specs.declared.shape.Shape.{Shape}
+use Rattle.mic1_checks.specs.Ready.{IsReadyOrArriving, shape_of}
 use Rattle.mic1_checks.specs.Situation.{StandsBefore, Suits}
 use Rattle.mic1_checks.specs.Start.{start_moment}
 use Rattle.mic1_checks.specs.Transfer.{AreAlike, Carries}
@@ -43,24 +45,26 @@ pub record CarriedBy (leaves : List Counts) (store' before : List ℕ) (o : Orig
   pub is_leaf : Contains leaves counts
   pub carries : Carries store' before o entry' counts.first counts.second spent q' to
 
--- where the first store moves from this start, the second does, and where the first meets the stack's end, the second does
-pub record CarriesOver (e : Environment) (s : Symbols) (store store' : List ℕ) (entry entry' : ℕ) (leaves : List Counts) : Type 0 where
+-- where the first store moves from its start, the second does from its own, and where the first meets the stack's end, the second does
+pub record CarriesOver (e : Environment) (s s' : Symbols) (store store' : List ℕ) (entry entry' : ℕ) (leaves : List Counts) : Type 0 where
   pub moves : (before : List ℕ) (o : Origin) (stalls spent : ℕ) (to : State) →
       Moves mic1_meaning store (IsAt mic1_meaning IsReady entry o) before (start_moment e stalls entry s) spent to →
-      CarriedBy leaves store' before o entry' spent (start_moment e stalls entry' s) to
+      CarriedBy leaves store' before o entry' spent (start_moment e stalls entry' s') to
   pub limits : (before : List ℕ) (o : Origin) (stalls : ℕ) (left : State) →
       Overruns mic1_meaning store (IsAt mic1_meaning IsReady entry o) before (start_moment e stalls entry s) left →
-      Overruns mic1_meaning store' (IsAt mic1_meaning IsReady entry' o) before (start_moment e stalls entry' s) left
+      Overruns mic1_meaning store' (IsAt mic1_meaning IsReadyOrArriving entry' o) before (start_moment e stalls entry' s') left
 
 -- both ends of an instruction in the second store: the next boundary of the definition, or the stack's end
 pub record Onward (leaves : List Counts) (store' : List ℕ) (entry' : ℕ) (before : List ℕ) (timing : Timing) (v : VerifiedView) (o : Origin)
     (s : State) (q : Moment Micro) (i : Instr) : Type 0 where
   pub goes : (to : State) → Went v.image v.map.stack_end s to i → CarriedBy leaves store' before o entry' (cost v.image timing i s) q to
-  pub limits : (left : State) → Overran v.image v.map.stack_end s left i → Overruns mic1_meaning store' (IsAt mic1_meaning IsReady entry' o) before q left
+  pub limits : (left : State) → Overran v.image v.map.stack_end s left i →
+      Overruns mic1_meaning store' (IsAt mic1_meaning IsReadyOrArriving entry' o) before q left
 
--- If the first store takes what every instruction takes of a machine, the second takes what those of this kind take.
-abbrev pub CarriesInstruction : Instruction → List ℕ → List ℕ → ℕ → ℕ → List Counts → Type 0
-CarriesInstruction n store store' entry entry' leaves =
+-- If the first store takes what every instruction takes of a machine, the second takes what those of this kind take, where a
+-- machine of this shape stands.
+abbrev pub CarriesInstruction : Instruction → Shape → List ℕ → List ℕ → ℕ → ℕ → List Counts → Type 0
+CarriesInstruction n shape store store' entry entry' leaves =
     (before : List ℕ) (timing : Timing) (v : VerifiedView) (o : Origin) (s : State) (q : Moment Micro) (i : Instr) →
     Takes mic1_meaning store (IsAt mic1_meaning IsReady entry o) before timing v o (λ i. Unit {0}) →
-    StandsBefore entry' v o s q i → Suits n o s → Onward leaves store' entry' before timing v o s q i
+    StandsBefore entry' v o s q i → Suits n o s → shape_of q.state ≡ shape → Onward leaves store' entry' before timing v o s q i

@@ -1,5 +1,8 @@
+pub mod Boot
 pub mod Carried
+pub mod Ends
 pub mod Listed
+pub mod Ready
 pub mod Situation
 pub mod Start
 pub mod Transfer

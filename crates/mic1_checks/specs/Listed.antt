@@ -12,6 +12,7 @@ use Rattle.ijvm_simulation.specs.Passes.{Moment}
 use Rattle.ijvm_simulation.specs.Law.{Takes}
 use Rattle.mic1_checks.specs.declared.instruction.Instruction.{Instruction}
 use Rattle.mic1_checks.specs.declared.leaf.Counts.{Counts}
+use Rattle.mic1_checks.specs.declared.shape.Shape.{Shape}
 use Rattle.mic1_checks.specs.Situation.{StandsBefore}
 use Rattle.mic1_checks.specs.Carried.{CarriesInstruction, Onward}
 
@@ -28,10 +29,10 @@ instructions =
     plain 0x60 ∷ plain 0x64 ∷ plain 0x7E ∷ plain 0x84 ∷ plain 0x99 ∷ plain 0x9B ∷ plain 0x9F ∷ plain 0xA7 ∷
     plain 0xAC ∷ plain 0xB0 ∷ plain 0x80 ∷ plain 0xB6 ∷ wide 0x15 ∷ wide 0x36 ∷ wide 0x84 ∷ plain 0xFC ∷ plain 0xFD ∷ []
 
--- the second store takes of each of these kinds what the first takes
-abbrev pub CarriesEach : List Instruction → List ℕ → List ℕ → ℕ → ℕ → List Counts → Type 0
-CarriesEach all store store' entry entry' leaves =
-    (k : ℕ) → k < length all → CarriesInstruction (slice_index_or all k (plain 0)) store store' entry entry' leaves
+-- a machine of this shape with the second store takes of each of these kinds what the first takes
+abbrev pub CarriesEach : List Instruction → Shape → List ℕ → List ℕ → ℕ → ℕ → List Counts → Type 0
+CarriesEach all shape store store' entry entry' leaves =
+    (k : ℕ) → k < length all → CarriesInstruction (slice_index_or all k (plain 0)) shape store store' entry entry' leaves
 
 -- If the first store takes what every instruction takes of a machine, the second takes what every one takes that does
 -- not end the run.

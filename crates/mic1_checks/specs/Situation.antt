@@ -6,7 +6,7 @@ use Rattle.ijvm_instr.specs.declared.instr.Instr.{Instr}
 use Rattle.ijvm_meaning.specs.Frames.{State}
 use Rattle.verifier_facts.specs.Accepted.{VerifiedView}
 use Rattle.mic1_datapath.specs.Micro.{Micro}
-use Rattle.mic1_datapath.specs.Mic1.{mic1_meaning, IsReady}
+use Rattle.mic1_datapath.specs.Mic1.{mic1_meaning}
 use Rattle.ijvm_simulation.specs.Stands.{Origin, IsAt, RegistersStand}
 use Rattle.ijvm_simulation.specs.Passes.{Moment}
 use Rattle.ijvm_simulation.specs.Verified.{Loads, Fine, IsNext}
@@ -15,6 +15,7 @@ use Rattle.mic1_cycles.specs.declared.known.Known.{Known}
 use Rattle.mic1_cycles.specs.declared.symbols.Symbols.{Symbols}
 use Rattle.mic1_cycles.specs.Known.{Knows}
 use Rattle.mic1_checks.specs.declared.instruction.Instruction.{Instruction}
+use Rattle.mic1_checks.specs.Ready.{IsReadyOrArriving}
 use Rattle.mic1_checks.specs.Start.{IsStart}
 use Rattle.mic1_checks.specs.Words.{HasWords}
 
@@ -28,7 +29,7 @@ pub record StandsBefore (entry : ℕ) (v : VerifiedView) (o : Origin) (s : State
   pub loads : Loads v o
   pub fine : Fine v s
   pub next : IsNext v o s i
-  pub at : IsAt mic1_meaning IsReady entry o s q.state q.world
+  pub at : IsAt mic1_meaning IsReadyOrArriving entry o s q.state q.world
   pub words : HasWords q.state q.world
 
 -- symbols start at such an instruction

@@ -1,5 +1,5 @@
 -- The boundary from which symbolic runs start: its numbers, and the moment that it stands for.
-use Rattle.std.specs.Prelude.{◌≡◌, ℕ, true, List, [], ◌∷◌, Some, None, slice_get}
+use Rattle.std.specs.Prelude.{◌≡◌, ℕ, true, List, [], ◌∷◌, Some, None, if◌then◌else◌, slice_get}
 use Rattle.mic_words.specs.Arithmetic.{signed_byte}
 use Rattle.mic1_datapath.specs.Micro.{Micro}
 use Rattle.ijvm_simulation.specs.Passes.{Moment}
@@ -9,6 +9,7 @@ use Rattle.micro_terms.specs.declared.node.Node.TheVariants.{Free}
 use Rattle.micro_terms.specs.declared.range.Range.{Range}
 use Rattle.mic1_cycles.specs.declared.symbols.Symbols.{Symbols}
 use Rattle.mic1_cycles.specs.Symbols.{micro_of}
+use Rattle.mic1_checks.specs.declared.shape.Shape.{Shape}
 
 -- the numbers of the registers, and the words of those that are known
 pub record IsStart (e : Environment) (opcode : ℕ) (s : Symbols) : Type 0 where
@@ -26,7 +27,7 @@ pub record IsStart (e : Environment) (opcode : ℕ) (s : Symbols) : Type 0 where
   pub plain : e.word s.mbr.plain ≡ opcode
   pub signed : e.word s.mbr.signed ≡ signed_byte opcode
 
--- the first eight numbers are free
+-- the first eleven numbers are free
 pub record HasRegisters (table : List Node) : Type 0 where
   pub mar : slice_get table 0 ≡ Some Free
   pub mdr : slice_get table 1 ≡ Some Free
@@ -36,6 +37,18 @@ pub record HasRegisters (table : List Node) : Type 0 where
   pub tos : slice_get table 5 ≡ Some Free
   pub opc : slice_get table 6 ≡ Some Free
   pub h : slice_get table 7 ≡ Some Free
+  pub mbr : slice_get table 8 ≡ Some Free
+  pub sign : slice_get table 9 ≡ Some Free
+  pub word : slice_get table 10 ≡ Some Free
+
+-- the symbols with what is under way in a machine of this shape, and with any byte in MBR if the opcode is still to come
+abbrev pub shaped_symbols : Shape → Symbols → Symbols
+shaped_symbols shape s =
+    record s {
+      mbr = if shape.byte then record { plain = 8; signed = 9 } else s.mbr;
+      word = if shape.word then Some 10 else None;
+      byte = if shape.byte then Some s.mbr else None;
+    }
 
 -- where PC, SP and LV are at each boundary of an accepted image's run: in the text, and in the stack or just below it
 abbrev pub register_ranges : List Range

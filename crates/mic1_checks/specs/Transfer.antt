@@ -1,5 +1,5 @@
 -- When the passes of two control stores end alike, and what then carries over from the first store to the second.
-use Rattle.std.specs.Prelude.{◌≡◌, ℕ, ◌+◌, ◌<◌, ◌==◌, false, List, Some, None}
+use Rattle.std.specs.Prelude.{◌≡◌, ℕ, ◌+◌, ◌<◌, ◌==◌, false, List, Some, unwrap_or}
 use Rattle.mic1_datapath.specs.Micro.{Micro}
 use Rattle.mic1_datapath.specs.Mic1.{mic1_meaning, IsReady}
 use Rattle.ijvm_meaning.specs.Frames.{State}
@@ -11,20 +11,19 @@ use Rattle.mic1_cycles.specs.declared.path.Path.{Path}
 use Rattle.mic1_cycles.specs.declared.refusal.Stop.{Stop}
 use Rattle.mic1_cycles.specs.declared.refusal.Stop.TheVariants.{Limit, OutOfMap}
 use Rattle.mic1_passes.specs.Moments.{moment, StopsAt}
+use Rattle.mic1_checks.specs.Ready.{IsReadyOrArriving}
 use Rattle.mic1_checks.specs.Words.{HasWords}
 
--- two paths have come to boundaries, each of its own entry, and have the same numbers there
+-- two paths have come to boundaries, each of its own entry, and have the same numbers there; of the second, the opcode may be under way
 pub record AreAlike (entry entry' : ℕ) (p p' : Path) : Type 0 where
   pub sp : p.symbols.sp ≡ p'.symbols.sp
   pub lv : p.symbols.lv ≡ p'.symbols.lv
   pub cpp : p.symbols.cpp ≡ p'.symbols.cpp
   pub tos : p.symbols.tos ≡ p'.symbols.tos
   pub pc : p.symbols.pc ≡ p'.symbols.pc
-  pub opcode : p.symbols.mbr.plain ≡ p'.symbols.mbr.plain
+  pub opcode : p.symbols.mbr.plain ≡ (unwrap_or p'.symbols.byte p'.symbols.mbr).plain
   pub mpc : p.symbols.mpc ≡ entry
   pub mpc' : p'.symbols.mpc ≡ entry'
-  pub no_word : p'.symbols.word ≡ None
-  pub no_byte : p'.symbols.byte ≡ None
   pub writes : p.writes.items ≡ p'.writes.items
   pub taken : p.taken ≡ p'.taken
   pub given : p.given.items ≡ p'.given.items
@@ -46,7 +45,7 @@ pub record LeadAlike (store store' : List ℕ) (stalls entry entry' n n' : ℕ) 
 -- what the second store takes, if the first one has spent n + 1 cycles; words are left there
 pub record Carries (store' before : List ℕ) (o : Origin) (entry' n n' spent : ℕ) (q' : Moment Micro) (to : State) : Type 0 where
   pub spent_is : spent ≡ n + 1
-  pub moves : Moves mic1_meaning store' (IsAt mic1_meaning IsReady entry' o) before q' (n' + 1) to
+  pub moves : Moves mic1_meaning store' (IsAt mic1_meaning IsReadyOrArriving entry' o) before q' (n' + 1) to
   pub words : HasWords moves.there.state moves.there.world
 
 abbrev pub Transfers : Type 0
@@ -70,7 +69,7 @@ TransfersLimits =
     (store store' before : List ℕ) (o : Origin) (stalls entry entry' n n' : ℕ) (e : Environment) (first first' last last' : Path) (left : State) →
     LimitAlike store store' stalls entry entry' n n' e first first' last last' →
     Overruns mic1_meaning store (IsAt mic1_meaning IsReady entry o) before (moment e stalls entry first) left →
-    Overruns mic1_meaning store' (IsAt mic1_meaning IsReady entry' o) before (moment e stalls entry' first') left
+    Overruns mic1_meaning store' (IsAt mic1_meaning IsReadyOrArriving entry' o) before (moment e stalls entry' first') left
 
 -- A pass comes to one end alone: what leads to a boundary overruns no stack, and what is refused leads to no boundary.
 pub record OneEnd : Type 0 where

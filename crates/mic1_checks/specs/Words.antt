@@ -1,13 +1,14 @@
 -- That the registers and the memory of a Mic-1 hold words, which its meaning alone does not say.
-use Rattle.std.specs.Prelude.{◌<◌, ℕ, List, [], ◌∷◌, slice_index}
+use Rattle.std.specs.Prelude.{◌<◌, ℕ, List, [], ◌∷◌, slice_index, unwrap_or}
 use Rattle.std.specs.List.{All}
 use Rattle.console_port.specs.World.{World}
+use Rattle.mic_words.specs.Arithmetic.{signed_byte}
 use Rattle.mic1_datapath.specs.Micro.{Micro}
 
--- the registers that a boundary leaves free, in the order of their numbers
-abbrev pub registers_in : Micro → List ℕ
-registers_in m = m.mar ∷ m.mdr ∷ m.pc ∷ m.sp ∷ m.lv ∷ m.tos ∷ m.opc ∷ m.h ∷ []
+-- what a boundary leaves free, in the order of the numbers: eight registers, MBR without and with its sign, and the word under way
+abbrev pub free_words : Micro → List ℕ
+free_words m = m.mar ∷ m.mdr ∷ m.pc ∷ m.sp ∷ m.lv ∷ m.tos ∷ m.opc ∷ m.h ∷ m.mbr ∷ signed_byte m.mbr ∷ unwrap_or m.word 0 ∷ []
 
 pub record HasWords (m : Micro) (w : World) : Type 0 where
-  pub registers : All (λ x. x < 4294967296) (registers_in m)
+  pub registers : All (λ x. x < 4294967296) (free_words m)
   pub memory : (i : ℕ) → slice_index w.words i < 4294967296

@@ -48,8 +48,8 @@ fn have_given(a: &[u32], b: &[u32]) -> bool
     a == b
 }
 
-/// Whether two paths are at boundaries with the same numbers in SP, LV, CPP, TOS and PC, the same byte in MBR, and the
-/// same writes and console. The other registers are free at a boundary.
+/// Whether two paths are at boundaries with the same numbers in SP, LV, CPP, TOS and PC, the same opcode in MBR, or of
+/// the second on the way there, and the same writes and console. The other registers are free at a boundary.
 fn are_alike(p: &Path, q: &Path, entry: u16, other_entry: u16) -> bool
     ensures { IsTrue result → AreAlike entry other_entry p.now q.now }
 {
@@ -59,16 +59,14 @@ fn are_alike(p: &Path, q: &Path, entry: u16, other_entry: u16) -> bool
     {
         return false;
     }
+    let opcode = q.symbols.byte.unwrap_or(q.symbols.mbr);
     if p.symbols.tos != q.symbols.tos
         || p.symbols.pc != q.symbols.pc
-        || p.symbols.mbr.plain != q.symbols.mbr.plain
+        || p.symbols.mbr.plain != opcode.plain
     {
         return false;
     }
     if p.symbols.mpc != entry || q.symbols.mpc != other_entry || p.taken != q.taken {
-        return false;
-    }
-    if q.symbols.word.is_some() || q.symbols.byte.is_some() {
         return false;
     }
     have_written(&p.writes, &q.writes) && have_given(&p.given, &q.given)
@@ -105,15 +103,17 @@ fn at_limit(b: Followed, p: &Path, q: &Path) -> Tried
     Tried::Stopped
 }
 
-fn is_no_end(entry: u16) -> bool
+/// Whether the address is no end of a run.
+pub fn is_no_end(entry: u16) -> bool
     ensures { IsTrue result → IsNoEnd entry }
 {
     entry != 0x0FF && entry != 0x0FE
 }
 
-/// Follows both stores under these answers, and compares where they come.
+/// Follows both stores under these answers, the first from `s` and the second from `t`, and compares where they come.
 pub fn attempt(
     s: &Symbols,
+    t: &Symbols,
     store: &Store,
     entry: u16,
     other: &Store,
@@ -125,10 +125,12 @@ pub fn attempt(
 ) -> Result<Tried, AllocError>
     requires machine { store.now.machine ≡ Mic1 }
     requires other { other.now.machine ≡ Mic1 }
-    ensures alike { (c : Counts) → result ≡ Ok (Tried.Alike c) → Holds nodes.new (λ e. IsKnown e known.now → HasSigns e.word s.now → AreAnswered e answers.now →
-        CarriesOver e s.now store.now.words other.now.words entry other_entry (c ∷ [])) }
-    ensures stopped { result ≡ Ok Tried.Stopped → Holds nodes.new (λ e. IsKnown e known.now → HasSigns e.word s.now → AreAnswered e answers.now →
-        CarriesOver e s.now store.now.words other.now.words entry other_entry []) }
+    ensures alike { (c : Counts) → result ≡ Ok (Tried.Alike c) →
+        Holds nodes.new (λ e. IsKnown e known.now → HasSigns e.word s.now → HasSigns e.word t.now → AreAnswered e answers.now →
+        CarriesOver e s.now t.now store.now.words other.now.words entry other_entry (c ∷ [])) }
+    ensures stopped { result ≡ Ok Tried.Stopped →
+        Holds nodes.new (λ e. IsKnown e known.now → HasSigns e.word s.now → HasSigns e.word t.now → AreAnswered e answers.now →
+        CarriesOver e s.now t.now store.now.words other.now.words entry other_entry []) }
     ensures grows { Grows nodes.old nodes.new }
 {
     transfer_law();
@@ -136,7 +138,7 @@ pub fn attempt(
         return Ok(Tried::Unlike);
     }
     let mut first = path_from(s, entry, answers, alloc)?;
-    let mut second = path_from(s, other_entry, answers, alloc)?;
+    let mut second = path_from(t, other_entry, answers, alloc)?;
     let a = follow(&mut first, store, entry, nodes, known, alloc)?;
     if let Followed::Asks(answer) = a {
         return Ok(Tried::Asks(answer));

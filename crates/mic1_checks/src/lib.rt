@@ -3,17 +3,23 @@
 #![tactic(auto)]
 
 mod all;
+mod boot;
 mod check;
+mod ends;
 mod facts;
 mod instruction;
 mod laws;
 mod leaf;
 mod registers;
+mod shape;
 mod start;
 mod tree;
 
 pub use all::takes_alike;
+pub use boot::boot_alike;
 pub use check::instruction_alike;
+pub use ends::{Ends, ends_of};
 pub use instruction::Instruction;
 pub use laws::transfer_law;
 pub use leaf::Counts;
+pub use shape::Shape;

@@ -5,8 +5,9 @@ ghost use Rattle.mic1_checks.specs.Start.{HasRegisters, register_ranges};
 use micro_terms::{Node, Nodes, Range};
 use std::alloc::{AllocError, Global};
 
-/// How many registers a boundary leaves free: MAR, MDR, PC, SP, LV, TOS, OPC and H, in the order of their numbers.
-const REGISTERS: u32 = 8;
+/// How many numbers a boundary leaves free: MAR, MDR, PC, SP, LV, TOS, OPC, H, MBR without and with its sign, and the
+/// word under way.
+const REGISTERS: u32 = 11;
 
 const ANY: Range = Range {
     low: 0,
@@ -33,7 +34,7 @@ fn is_free(table: &[Node], i: usize) -> bool
     }
 }
 
-/// Whether the first eight numbers are free.
+/// Whether the first eleven numbers are free.
 pub fn has_registers(table: &[Node]) -> bool
     ensures { IsTrue result → HasRegisters table.now }
 {
@@ -45,6 +46,9 @@ pub fn has_registers(table: &[Node]) -> bool
         && is_free(table, 5)
         && is_free(table, 6)
         && is_free(table, 7)
+        && is_free(table, 8)
+        && is_free(table, 9)
+        && is_free(table, 10)
 }
 
 /// Where the registers are at each boundary.

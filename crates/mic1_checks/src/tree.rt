@@ -26,6 +26,7 @@ fn with(answers: &[Answer], more: Answer, alloc: Global) -> Result<Vec<Answer>, 
 /// `depth` more. The counts of each leaf where both come to a boundary are added to `leaves`.
 pub fn explore(
     s: &Symbols,
+    t: &Symbols,
     store: &Store,
     entry: u16,
     other: &Store,
@@ -39,13 +40,15 @@ pub fn explore(
 ) -> Result<bool, AllocError>
     requires machine { store.now.machine ≡ Mic1 }
     requires other { other.now.machine ≡ Mic1 }
-    ensures carries { result ≡ Ok true → Holds nodes.new (λ e. IsKnown e known.now → HasSigns e.word s.now → AreAnswered e answers.now →
-        CarriesOver e s.now store.now.words other.now.words entry other_entry leaves.new.items) }
+    ensures carries { result ≡ Ok true →
+        Holds nodes.new (λ e. IsKnown e known.now → HasSigns e.word s.now → HasSigns e.word t.now → AreAnswered e answers.now →
+        CarriesOver e s.now t.now store.now.words other.now.words entry other_entry leaves.new.items) }
     ensures grows { Grows nodes.old nodes.new }
     ensures kept { (c : Counts) → Contains leaves.old.items c → Contains leaves.new.items c }
 {
     match attempt(
         s,
+        t,
         store,
         entry,
         other,
@@ -67,6 +70,7 @@ pub fn explore(
             let yes = with(answers, Answer { is: true, ..answer }, alloc)?;
             if !explore(
                 s,
+                t,
                 store,
                 entry,
                 other,
@@ -90,6 +94,7 @@ pub fn explore(
             )?;
             explore(
                 s,
+                t,
                 store,
                 entry,
                 other,

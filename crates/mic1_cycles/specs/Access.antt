@@ -38,7 +38,8 @@ module _ (word : ℕ → ℕ) (start : World) where
         IsTransferred mems.Write p t None (record t { given = t.given ++ value ∷ [] })
     pub no_fetch : (p : Ports) (t : Trail) → IsFetched false p t None
     pub fetches : (p : Ports) (t : Trail) (byte : Byte) → p.pc / 4 < length start.words →
-        word byte.plain ≡ byte_in (written_by word t.writes start.words) p.pc → word byte.signed ≡ signed_byte (word byte.plain) → IsFetched true p t (Some byte)
+        word byte.plain ≡ byte_in (written_by word t.writes start.words) p.pc → word byte.signed ≡ signed_byte (word byte.plain) →
+        IsFetched true p t (Some byte)
 
 -- Where accesses lead, by the place that they reach.
 abbrev pub AccessLaw : Type 0

@@ -42,4 +42,5 @@ pub record AreRefused (e : Environment) (mem : Mem) (fetch : Bool) (why : Stop) 
 -- the statement's microstep is refused where the path stands
 pub record MeetsRefusal (e : Environment) (s : Placed) (why : Stop) (p : Path) : Type 0 where
   pub at : ℕ
-  pub step : (entry : ℕ) (clocked : Bool) → microstep s (micro_of e.word entry clocked p.symbols) (world_of e.word e.start (trail_of p)) ≡ Refused (refusal_of why at)
+  pub step : (entry : ℕ) (clocked : Bool) →
+      microstep s (micro_of e.word entry clocked p.symbols) (world_of e.word e.start (trail_of p)) ≡ Refused (refusal_of why at)

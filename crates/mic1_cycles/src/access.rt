@@ -93,7 +93,8 @@ fn unwritten_byte(
     known: &Known,
     alloc: Global,
 ) -> Result<Option<Byte>, AllocError>
-    ensures value { IfOk result (λ found. IfSome found (λ b. Holds nodes.new (λ e. Knows e known.now → IsByteIn e (written_by e.word writes.now e.start.words) at b))) }
+    ensures value { IfOk result (λ found. IfSome found (λ b. Holds nodes.new (λ e. Knows e known.now →
+        IsByteIn e (written_by e.word writes.now e.start.words) at b))) }
     ensures grows { Grows nodes.old nodes.new }
 {
     if !is_below(at, 0x20000, nodes, known) {
@@ -114,7 +115,8 @@ pub fn byte_at(
     known: &Known,
     alloc: Global,
 ) -> Result<Byte, AllocError>
-    ensures value { IfOk result (λ b. Holds nodes.new (λ e. Knows e known.now → e.word at / 4 < length e.start.words → IsByteIn e (written_by e.word writes.now e.start.words) at b)) }
+    ensures value { IfOk result (λ b. Holds nodes.new (λ e. Knows e known.now → e.word at / 4 < length e.start.words →
+        IsByteIn e (written_by e.word writes.now e.start.words) at b)) }
     ensures grows { Grows nodes.old nodes.new }
 {
     if let Some(byte) = unwritten_byte(at, writes, nodes, known, alloc)? {
@@ -143,7 +145,8 @@ pub fn read_at(
     known: &Known,
     alloc: Global,
 ) -> Result<Option<Read>, AllocError>
-    ensures value { IfOk result (λ found. IfSome found (λ r. Holds nodes.new (λ e. Knows e known.now → AreAnswered e answers.now → Reads e at writes.now taken r.word r.taken))) }
+    ensures value { IfOk result (λ found. IfSome found (λ r. Holds nodes.new (λ e. Knows e known.now → AreAnswered e answers.now →
+        Reads e at writes.now taken r.word r.taken))) }
     ensures grows { Grows nodes.old nodes.new }
 {
     match site_of(at, nodes, known, answers) {

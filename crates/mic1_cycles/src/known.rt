@@ -58,7 +58,8 @@ pub fn are_above(writes: &[Write], nodes: &Nodes, known: &Known) -> bool
 
 /// The byte at the byte address of a number, if it is known.
 pub fn known_byte(at: u32, bytes: &[KnownByte]) -> Option<u8>
-    ensures { IfSome result (λ byte. (e : Environment) → All (λ b. byte_in e.start.words (e.word b.at) ≡ b.byte) bytes.now → byte_in e.start.words (e.word at) ≡ byte) }
+    ensures { IfSome result (λ byte. (e : Environment) → All (λ b. byte_in e.start.words (e.word b.at) ≡ b.byte) bytes.now →
+        byte_in e.start.words (e.word at) ≡ byte) }
 {
     for known in bytes {
         if known.at == at {

@@ -65,7 +65,8 @@ fn fetch(
 impl Path {
     /// Writes to memory or to the console; `Ok(false)` if it is not known to which.
     fn put(&mut self, at: u32, value: u32, nodes: &Nodes, known: &Known) -> Result<bool, AllocError>
-        ensures value { result ≡ Ok true → (s : Symbols) → s.mar ≡ at → s.mdr ≡ value → Holds nodes.now (λ e. Knows e known.now → AreAnswered e self.old.answers.items →
+        ensures value { result ≡ Ok true → (s : Symbols) → s.mar ≡ at → s.mdr ≡ value →
+            Holds nodes.now (λ e. Knows e known.now → AreAnswered e self.old.answers.items →
             IsTransferred e.word e.start Mem.Write (ports_of e.word e.start s) (trail_of self.old) None (trail_of self.new)) }
         ensures symbols { self.new.symbols ≡ self.old.symbols }
         ensures answers { self.new.answers.items ≡ self.old.answers.items }
@@ -138,7 +139,8 @@ impl Path {
         alloc: Global,
     ) -> Result<Stepped, AllocError>
         ensures done { result ≡ Ok Stepped.Done → Holds nodes.new (λ e. Knows e known.now → IsPath e self.old → LeadsOn e p.now self.old self.new) }
-        ensures refused { (why : Stop) → result ≡ Ok (Stepped.Refused why) → Holds nodes.new (λ e. Knows e known.now → IsPath e self.old → MeetsRefusal e p.now why self.old) }
+        ensures refused { (why : Stop) → result ≡ Ok (Stepped.Refused why) →
+            Holds nodes.new (λ e. Knows e known.now → IsPath e self.old → MeetsRefusal e p.now why self.old) }
         ensures stays { (why : Stop) → result ≡ Ok (Stepped.Refused why) → self.new ≡ self.old }
         ensures grows { Grows nodes.old nodes.new }
     {

@@ -1,20 +1,17 @@
 -- One microstep of a pass.
-use Rattle.std.proofs.Common.{◌≡◌, ◌≢◌, ◌+◌, ◌==◌, ◌||◌, ℕ, suc, Bool, true, false, not, List, Option, Some, None, IsTrue, refl, sym, ap, ◌∙◌, subst, arith}
+use Rattle.std.proofs.Common.{◌≡◌, ◌≢◌, ◌+◌, ◌==◌, ◌||◌, ℕ, suc, Bool, true, false, not, List, Option, Some, None, IsTrue, refl, sym, ap, ◌∙◌, arith}
 use Rattle.std.specs.Prelude.{slice_index}
-use Rattle.console_port.specs.World.{World}
 use Rattle.mic_words.specs.declared.machine.Machine.TheVariants.{Mic1}
 use Rattle.micro_word.specs.Coding.{microword_of}
 use Rattle.micro_word.specs.Words.{is_valid}
 use Rattle.micro_word.specs.declared.statement.Placed.{Placed}
-use Rattle.mic_clock.specs.Meaning.{Outcome, Done, Refused}
-use Rattle.mic_clock.specs.Run.{number_of}
+use Rattle.mic_clock.specs.Meaning.{Done, Refused}
 use Rattle.mic1_datapath.specs.Micro.{Micro}
-use Rattle.mic1_datapath.specs.Mic1.{mic1_meaning, microstep, driven, StepsAsSpelled}
+use Rattle.mic1_datapath.specs.Mic1.{mic1_meaning, driven, StepsAsSpelled}
 use Rattle.ijvm_simulation.specs.Passes.{Moment, pass, last, onward, outcome_at, stalls_at, is_inside}
 use Rattle.micro_terms.specs.Environment.{Environment}
-use Rattle.mic1_cycles.specs.Cycle.{LeadsTo}
 use Rattle.mic1_cycles.specs.declared.path.Path.{Path}
-use Rattle.mic1_cycles.specs.Paths.{LeadsOn, MeetsRefusal, refusal_of, trail_of}
+use Rattle.mic1_cycles.specs.Paths.{LeadsOn, MeetsRefusal, refusal_of}
 use Rattle.mic1_cycles.specs.declared.refusal.Stop.{Stop}
 use Rattle.mic1_passes.specs.Moments.{StopsAt, moment}
 

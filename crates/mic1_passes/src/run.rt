@@ -26,10 +26,12 @@ pub enum Followed {
     Limit(u32),
     /// Before an access at an address where the map has nothing.
     OutOfMap(u32),
+    /// Where MPC is 0x0FE or 0x0FF, an end of the run.
+    End(u32),
     /// Before a question that it has not answered.
     Asks(Answer),
-    /// Where it is not known how to go on: at an end of the run, at a word that spells no statement, after too many
-    /// cycles, or refused in the first one.
+    /// Where it is not known how to go on: at a word that spells no statement, after too many cycles, or refused in the
+    /// first one.
     Unknown,
 }
 
@@ -38,6 +40,7 @@ fn refused(cycles: u32, why: Stop) -> Followed
     ensures limit { (n : ℕ) → result ≡ Followed.Limit n → (cycles ≡ n + 1) × (why ≡ Stop.Limit) }
     ensures out { (n : ℕ) → result ≡ Followed.OutOfMap n → (cycles ≡ n + 1) × (why ≡ Stop.OutOfMap) }
     ensures boundary { (n : ℕ) → result ≡ Followed.Boundary n → ⊥ }
+    ensures end { (n : ℕ) → result ≡ Followed.End n → ⊥ }
 {
     if cycles == 0 {
         return Followed::Unknown;
@@ -59,6 +62,8 @@ pub fn follow(
 ) -> Result<Followed, AllocError>
     requires machine { store.now.machine ≡ Mic1 }
     ensures boundary { (n stalls : ℕ) → result ≡ Ok (Followed.Boundary n) → Holds nodes.new (λ e. Knows e known.now → IsPath e path.old →
+        IsPath e path.new × (pass mic1_meaning store.now.words n (moment e stalls entry path.old) ≡ Some (moment e stalls entry path.new))) }
+    ensures end { (n stalls : ℕ) → result ≡ Ok (Followed.End n) → Holds nodes.new (λ e. Knows e known.now → IsPath e path.old →
         IsPath e path.new × (pass mic1_meaning store.now.words n (moment e stalls entry path.old) ≡ Some (moment e stalls entry path.new))) }
     ensures limit { (n stalls : ℕ) → result ≡ Ok (Followed.Limit n) → Holds nodes.new (λ e. Knows e known.now → IsPath e path.old →
         StopsAt e store.now.words stalls entry n Stop.Limit path.old path.new) }
@@ -86,7 +91,7 @@ pub fn follow(
             return Ok(Followed::Boundary(n));
         }
         if to == 0x0FE || to == 0x0FF {
-            return Ok(Followed::Unknown);
+            return Ok(Followed::End(n));
         }
     }
     Ok(Followed::Unknown)

@@ -1,14 +1,11 @@
-use Rattle.std.proofs.Common.{◌≡◌, ℕ, ◌==◌, false, refl, Result, Ok, [], ◌∷◌, sym, ap, ◌∙◌, subst}
+use Rattle.std.proofs.Common.{refl, Result, Ok, sym, ap, ◌∙◌, subst}
 use Rattle.std.specs.declared.alloc.AllocError.{AllocError}
 use Rattle.micro_terms.specs.Meaning.{Fits}
-use Rattle.mic1_cycles.specs.declared.refusal.Stop.TheVariants as stops
-use Rattle.mic1_passes.specs.Moments.{StopsAt}
 use Rattle.mic1_passes.specs.declared.run.Followed.TheVariants as followed
-use Rattle.mic1_checks.specs.Transfer.{IsNoEnd, LeadAlike, LimitAlike}
-use Rattle.mic1_checks.specs.declared.leaf.Counts.{Counts}
+use Rattle.mic1_checks.specs.Transfer.{IsNoEnd}
 use Rattle.mic1_checks.specs.declared.leaf.Tried.{Tried}
 use Rattle.mic1_checks.specs.declared.leaf.Tried.TheVariants.{Unlike}
-use Rattle.mic1_checks.specs.Carried.{AreAtBoundary, AreAtLimit, CarriesOver}
+use Rattle.mic1_checks.specs.Carried.{AreAtBoundary, AreAtLimit}
 use Rattle.mic1_checks.proofs.KeptWords.{has_words}
 use Rattle.mic1_checks.proofs.Leaves.{alike, limited, refused}
 use Rattle.mic1_checks.proofs.leaf.attempt.Goals as goal
@@ -19,8 +16,9 @@ tried_in _ = Unlike
 
 pub returns-in-Boundary-clause-alike : goal.returns-in-Boundary-clause-alike
 unfolding tried_in
-returns-in-Boundary-clause-alike c k is e fits known signs answered =
+returns-in-Boundary-clause-alike c k is e fits known signs signs' answered =
     let s = c.args.s.now in
+    let t = c.args.t.now in
     let store = c.args.store.now.words in
     let other = c.args.other.now.words in
     let entry = c.args.entry in
@@ -32,9 +30,9 @@ returns-in-Boundary-clause-alike c k is e fits known signs answered =
     let mid : Fits e c.follow.new.nodes.nodes.items = c.in_ok-b.ensures.grows e fits in
     let ends : AreAtBoundary entry entry' c.in-Boundary.n c.in_ok-b.b k last last' = c.at_boundary.ensures.alike k (ap tried_in is) in
     let path = c.in_ok-first.ensures.path e signs answered in
-    let path' = c.in_ok-second.ensures.path e signs answered in
+    let path' = c.in_ok-second.ensures.path e signs' answered in
     let begins : IsNoEnd second.symbols.mpc = subst IsNoEnd (sym c.in_ok-second.ensures.mpc) (c.if-not-is_no_end.ensures refl) in
-    alike e s store other entry entry' c.transfer_law.ensures.one first last (c.in_ok-first.ensures.moment e) second last' (c.in_ok-second.ensures.moment e)
+    alike e s t store other entry entry' c.transfer_law.ensures.one first last (c.in_ok-first.ensures.moment e) second last' (c.in_ok-second.ensures.moment e)
     c.transfer_law.ensures.moves k (λ stalls.
     let p1 = c.in_ok-a.ensures.boundary k.first stalls (λ i. Ok ((c.in-Boundary.is ∙ ap followed.Boundary ends.first) i)) e mid known.knows path in
     let p2 = c.in_ok-b.ensures.boundary k.second stalls (λ i. Ok (ends.second i)) e fits known.knows path' in
@@ -43,14 +41,15 @@ returns-in-Boundary-clause-alike c k is e fits known signs answered =
       passes = p1.1;
       passes' = p2.1;
       alike = ends.alike;
-      words = has_words e c.follow-2.new.nodes.nodes.items fits known.words stalls entry' last';
+      words = has_words e c.follow-2.new.nodes.nodes.items fits known.words stalls entry' last' p2.0;
       short = ends.short;
     })
 
 pub returns-in-Limit-clause-stopped : goal.returns-in-Limit-clause-stopped
 unfolding tried_in
-returns-in-Limit-clause-stopped c is e fits known signs answered =
+returns-in-Limit-clause-stopped c is e fits known signs signs' answered =
     let s = c.args.s.now in
+    let t = c.args.t.now in
     let store = c.args.store.now.words in
     let other = c.args.other.now.words in
     let entry = c.args.entry in
@@ -62,9 +61,9 @@ returns-in-Limit-clause-stopped c is e fits known signs answered =
     let mid : Fits e c.follow.new.nodes.nodes.items = c.in_ok-b.ensures.grows e fits in
     let ends : AreAtLimit c.in_ok-b.b last last' = c.at_limit.ensures.stopped (ap tried_in is) in
     let path = c.in_ok-first.ensures.path e signs answered in
-    let path' = c.in_ok-second.ensures.path e signs answered in
+    let path' = c.in_ok-second.ensures.path e signs' answered in
     let begins : IsNoEnd second.symbols.mpc = subst IsNoEnd (sym c.in_ok-second.ensures.mpc) (c.if-not-is_no_end.ensures refl) in
-    limited e s store other entry entry' c.transfer_law.ensures.one first last (c.in_ok-first.ensures.moment e) second last' (c.in_ok-second.ensures.moment e)
+    limited e s t store other entry entry' c.transfer_law.ensures.one first last (c.in_ok-first.ensures.moment e) second last' (c.in_ok-second.ensures.moment e)
     c.transfer_law.ensures.limits c.in-Limit.field-0 ends.n (λ stalls.
     record {
       begins = begins;
@@ -76,8 +75,8 @@ returns-in-Limit-clause-stopped c is e fits known signs answered =
     })
 
 pub returns-in-OutOfMap-clause-stopped : goal.returns-in-OutOfMap-clause-stopped
-returns-in-OutOfMap-clause-stopped c is e fits known signs answered =
+returns-in-OutOfMap-clause-stopped c is e fits known signs signs' answered =
     let s = c.args.s.now in
     let first = c.in_ok-first.first in
-    refused e s c.args.store.now.words c.args.other.now.words c.args.entry c.args.other_entry c.transfer_law.ensures.one first c.follow.new.path (c.in_ok-first.ensures.moment e)
+    refused e s c.args.t.now c.args.store.now.words c.args.other.now.words c.args.entry c.args.other_entry c.transfer_law.ensures.one first c.follow.new.path (c.in_ok-first.ensures.moment e)
     c.in-OutOfMap.field-0 (λ stalls. c.in_ok-a.ensures.out c.in-OutOfMap.field-0 stalls (λ i. Ok (c.in-OutOfMap.is i)) e fits known.knows (c.in_ok-first.ensures.path e signs answered))

@@ -1,27 +1,44 @@
-use Rattle.std.proofs.Common.{◌≡◌, ◌≢◌, ◌+◌, ◌==◌, ℕ, suc, Bool, true, false, Result, Ok, Err, Some, refl, sym, ap, ◌∙◌, subst, arith}
+use Rattle.std.proofs.Common.{◌≡◌, ◌+◌, ℕ, suc, Result, Ok, Err, ap, ◌∙◌, subst, arith}
 use Rattle.std.specs.Prelude.{slice_index}
 use Rattle.std.specs.declared.alloc.AllocError.{AllocError}
 use Rattle.mic_words.specs.declared.machine.Machine.TheVariants.{Mic1}
 use Rattle.micro_word.specs.Coding.{microword_of}
 use Rattle.mic1_datapath.specs.Mic1.{mic1_meaning}
-use Rattle.ijvm_simulation.specs.Passes.{pass, is_inside}
+use Rattle.ijvm_simulation.specs.Passes.{pass}
 use Rattle.micro_terms.specs.Meaning.{Fits}
 use Rattle.mic1_cycles.specs.Paths.{LeadsOn, MeetsRefusal}
 use Rattle.mic1_cycles.specs.declared.refusal.Stop.{Stop}
 use Rattle.mic1_cycles.specs.declared.refusal.Stop.TheVariants.{Limit, OutOfMap as Nowhere}
 use Rattle.mic1_passes.specs.Moments.{moment}
 use Rattle.mic1_passes.specs.declared.run.Followed.{Followed}
-use Rattle.mic1_passes.specs.declared.run.Followed.TheVariants.{Boundary, Unknown}
+use Rattle.mic1_passes.specs.declared.run.Followed.TheVariants.{Boundary, End, Unknown}
 use Rattle.mic1_passes.proofs.Walks.{Came, arrives, came_to_stop, goes_on, is_within, is_off}
 use Rattle.mic1_passes.proofs.run.follow.Goals as goal
 
 count : Result Followed AllocError → ℕ
 count (Ok (Boundary n)) = n
+count (Ok (End n)) = n
 count _ = 0
 
 pub returns-then-to-entry-clause-boundary : goal.returns-then-to-entry-clause-boundary
 unfolding count
 returns-then-to-entry-clause-boundary c n stalls is e fits knows path =
+    let words = c.args.store.now.words in
+    let p = c.in-Some.p in
+    let before : Fits e c.loop-n.nodes.nodes.items = c.in_ok-step.ensures.grows e fits in
+    let walked = c.loop-n.invariant.walked e before knows path in
+    let on : LeadsOn e p c.loop-n.path c.step.new.self = c.in_ok-step.ensures.done (λ i. Ok (c.in-Done.is i)) e fits knows walked.0 in
+    let spelled : microword_of Mic1 p ≡ slice_index words c.loop-n.path.symbols.mpc = c.in-Some.ensures.known.1 ∙ c.word.ensures.value in
+    let same : c.loop-n.n ≡ n = ap count is in
+    let whole : n ≡ c.loop-n.n + 0 = omega (arith, same) in (
+      on.path,
+      ap (λ (k : ℕ). pass mic1_meaning words k (moment e stalls c.args.entry c.args.path.now)) whole
+          ∙ (walked.1 stalls 0 ∙ arrives c.step_law.ensures words e stalls c.args.entry p c.loop-n.path c.step.new.self c.in-Some.ensures.known.0 spelled on),
+    )
+
+pub returns-then-to-eq254-clause-end : goal.returns-then-to-eq254-clause-end
+unfolding count
+returns-then-to-eq254-clause-end c n stalls is e fits knows path =
     let words = c.args.store.now.words in
     let p = c.in-Some.p in
     let before : Fits e c.loop-n.nodes.nodes.items = c.in_ok-step.ensures.grows e fits in

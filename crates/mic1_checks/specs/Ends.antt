@@ -1,0 +1,38 @@
+-- Where HALT and ERR lead in a control store.
+use Rattle.std.specs.Prelude.{◌≡◌, ◌+◌, ℕ, List, length}
+use Rattle.console_port.specs.World.{byte_in}
+use Rattle.ijvm_instr.specs.declared.instr.Instr.{Instr}
+use Rattle.ijvm_instr.specs.declared.instr.Instr.TheVariants.{Err, Halt}
+use Rattle.ijvm_meaning.specs.Frames.{State}
+use Rattle.verifier_facts.specs.Accepted.{VerifiedView}
+use Rattle.mic1_datapath.specs.Micro.{Micro}
+use Rattle.mic1_datapath.specs.Mic1.{mic1_meaning}
+use Rattle.ijvm_simulation.specs.Stands.{Origin, IsAt}
+use Rattle.ijvm_simulation.specs.Passes.{Moment}
+use Rattle.ijvm_simulation.specs.Law.{StopsBehind}
+use Rattle.mic1_cycles.specs.declared.path.Path.{Path}
+use Rattle.mic1_checks.specs.declared.ends.Ends.{Ends}
+use Rattle.mic1_checks.specs.declared.shape.Shape.{Shape}
+use Rattle.mic1_checks.specs.Ready.{IsReadyOrArriving, shape_of}
+use Rattle.mic1_checks.specs.Situation.{StandsBefore}
+
+-- a path is at this address, and has neither written, taken nor given
+pub record HasEnded (p : Path) (mpc : ℕ) : Type 0 where
+  pub at : p.symbols.mpc ≡ mpc
+  pub taken : p.taken ≡ 0
+  pub writes : length p.writes.items ≡ 0
+  pub given : length p.given.items ≡ 0
+
+-- a machine of this shape comes from a boundary with this opcode to this address, after so many cycles and one
+abbrev pub EndsAfter : ℕ → ℕ → Shape → List ℕ → ℕ → ℕ → Type 0
+EndsAfter opcode mpc shape store entry cycles =
+    (before : List ℕ) (v : VerifiedView) (o : Origin) (s : State) (q : Moment Micro) (i : Instr) →
+    StandsBefore entry v o s q i → byte_in o.words s.at ≡ opcode → shape_of q.state ≡ shape →
+    StopsBehind mic1_meaning store (IsAt mic1_meaning IsReadyOrArriving entry o) before q (cycles + 1) mpc
+
+-- the store takes HALT and ERR to the ends of the run
+pub record TakesEnds (store : List ℕ) (entry : ℕ) (ends : Ends) : Type 0 where
+  pub halts : (before : List ℕ) (v : VerifiedView) (o : Origin) (s : State) (q : Moment Micro) → StandsBefore entry v o s q Halt →
+      StopsBehind mic1_meaning store (IsAt mic1_meaning IsReadyOrArriving entry o) before q (ends.halt + 1) 0x0FF
+  pub errs : (before : List ℕ) (v : VerifiedView) (o : Origin) (s : State) (q : Moment Micro) → StandsBefore entry v o s q Err →
+      StopsBehind mic1_meaning store (IsAt mic1_meaning IsReadyOrArriving entry o) before q (ends.err + 1) 0x0FE
