@@ -1,3 +1,4 @@
 pub mod Instructions
 pub mod Halves
 pub mod Text
+pub mod Jumps

@@ -1,11 +1,12 @@
 -- The image of a program's code: its text is main's code and then the other functions, each after its header.
-use Rattle.std.specs.Prelude.{◌≡◌, ◌≤◌, ℕ, ◌+◌, ℤ, pos, negsuc, neg_ℤ, int_lt, Bool, ◌||◌, List, [], ◌∷◌, ◌++◌, length, find, slice_get, Option, Some, None}
+use Rattle.std.specs.Prelude.{◌≡◌, ◌≤◌, ℕ, ◌+◌, List, [], ◌∷◌, ◌++◌, length, slice_get, Some, None}
 use Rattle.std.specs.List.{flat_map}
 use Rattle.ijvm_instr.specs.Instructions.{spelling, two_bytes}
+use Rattle.ijvm_instr.specs.Jumps.{Jump, first_far, jumps_of}
 use Rattle.ijvm_image.specs.Image.{ImageView}
 use Rattle.tiny_tree.specs.Named.{IsNamed, vars_of}
-use Rattle.tiny_tree.specs.Tree.{Cond, Equal, Different, Less, Statement, Var, Assign, Calls, If, While, Return, Put, Halt, Else, no_else, else_block, Statements, no_statements, statement, Function, Program}
-use Rattle.tiny_code.specs.Code.{Places, begins, code_size, else_code, leave_code, main_code, method_code, methods, numbers, places_of, statements_code, test_code}
+use Rattle.tiny_tree.specs.Tree.{Cond, Equal, Different, Less, Statement, If, While, Else, no_else, else_block, Statements, no_statements, statement, Function, Program}
+use Rattle.tiny_code.specs.Code.{Places, begins, code_size, main_code, method_code, methods, numbers, places_of}
 
 -- ---- the text and the pool
 
@@ -22,70 +23,46 @@ abbrev pub pool_of : Program → Function → List ℕ
 pool_of program main =
     0 ∷ (begins (places_of program) (code_size (main_code (places_of program) main)) (methods program) ++ numbers program)
 
--- ---- the jumps, in the order of their addresses: each with the line of its `if` or `while`, and how far it is
+-- ---- the jumps, in the order of their addresses: each has the line of its `if` or `while`
 
-abbrev pub Jump : Type 0
-Jump = ℕ × ℤ
+abbrev pub if_lines : ℕ → Cond → List ℕ → List ℕ → List ℕ
+if_lines line (Different a b) taken other = line ∷ (taken ++ line ∷ other)
+if_lines line (Equal a b) taken other = line ∷ (other ++ line ∷ taken)
+if_lines line (Less a b) taken other = line ∷ (other ++ line ∷ taken)
 
--- the jumps of two sides, and their sizes
-abbrev pub choice_jumps : ℕ → List Jump → List Jump → ℕ → ℕ → List Jump
-choice_jumps line first second first_size second_size =
-    (line, pos (6 + first_size)) ∷ (first ++ (line, pos (3 + second_size)) ∷ second)
+-- of what leads out of a loop or into it
+abbrev pub leave_lines : ℕ → Cond → List ℕ
+leave_lines line (Different a b) = line ∷ []
+leave_lines line (Equal a b) = line ∷ line ∷ []
+leave_lines line (Less a b) = line ∷ line ∷ []
 
-abbrev pub if_jumps : ℕ → Cond → List Jump → List Jump → ℕ → ℕ → List Jump
-if_jumps line (Different a b) taken other taken_size other_size = choice_jumps line taken other taken_size other_size
-if_jumps line (Equal a b) taken other taken_size other_size = choice_jumps line other taken other_size taken_size
-if_jumps line (Less a b) taken other taken_size other_size = choice_jumps line other taken other_size taken_size
+abbrev pub while_lines : ℕ → Cond → List ℕ → List ℕ
+while_lines line c body = leave_lines line c ++ (body ++ line ∷ [])
 
--- out of a loop with a body of this size, or into it
-abbrev pub leave_jumps : ℕ → Cond → ℕ → List Jump
-leave_jumps line (Different a b) size = (line, pos (6 + size)) ∷ []
-leave_jumps line (Equal a b) size = (line, pos 6) ∷ (line, pos (6 + size)) ∷ []
-leave_jumps line (Less a b) size = (line, pos 6) ∷ (line, pos (6 + size)) ∷ []
+abbrev mutual
+  pub statement_lines : Statement → List ℕ
+  statement_lines (If line c taken other) = if_lines line c (statements_lines taken) (else_lines other)
+  statement_lines (While line c body) = while_lines line c (statements_lines body)
+  statement_lines _ = []
 
-module _ (p : Places) (local : ℕ) where
-  abbrev pub while_jumps : ℕ → Cond → List Jump → ℕ → List Jump
-  while_jumps line c body size =
-      leave_jumps line c size ++ (body
-      ++ (line, neg_ℤ (pos (code_size (test_code p local c) + code_size (leave_code p local c size) + size))) ∷ [])
+  pub statements_lines : Statements → List ℕ
+  statements_lines no_statements = []
+  statements_lines (statement s rest) = statement_lines s ++ statements_lines rest
 
-  abbrev mutual
-    pub statement_jumps : Statement → List Jump
-    statement_jumps (Var x e) = []
-    statement_jumps (Assign x e) = []
-    statement_jumps (Calls f args) = []
-    statement_jumps (If line c taken other) =
-        if_jumps line c (statements_jumps taken) (else_jumps other)
-        (code_size (statements_code p local taken)) (code_size (else_code p local other))
-    statement_jumps (While line c body) = while_jumps line c (statements_jumps body) (code_size (statements_code p local body))
-    statement_jumps (Return e) = []
-    statement_jumps (Put e) = []
-    statement_jumps Halt = []
+  pub else_lines : Else → List ℕ
+  else_lines no_else = []
+  else_lines (else_block b) = statements_lines b
 
-    pub statements_jumps : Statements → List Jump
-    statements_jumps no_statements = []
-    statements_jumps (statement s rest) = statement_jumps s ++ statements_jumps rest
-
-    pub else_jumps : Else → List Jump
-    else_jumps no_else = []
-    else_jumps (else_block b) = statements_jumps b
+abbrev pub main_jumps : Places → Function → List Jump
+main_jumps p g = jumps_of (statements_lines g.body) (main_code p g)
 
 abbrev pub method_jumps : Places → ℕ × Function → List Jump
-method_jumps p m = statements_jumps p 1 m.1.body
+method_jumps p m = jumps_of (statements_lines m.1.body) (method_code p m.1)
 
 abbrev pub jumps : Program → Function → List Jump
-jumps program main =
-    statements_jumps (places_of program) 0 main.body ++ flat_map (method_jumps (places_of program)) (methods program)
+jumps program main = main_jumps (places_of program) main ++ flat_map (method_jumps (places_of program)) (methods program)
 
 -- ---- limits
-
--- the distance is no signed number of 16 bits
-abbrev pub is_far : ℤ → Bool
-is_far z = int_lt z (negsuc 32767) || int_lt (pos 32767) z
-
--- the first jump that is too far
-abbrev pub first_far : List Jump → Option Jump
-first_far js = find (λ j. is_far j.1) js
 
 -- the code is within the limits, and this is its image
 pub record IsCodeOf (program : Program) (image : ImageView) : Type 0 where

@@ -3,3 +3,4 @@ pub mod Laid
 pub mod Standing
 pub mod Laws
 pub mod Image
+pub mod Lined

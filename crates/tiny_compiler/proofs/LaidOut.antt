@@ -8,15 +8,17 @@ use Rattle.std.proofs.lemmas.List.Elements.{All-nil, All-cons, All-head, All-tai
 use Rattle.ijvm_instr.specs.declared.instr.Instr.{Instr}
 use Rattle.ijvm_instr.specs.declared.instr.Instr.TheVariants.{Bipush, Ireturn, Halt as HaltCode}
 use Rattle.ijvm_instr.specs.Instructions.{IsInstr, spelling, two_bytes}
+use Rattle.ijvm_instr.specs.Jumps.{Jump}
 use Rattle.ijvm_image.specs.Image.{ImageView, params, others}
 use Rattle.tiny_tree.specs.Tree.{Function, Program}
 use Rattle.tiny_tree.specs.Named.{IsNamed, IsNamedFunction, names_count, parameters_seen, vars_of}
 use Rattle.tiny_code.specs.Code.{Places, begins, code_size, function_numbers, main_code, method_code, method_size, methods, numbers, places_of, statements_code}
 use Rattle.tiny_code.specs.Laid.{AreMethodsAt, CodeAt, IsLaidOut, IsMethodAt}
-use Rattle.tiny_code.specs.Standing.{begins_long, size_append}
-use Rattle.tiny_code.specs.Image.{IsCodeOf, Jump, jumps, method_bytes, method_jumps, methods_bytes, statements_jumps}
+use Rattle.tiny_code.specs.Standing.{all_back, all_front, begins_long, size_append}
+use Rattle.tiny_code.specs.Image.{IsCodeOf, jumps, main_jumps, method_bytes, method_jumps, methods_bytes, statements_lines}
+use Rattle.tiny_code.specs.Lined.{main_lined, method_lined}
 use Rattle.tiny_compiler.proofs.Lists.{AreEntries, entry, Finds, all_found, from_main, get_after, prefix_short}
-use Rattle.tiny_compiler.proofs.Fitting.{Fit, Near, all_near, both, near_back, near_front, one, statements_fit}
+use Rattle.tiny_compiler.proofs.Fitting.{Fit, FitAside, FitsAside, IsNearJump, all_near, both, near_fits, one, statements_fit}
 
 -- ---- sizes
 
@@ -165,38 +167,39 @@ module _ (stands : (code : List Instr) (before after : List ℕ) → All IsInstr
         let least : p.entry f ≤ f + 1 = entry_short program.main f in
         omega (arith, least, get_inside program.functions f g at, pool_long)
 
-    near : Near (jumps program main)
+    near : All IsNearJump (jumps program main)
     near = all_near (jumps program main) is.jumps_fit
 
-    abbrev main_jumps : List Jump
-    main_jumps = statements_jumps p 0 main.body
+    abbrev later_jumps : List Jump
+    later_jumps = flat_map (method_jumps p) (methods program)
 
     -- ---- each function's code has its operands in range
 
-    body_fits : (local f : ℕ) (g : Function) → local ≤ 1 → slice_get program.functions f ≡ Some g → Near (statements_jumps p local g.body) →
-        Fit (statements_code p local g.body)
-    body_fits local f g le at near_body =
+    body_fits : (local f : ℕ) (g : Function) → local ≤ 1 → slice_get program.functions f ≡ Some g → FitAside (statements_code p local g.body)
+    body_fits local f g le at =
         let n : IsNamedFunction program f g = named.functions f g at in
         statements_fit program p local (names_count g) (omega (arith, n.few, le)) constants entries
-        (f == program.main) (parameters_seen g) g.body n.body near_body
+        (f == program.main) (parameters_seen g) g.body n.body
 
     main_fits : Fit (main_code p main)
     main_fits =
-        both (statements_code p 0 main.body) (HaltCode ∷ [])
-        (body_fits 0 program.main main (omega arith) is.main_is (near_front main_jumps (flat_map (method_jumps p) (methods program)) near)) (one HaltCode tt)
+        near_fits (main_code p main) (statements_lines main.body) (main_lined p main)
+        (both (statements_code p 0 main.body) (HaltCode ∷ []) (body_fits 0 program.main main (omega arith) is.main_is) (one HaltCode tt))
+        (all_front IsNearJump (main_jumps p main) later_jumps near)
 
-    method_fits : (m : ℕ × Function) → slice_get program.functions m.0 ≡ Some m.1 → Near (method_jumps p m) → IsFit m
+    method_fits : (m : ℕ × Function) → slice_get program.functions m.0 ≡ Some m.1 → All IsNearJump (method_jumps p m) → IsFit m
     method_fits m at near_body =
-        both (statements_code p 1 m.1.body) (Bipush (pos 0) ∷ Ireturn ∷ []) (body_fits 1 m.0 m.1 (omega arith) at near_body)
-        (All-cons IsInstr (Bipush (pos 0)) (Ireturn ∷ []) zero_fits (one Ireturn tt))
+        near_fits (method_code p m.1) (statements_lines m.1.body) (method_lined p m.1)
+        (both (statements_code p 1 m.1.body) (Bipush (pos 0) ∷ Ireturn ∷ []) (body_fits 1 m.0 m.1 (omega arith) at)
+        (All-cons FitsAside (Bipush (pos 0)) (Ireturn ∷ []) zero_fits (one Ireturn tt))) near_body
 
     methods_fit : (ms : List (ℕ × Function)) → ((m : ℕ × Function) → Contains ms m → slice_get program.functions m.0 ≡ Some m.1) →
-        Near (flat_map (method_jumps p) ms) → All IsFit ms
+        All IsNearJump (flat_map (method_jumps p) ms) → All IsFit ms
     methods_fit [] each near_all = All-nil IsFit
     methods_fit (m ∷ ms) each near_all =
         All-cons IsFit m ms
-        (method_fits m (each m (0, omega arith, refl)) (near_front (method_jumps p m) (flat_map (method_jumps p) ms) near_all))
-        (methods_fit ms (λ x h. each x (Contains-append_right (m ∷ []) ms x h)) (near_back (method_jumps p m) (flat_map (method_jumps p) ms) near_all))
+        (method_fits m (each m (0, omega arith, refl)) (all_front IsNearJump (method_jumps p m) (flat_map (method_jumps p) ms) near_all))
+        (methods_fit ms (λ x h. each x (Contains-append_right (m ∷ []) ms x h)) (all_back IsNearJump (method_jumps p m) (flat_map (method_jumps p) ms) near_all))
 
     -- ---- all of it
 
@@ -217,7 +220,7 @@ module _ (stands : (code : List Instr) (before after : List ℕ) → All IsInstr
         is.pool ∙ ap (λ (b : ℕ). 0 ∷ (begins p b (methods program) ++ numbers program)) (sym long) in
         subst (λ (b : ℕ). AreMethodsAt image p b (methods program)) long
         (methods_laid main_bytes [] 0 (methods program) counted.0
-        (methods_fit (methods program) (λ m h. (sound m.0 m.1 h).0) (near_back main_jumps (flat_map (method_jumps p) (methods program)) near))
+        (methods_fit (methods program) (λ m h. (sound m.0 m.1 h).0) (all_back IsNearJump (main_jumps p main) later_jumps near))
         is.text pool refl)
 
     number_at : (n : ℕ) → Finds (numbers program) n → slice_get image.pool (p.constant n) ≡ Some n

@@ -2,6 +2,7 @@
 use Rattle.std.proofs.Common.{◌≡◌, ◌∙◌, ℕ, List, Some, length, sym, ap, subst, arith}
 use Rattle.std.specs.Prelude.{slice_get}
 use Rattle.std.proofs.lemmas.Option.{none-some, same_Some}
+use Rattle.ijvm_instr.specs.Jumps.{Jump, first_far}
 use Rattle.ijvm_image.specs.Image.{ImageView}
 use Rattle.verifier_facts.specs.Accepted.{VerifiedView}
 use Rattle.verifier_facts.specs.Facts.{IsMainCount}
@@ -11,7 +12,7 @@ use Rattle.tiny_parser.specs.Texts.{IsRefused, Spells}
 use Rattle.tiny_parser.specs.declared.error.TinyError.{TinyError}
 use Rattle.tiny_parser.specs.declared.error.TinyError.TheVariants.{JumpTooFar, PoolTooLong, TextTooLong}
 use Rattle.tiny_compiler.specs.Compiled.{HasNoCode, IsCompiled, NoProgram, TooLarge}
-use Rattle.tiny_code.specs.Image.{IsCodeOf, Jump, first_far, jumps, pool_of, text_of}
+use Rattle.tiny_code.specs.Image.{IsCodeOf, jumps, pool_of, text_of}
 use Rattle.tiny_compiler.specs.Image.{ExceedsBy, IsTooLarge}
 
 -- ---- images and limits

@@ -1,11 +1,12 @@
 -- The first limit that a program's code exceeds.
 use Rattle.std.specs.Prelude.{◌≡◌, ◌<◌, ◌≤◌, length, slice_get, Some}
+use Rattle.ijvm_instr.specs.Jumps.{first_far}
 use Rattle.tiny_tree.specs.Tree.{Function, Program}
 use Rattle.tiny_parser.specs.declared.error.TinyError.{TinyError}
 use Rattle.tiny_parser.specs.declared.error.TinyError.TheVariants.{JumpTooFar, PoolTooLong, TextTooLong}
 use Rattle.tiny_emit.specs.declared.program.Emitted.{Emitted}
 use Rattle.tiny_emit.specs.Emitted.{IsEmitted}
-use Rattle.tiny_code.specs.Image.{first_far, jumps, pool_of, text_of}
+use Rattle.tiny_code.specs.Image.{jumps, pool_of, text_of}
 
 -- the first limit that the code exceeds, and by what
 abbrev pub ExceedsBy : Program → Function → TinyError → Type 0

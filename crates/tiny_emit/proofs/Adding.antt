@@ -6,8 +6,8 @@ use Rattle.std.proofs.lemmas.List.{append-nil}
 use Rattle.std.proofs.lemmas.List.Folds.{find-append}
 use Rattle.ijvm_instr.specs.declared.instr.Instr.{Instr}
 use Rattle.ijvm_instr.specs.Instructions.{spelling, row_of, size_of}
+use Rattle.ijvm_instr.specs.Jumps.{Jump, first_far, is_far}
 use Rattle.tiny_code.specs.Code.{code_size}
-use Rattle.tiny_code.specs.Image.{Jump, first_far, is_far}
 use Rattle.tiny_emit.specs.declared.part.Jump as declared
 use Rattle.tiny_emit.specs.declared.part.Part.{Part}
 use Rattle.tiny_emit.specs.declared.part.Way.{Way}

@@ -1,125 +1,135 @@
 -- The code of tests, choices and loops, part by part.
-use Rattle.std.proofs.Common.{◌≡◌, ℕ, ℤ, pos, ◌+◌, ◌-◌, List, [], ◌∷◌, ◌++◌, length, sym, ◌∙◌, subst, arith}
+use Rattle.std.proofs.Common.{◌≡◌, ℕ, ℤ, pos, ◌+◌, ◌-◌, List, [], ◌∷◌, ◌++◌, length, refl, sym, ap, ◌∙◌, subst, arith}
 use Rattle.std.specs.Prelude.{neg_ℤ}
+use Rattle.std.specs.List.{zip}
 use Rattle.ijvm_instr.specs.declared.instr.Instr.{Instr}
 use Rattle.ijvm_instr.specs.declared.instr.Instr.TheVariants.{Iflt, IfIcmpeq, Goto}
+use Rattle.ijvm_instr.specs.Jumps.{HasLines, Jump, distances, jumps_of}
 use Rattle.tiny_tree.specs.Tree.{Cond, Expr, Equal, Different, Less}
 use Rattle.tiny_code.specs.Code.{Places, choice, code_size, if_code, leave_code, loop, test_code}
-use Rattle.tiny_code.specs.Image.{Jump, choice_jumps, if_jumps, leave_jumps, while_jumps}
+use Rattle.tiny_code.specs.Image.{if_lines, leave_lines, while_lines}
+use Rattle.tiny_code.specs.Lined.{distances_append, leave_lined, test_lined}
 use Rattle.tiny_emit.specs.declared.part.Part.{Part}
 use Rattle.tiny_emit.specs.declared.part.Way.{Way}
+use Rattle.tiny_emit.specs.declared.part.Way.TheVariants.{IfEqual}
 use Rattle.tiny_emit.specs.Adds.{Adds, IsPart, jump_code, way_of}
+use Rattle.tiny_emit.specs.Appended.{AddsCode, AddsJump, IsCode}
 use Rattle.tiny_emit.specs.Bytes.{code_bytes}
 use Rattle.tiny_emit.proofs.Bytes.{joined}
 use Rattle.tiny_emit.proofs.Adding.{bytes_size, then}
 
-pub then_code : (a b c : Part) (x y : List Instr) (i j : List Jump) → Adds a b (code_bytes x) i → Adds b c (code_bytes y) j →
-    Adds a c (code_bytes (x ++ y)) (i ++ j)
-then_code a b c x y i j h k =
-    subst (λ (l : List ℕ). Adds a c l (i ++ j)) (sym (joined x y)) (then a b c (code_bytes x) (code_bytes y) i j h k)
+zip_append : (i j : List ℕ) (d e : List ℤ) → length i ≡ length d → zip (i ++ j) (d ++ e) ≡ zip i d ++ zip j e
+zip_append [] j [] e h = refl
+zip_append [] j (z ∷ d) e h = absurd (omega (arith, h))
+zip_append (n ∷ i) j [] e h = absurd (omega (arith, h))
+zip_append (n ∷ i) j (z ∷ d) e h = ap (λ (js : List Jump). (n, z) ∷ js) (zip_append i j d e (omega (arith, h)))
 
-part_size : (part : Part) (x : List Instr) (i : List Jump) (m : ℕ) → IsPart part (code_bytes x) i → m ≡ length part.bytes.items → m ≡ code_size x
+jumps_append : (x y : List Instr) (i j : List ℕ) → HasLines i x → jumps_of (i ++ j) (x ++ y) ≡ jumps_of i x ++ jumps_of j y
+jumps_append x y i j h = ap (λ (ds : List ℤ). zip (i ++ j) ds) (distances_append x y) ∙ zip_append i j (distances x) (distances y) h
+
+pub then_code : (a b c : Part) (x y : List Instr) (i j : List ℕ) → HasLines i x → AddsCode a b x i → AddsCode b c y j →
+    AddsCode a c (x ++ y) (i ++ j)
+then_code a b c x y i j count h k =
+    subst (λ (js : List Jump). Adds a c (code_bytes (x ++ y)) js) (sym (jumps_append x y i j count))
+    (subst (λ (l : List ℕ). Adds a c l (jumps_of i x ++ jumps_of j y)) (sym (joined x y))
+    (then a b c (code_bytes x) (code_bytes y) (jumps_of i x) (jumps_of j y) h k))
+
+part_size : (part : Part) (x : List Instr) (i : List ℕ) (m : ℕ) → IsCode part x i → m ≡ length part.bytes.items → m ≡ code_size x
 part_size part x i m h is = is ∙ h.size ∙ bytes_size x
 
-module _ (a b c d e f : Part) (test : List Instr) (w v : Way) (same : w ≡ v) (line m n : ℕ) (x y : List Instr) (i j : List Jump) where
-  choice_of : Adds a b (code_bytes test) [] → Adds b c (code_bytes (jump_code v (pos (6 + m)) ∷ [])) ((line, pos (6 + m)) ∷ []) →
-      Adds c d (code_bytes x) i → Adds d e (code_bytes (Goto (pos (3 + n)) ∷ [])) ((line, pos (3 + n)) ∷ []) → Adds e f (code_bytes y) j →
-      Adds a f (code_bytes (test ++ (jump_code v (pos (6 + m)) ∷ (x ++ (Goto (pos (3 + n)) ∷ y)))))
-      ((line, pos (6 + m)) ∷ (i ++ ((line, pos (3 + n)) ∷ j)))
+jump_lined : (w : Way) (line : ℕ) (z : ℤ) → HasLines (line ∷ []) (jump_code w z ∷ [])
+jump_lined IfEqual line z = refl
+jump_lined _ line z = refl
+
+jump_added : (a b : Part) (w : Way) (line : ℕ) (z : ℤ) → AddsJump a b w line z → AddsCode a b (jump_code w z ∷ []) (line ∷ [])
+jump_added a b IfEqual line z h = h
+jump_added a b _ line z h = h
+
+module _ (a b c d e f : Part) (test : List Instr) (w v : Way) (same : w ≡ v) (line m n : ℕ) (x y : List Instr) (i j : List ℕ)
+    (straight : HasLines [] test) (count : HasLines i x) where
+  abbrev chosen : ℕ → ℕ → List Instr
+  chosen k l = test ++ (jump_code v (pos (6 + k)) ∷ (x ++ (Goto (pos (3 + l)) ∷ y)))
+
+  abbrev Added : ℕ → ℕ → Type 0
+  Added k l = AddsCode a f (chosen k l) (line ∷ (i ++ line ∷ j))
+
+  choice_of : AddsCode a b test [] → AddsJump b c v line (pos (6 + m)) → AddsCode c d x i →
+      AddsCode d e (Goto (pos (3 + n)) ∷ []) (line ∷ []) → AddsCode e f y j → Added m n
   choice_of tested on first past second =
-      let past_all : Adds d f (code_bytes (Goto (pos (3 + n)) ∷ y)) ((line, pos (3 + n)) ∷ j) =
-      then_code d e f (Goto (pos (3 + n)) ∷ []) y ((line, pos (3 + n)) ∷ []) j past second in
-      let sides : Adds c f (code_bytes (x ++ (Goto (pos (3 + n)) ∷ y))) (i ++ ((line, pos (3 + n)) ∷ j)) =
-      then_code c d f x (Goto (pos (3 + n)) ∷ y) i ((line, pos (3 + n)) ∷ j) first past_all in
-      let all : Adds b f (code_bytes (jump_code v (pos (6 + m)) ∷ (x ++ (Goto (pos (3 + n)) ∷ y))))
-      ((line, pos (6 + m)) ∷ (i ++ ((line, pos (3 + n)) ∷ j))) =
-      then_code b c f (jump_code v (pos (6 + m)) ∷ []) (x ++ (Goto (pos (3 + n)) ∷ y))
-      ((line, pos (6 + m)) ∷ []) (i ++ ((line, pos (3 + n)) ∷ j)) on sides in
-      then_code a b f test (jump_code v (pos (6 + m)) ∷ (x ++ (Goto (pos (3 + n)) ∷ y)))
-      [] ((line, pos (6 + m)) ∷ (i ++ ((line, pos (3 + n)) ∷ j))) tested all
+      let after : List Instr = Goto (pos (3 + n)) ∷ y in
+      let past_all : AddsCode d f after (line ∷ j) = then_code d e f (Goto (pos (3 + n)) ∷ []) y (line ∷ []) j refl past second in
+      let sides : AddsCode c f (x ++ after) (i ++ line ∷ j) = then_code c d f x after i (line ∷ j) count first past_all in
+      let all : AddsCode b f (jump_code v (pos (6 + m)) ∷ (x ++ after)) (line ∷ (i ++ line ∷ j)) =
+      then_code b c f (jump_code v (pos (6 + m)) ∷ []) (x ++ after) (line ∷ []) (i ++ line ∷ j) (jump_lined v line (pos (6 + m)))
+      (jump_added b c v line (pos (6 + m)) on) sides in
+      then_code a b f test (jump_code v (pos (6 + m)) ∷ (x ++ after)) [] (line ∷ (i ++ line ∷ j)) straight tested all
 
-  pub choice_added : (first second : Part) → IsPart first (code_bytes x) i → IsPart second (code_bytes y) j →
+  pub choice_added : (first second : Part) → IsCode first x i → IsCode second y j →
       m ≡ length first.bytes.items → n ≡ length second.bytes.items →
-      Adds a b (code_bytes test) [] → Adds b c (code_bytes (jump_code w (pos (6 + m)) ∷ [])) ((line, pos (6 + m)) ∷ []) →
-      Adds c d (code_bytes x) i → Adds d e (code_bytes (Goto (pos (3 + n)) ∷ [])) ((line, pos (3 + n)) ∷ []) → Adds e f (code_bytes y) j →
-      Adds a f (code_bytes (choice test (jump_code v) x y)) (choice_jumps line i j (code_size x) (code_size y))
+      AddsCode a b test [] → AddsJump b c w line (pos (6 + m)) → AddsCode c d x i →
+      AddsCode d e (Goto (pos (3 + n)) ∷ []) (line ∷ []) → AddsCode e f y j →
+      AddsCode a f (choice test (jump_code v) x y) (line ∷ (i ++ line ∷ j))
   choice_added first second front back m_is n_is tested on one past two =
-      let on' = subst (λ (k : Way). Adds b c (code_bytes (jump_code k (pos (6 + m)) ∷ [])) ((line, pos (6 + m)) ∷ [])) same on in
-      subst (λ (k : ℕ). Adds a f (code_bytes (test ++ (jump_code v (pos (6 + code_size x)) ∷ (x ++ (Goto (pos (3 + k)) ∷ y)))))
-      ((line, pos (6 + code_size x)) ∷ (i ++ ((line, pos (3 + k)) ∷ j)))) (part_size second y j n back n_is)
-      (subst (λ (k : ℕ). Adds a f (code_bytes (test ++ (jump_code v (pos (6 + k)) ∷ (x ++ (Goto (pos (3 + n)) ∷ y)))))
-      ((line, pos (6 + k)) ∷ (i ++ ((line, pos (3 + n)) ∷ j)))) (part_size first x i m front m_is)
-      (choice_of tested on' one past two))
+      subst (λ (k : ℕ). Added (code_size x) k) (part_size second y j n back n_is)
+      (subst (λ (k : ℕ). Added k n) (part_size first x i m front m_is)
+      (choice_of tested (subst (λ (k : Way). AddsJump b c k line (pos (6 + m))) same on) one past two))
 
-module _ (p : Places) (local line m n : ℕ) (a b : List Instr) (i j : List Jump) (Q : List Instr → List Jump → Type 0) where
+module _ (p : Places) (local line : ℕ) (a b : List Instr) (i j : List ℕ) (Q : List Instr → List ℕ → Type 0) where
   abbrev Chosen : Cond → Type 0
-  Chosen t = Q (choice (test_code p local t) (jump_code (way_of t)) a b) (choice_jumps line i j m n)
+  Chosen t = Q (choice (test_code p local t) (jump_code (way_of t)) a b) (line ∷ (i ++ line ∷ j))
 
-  pub if_different : (t : Cond) (l r : Expr) → t ≡ Different l r →
-      Q (choice (test_code p local t) (jump_code (way_of t)) a b) (choice_jumps line i j m n) →
-      Q (if_code p local t a b) (if_jumps line t i j m n)
-  if_different t l r e h =
-      subst (λ (k : Cond). Q (if_code p local k a b) (if_jumps line k i j m n)) (sym e) (subst Chosen e h)
+  pub if_different : (t : Cond) (l r : Expr) → t ≡ Different l r → Chosen t → Q (if_code p local t a b) (if_lines line t i j)
+  if_different t l r e h = subst (λ (k : Cond). Q (if_code p local k a b) (if_lines line k i j)) (sym e) (subst Chosen e h)
 
-  pub if_equal : (t : Cond) (l r : Expr) → t ≡ Equal l r →
-      Q (choice (test_code p local t) (jump_code (way_of t)) a b) (choice_jumps line i j m n) →
-      Q (if_code p local t b a) (if_jumps line t j i n m)
-  if_equal t l r e h =
-      subst (λ (k : Cond). Q (if_code p local k b a) (if_jumps line k j i n m)) (sym e) (subst Chosen e h)
+  pub if_equal : (t : Cond) (l r : Expr) → t ≡ Equal l r → Chosen t → Q (if_code p local t b a) (if_lines line t j i)
+  if_equal t l r e h = subst (λ (k : Cond). Q (if_code p local k b a) (if_lines line k j i)) (sym e) (subst Chosen e h)
 
-  pub if_less : (t : Cond) (l r : Expr) → t ≡ Less l r →
-      Q (choice (test_code p local t) (jump_code (way_of t)) a b) (choice_jumps line i j m n) →
-      Q (if_code p local t b a) (if_jumps line t j i n m)
-  if_less t l r e h =
-      subst (λ (k : Cond). Q (if_code p local k b a) (if_jumps line k j i n m)) (sym e) (subst Chosen e h)
+  pub if_less : (t : Cond) (l r : Expr) → t ≡ Less l r → Chosen t → Q (if_code p local t b a) (if_lines line t j i)
+  if_less t l r e h = subst (λ (k : Cond). Q (if_code p local k b a) (if_lines line k j i)) (sym e) (subst Chosen e h)
 
 module _ (p : Places) (local line n : ℕ) (a b c : Part) where
-  pub leave_equal : (t : Cond) (l r : Expr) → t ≡ Equal l r →
-      Adds a b (code_bytes (IfIcmpeq (pos 6) ∷ [])) ((line, pos 6) ∷ []) →
-      Adds b c (code_bytes (Goto (pos (6 + n)) ∷ [])) ((line, pos (6 + n)) ∷ []) →
-      Adds a c (code_bytes (leave_code p local t n)) (leave_jumps line t n)
+  abbrev Left : Cond → Type 0
+  Left t = AddsCode a c (leave_code p local t n) (leave_lines line t)
+
+  pub leave_equal : (t : Cond) (l r : Expr) → t ≡ Equal l r → AddsCode a b (IfIcmpeq (pos 6) ∷ []) (line ∷ []) →
+      AddsCode b c (Goto (pos (6 + n)) ∷ []) (line ∷ []) → Left t
   leave_equal t l r e h k =
-      subst (λ (t : Cond). Adds a c (code_bytes (leave_code p local t n)) (leave_jumps line t n)) (sym e)
-      (then_code a b c (IfIcmpeq (pos 6) ∷ []) (Goto (pos (6 + n)) ∷ []) ((line, pos 6) ∷ []) ((line, pos (6 + n)) ∷ []) h k)
+      subst Left (sym e) (then_code a b c (IfIcmpeq (pos 6) ∷ []) (Goto (pos (6 + n)) ∷ []) (line ∷ []) (line ∷ []) refl h k)
 
-  pub leave_less : (t : Cond) (l r : Expr) → t ≡ Less l r →
-      Adds a b (code_bytes (Iflt (pos 6) ∷ [])) ((line, pos 6) ∷ []) →
-      Adds b c (code_bytes (Goto (pos (6 + n)) ∷ [])) ((line, pos (6 + n)) ∷ []) →
-      Adds a c (code_bytes (leave_code p local t n)) (leave_jumps line t n)
+  pub leave_less : (t : Cond) (l r : Expr) → t ≡ Less l r → AddsCode a b (Iflt (pos 6) ∷ []) (line ∷ []) →
+      AddsCode b c (Goto (pos (6 + n)) ∷ []) (line ∷ []) → Left t
   leave_less t l r e h k =
-      subst (λ (t : Cond). Adds a c (code_bytes (leave_code p local t n)) (leave_jumps line t n)) (sym e)
-      (then_code a b c (Iflt (pos 6) ∷ []) (Goto (pos (6 + n)) ∷ []) ((line, pos 6) ∷ []) ((line, pos (6 + n)) ∷ []) h k)
+      subst Left (sym e) (then_code a b c (Iflt (pos 6) ∷ []) (Goto (pos (6 + n)) ∷ []) (line ∷ []) (line ∷ []) refl h k)
 
-module _ (a b c d e : Part) (p : Places) (local line m n z : ℕ) (t : Cond) (x : List Instr) (i : List Jump) where
+module _ (a b c d e : Part) (p : Places) (local line n z : ℕ) (t : Cond) (x : List Instr) (i : List ℕ) where
   abbrev leave_at : ℕ → List Instr
   leave_at k = leave_code p local t k
 
-  abbrev back_from : ℕ → ℕ → ℤ
-  back_from k l = neg_ℤ (pos (code_size (test_code p local t) + code_size (leave_at k) + l))
+  abbrev back_from : ℕ → ℤ
+  back_from k = neg_ℤ (pos (code_size (test_code p local t) + code_size (leave_at k) + k))
 
-  pub loop_added : (body : Part) → IsPart body (code_bytes x) i → n ≡ length body.bytes.items →
+  abbrev looped : ℕ → List Instr
+  looped k = test_code p local t ++ (leave_at k ++ (x ++ Goto (back_from k) ∷ []))
+
+  pub loop_added : (body : Part) → HasLines i x → IsCode body x i → n ≡ length body.bytes.items →
       z ≡ code_size (test_code p local t) + code_size (leave_at n) + n →
-      Adds a b (code_bytes (test_code p local t)) [] → Adds b c (code_bytes (leave_at n)) (leave_jumps line t n) →
-      Adds c d (code_bytes x) i → Adds d e (code_bytes (Goto (neg_ℤ (pos z)) ∷ [])) ((line, neg_ℤ (pos z)) ∷ []) →
-      Adds a e (code_bytes (loop (test_code p local t) (leave_at (code_size x)) x)) (while_jumps p local line t i (code_size x))
-  loop_added body is n_is z_is tested left inner back =
-      let size : n ≡ code_size x = part_size body x i n is n_is in
-      let back' : Adds d e (code_bytes (Goto (back_from n n) ∷ [])) ((line, back_from n n) ∷ []) =
-      subst (λ (k : ℕ). Adds d e (code_bytes (Goto (neg_ℤ (pos k)) ∷ [])) ((line, neg_ℤ (pos k)) ∷ [])) z_is back in
-      let last : Adds c e (code_bytes (x ++ Goto (back_from n n) ∷ [])) (i ++ (line, back_from n n) ∷ []) =
-      then_code c d e x (Goto (back_from n n) ∷ []) i ((line, back_from n n) ∷ []) inner back' in
-      let most : Adds b e (code_bytes (leave_at n ++ (x ++ Goto (back_from n n) ∷ []))) (leave_jumps line t n ++ (i ++ (line, back_from n n) ∷ [])) =
-      then_code b c e (leave_at n) (x ++ Goto (back_from n n) ∷ []) (leave_jumps line t n) (i ++ (line, back_from n n) ∷ []) left last in
-      subst (λ (k : ℕ). Adds a e (code_bytes (test_code p local t ++ (leave_at k ++ (x ++ Goto (back_from k k) ∷ []))))
-      (leave_jumps line t k ++ (i ++ (line, back_from k k) ∷ []))) size
-      (then_code a b e (test_code p local t) (leave_at n ++ (x ++ Goto (back_from n n) ∷ [])) []
-      (leave_jumps line t n ++ (i ++ (line, back_from n n) ∷ [])) tested most)
+      AddsCode a b (test_code p local t) [] → AddsCode b c (leave_at n) (leave_lines line t) → AddsCode c d x i →
+      AddsCode d e (Goto (neg_ℤ (pos z)) ∷ []) (line ∷ []) →
+      AddsCode a e (loop (test_code p local t) (leave_at (code_size x)) x) (while_lines line t i)
+  loop_added body count is n_is z_is tested left inner back =
+      let jump : List Instr = Goto (back_from n) ∷ [] in
+      let back' : AddsCode d e jump (line ∷ []) = subst (λ (k : ℕ). AddsCode d e (Goto (neg_ℤ (pos k)) ∷ []) (line ∷ [])) z_is back in
+      let last : AddsCode c e (x ++ jump) (i ++ line ∷ []) = then_code c d e x jump i (line ∷ []) count inner back' in
+      let most : AddsCode b e (leave_at n ++ (x ++ jump)) (while_lines line t i) =
+      then_code b c e (leave_at n) (x ++ jump) (leave_lines line t) (i ++ line ∷ []) (leave_lined p local line t n) left last in
+      subst (λ (k : ℕ). AddsCode a e (looped k) (while_lines line t i)) (part_size body x i n is n_is)
+      (then_code a b e (test_code p local t) (leave_at n ++ (x ++ jump)) [] (while_lines line t i) (test_lined p local t) tested most)
 
   -- how far back
-  pub gone_back : (begin end : ℕ) (body : Part) → IsPart body (code_bytes x) i → n ≡ length body.bytes.items →
+  pub gone_back : (begin end : ℕ) (body : Part) → IsCode body x i → n ≡ length body.bytes.items →
       begin ≡ length a.bytes.items → end ≡ length d.bytes.items →
-      Adds a b (code_bytes (test_code p local t)) [] → Adds b c (code_bytes (leave_at n)) (leave_jumps line t n) →
-      Adds c d (code_bytes x) i → end - begin ≡ code_size (test_code p local t) + code_size (leave_at n) + n
+      AddsCode a b (test_code p local t) [] → AddsCode b c (leave_at n) (leave_lines line t) →
+      AddsCode c d x i → end - begin ≡ code_size (test_code p local t) + code_size (leave_at n) + n
   gone_back begin end body is n_is begin_is end_is tested left inner =
       let test_size = bytes_size (test_code p local t) in
       let leave_size = bytes_size (leave_at n) in

@@ -9,16 +9,19 @@ use Rattle.std.proofs.lemmas.Bool.Decides.{eqb_tells}
 use Rattle.ijvm_instr.specs.declared.instr.Instr.{Instr}
 use Rattle.ijvm_instr.specs.declared.instr.Instr.TheVariants.{Bipush, Ireturn, Halt}
 use Rattle.ijvm_instr.specs.Instructions.{two_bytes}
+use Rattle.ijvm_instr.specs.Jumps.{HasLines, Jump, first_far}
 use Rattle.tiny_tree.specs.declared.tree.Function as declared
 use Rattle.tiny_tree.specs.Named.{vars_of}
 use Rattle.tiny_tree.specs.Tree.{Function, Program}
 use Rattle.tiny_tree.specs.View.{function_tree}
 use Rattle.tiny_code.specs.Code.{Places, begins, code_size, main_code, method_code, method_size, methods, places_of, statements_code}
-use Rattle.tiny_code.specs.Image.{Jump, first_far, method_bytes, method_jumps, methods_bytes, statements_jumps}
+use Rattle.tiny_code.specs.Image.{main_jumps, method_bytes, method_jumps, methods_bytes, statements_lines}
+use Rattle.tiny_code.specs.Lined.{statements_lined}
 use Rattle.tiny_emit.specs.declared.part.Part.{Part}
 use Rattle.tiny_emit.specs.declared.program.Emitted.{Emitted}
 use Rattle.tiny_emit.specs.declared.program.Methods.{Methods}
 use Rattle.tiny_emit.specs.Adds.{Adds, IsPart, far_of}
+use Rattle.tiny_emit.specs.Appended.{AddsCode}
 use Rattle.tiny_emit.specs.Bytes.{code_bytes}
 use Rattle.tiny_emit.specs.Emitted.{AddsMethods, IsEmitted, program_of}
 use Rattle.tiny_tree.specs.Outs.{drop_item}
@@ -26,14 +29,14 @@ use Rattle.tiny_emit.proofs.Adding.{bytes_size, is_part, nothing, then}
 use Rattle.tiny_emit.proofs.Sides.{then_code}
 
 -- with no jump at the end
-straight_end : (a b c : Part) (x y : List Instr) (i : List Jump) → Adds a b (code_bytes x) i → Adds b c (code_bytes y) [] →
-    Adds a c (code_bytes (x ++ y)) i
-straight_end a b c x y i h k = subst (Adds a c (code_bytes (x ++ y))) (append-nil i) (then_code a b c x y i [] h k)
+straight_end : (a b c : Part) (x y : List Instr) (i : List ℕ) → HasLines i x → AddsCode a b x i → AddsCode b c y [] → AddsCode a c (x ++ y) i
+straight_end a b c x y i count h k = subst (AddsCode a c (x ++ y)) (append-nil i) (then_code a b c x y i [] count h k)
 
 module _ (p : Places) where
-  pub main_added : (a b c : Part) (g : Function) → Adds a b (code_bytes (statements_code p 0 g.body)) (statements_jumps p 0 g.body) →
-      Adds b c (code_bytes (Halt ∷ [])) [] → Adds a c (code_bytes (main_code p g)) (statements_jumps p 0 g.body)
-  main_added a b c g h k = straight_end a b c (statements_code p 0 g.body) (Halt ∷ []) (statements_jumps p 0 g.body) h k
+  pub main_added : (a b c : Part) (g : Function) → AddsCode a b (statements_code p 0 g.body) (statements_lines g.body) →
+      AddsCode b c (Halt ∷ []) [] → AddsCode a c (main_code p g) (statements_lines g.body)
+  main_added a b c g h k =
+      straight_end a b c (statements_code p 0 g.body) (Halt ∷ []) (statements_lines g.body) (statements_lined p 0 g.body) h k
 
   method_is : (m : ℕ × Function) →
       (two_bytes (m.1.parameters + 1) ++ two_bytes (vars_of m.1.body)) ++ code_bytes (method_code p m.1) ≡ method_bytes p m
@@ -41,13 +44,13 @@ module _ (p : Places) where
   method_is m = refl
 
   pub method_added : (a b c d e : Part) (m : ℕ × Function) → Adds a b (two_bytes (m.1.parameters + 1) ++ two_bytes (vars_of m.1.body)) [] →
-      Adds b c (code_bytes (statements_code p 1 m.1.body)) (statements_jumps p 1 m.1.body) →
-      Adds c d (code_bytes (Bipush (pos 0) ∷ [])) [] → Adds d e (code_bytes (Ireturn ∷ [])) [] → Adds a e (method_bytes p m) (method_jumps p m)
+      AddsCode b c (statements_code p 1 m.1.body) (statements_lines m.1.body) →
+      AddsCode c d (Bipush (pos 0) ∷ []) [] → AddsCode d e (Ireturn ∷ []) [] → Adds a e (method_bytes p m) (method_jumps p m)
   method_added a b c d e m header body push return =
-      let last : Adds c e (code_bytes (Bipush (pos 0) ∷ Ireturn ∷ [])) [] =
-      then_code c d e (Bipush (pos 0) ∷ []) (Ireturn ∷ []) [] [] push return in
-      let code : Adds b e (code_bytes (method_code p m.1)) (method_jumps p m) =
-      straight_end b c e (statements_code p 1 m.1.body) (Bipush (pos 0) ∷ Ireturn ∷ []) (statements_jumps p 1 m.1.body) body last in
+      let last : AddsCode c e (Bipush (pos 0) ∷ Ireturn ∷ []) [] = then_code c d e (Bipush (pos 0) ∷ []) (Ireturn ∷ []) [] [] refl push return in
+      let code : AddsCode b e (method_code p m.1) (statements_lines m.1.body) =
+      straight_end b c e (statements_code p 1 m.1.body) (Bipush (pos 0) ∷ Ireturn ∷ []) (statements_lines m.1.body)
+      (statements_lined p 1 m.1.body) body last in
       subst (λ (l : List ℕ). Adds a e l (method_jumps p m)) (method_is m)
       (then a b e (two_bytes (m.1.parameters + 1) ++ two_bytes (vars_of m.1.body)) (code_bytes (method_code p m.1)) [] (method_jumps p m) header code)
 
@@ -113,7 +116,7 @@ module _ (p : Places) (program : Program) (g : Function) (e : Emitted) where
   text_in = code_bytes (main_code p g) ++ methods_bytes p (methods program)
 
   abbrev jumps_in : List Jump
-  jumps_in = statements_jumps p 0 g.body ++ flat_map (method_jumps p) (methods program)
+  jumps_in = main_jumps p g ++ flat_map (method_jumps p) (methods program)
 
   pub record IsEmittedIn : Type 0 where
     pub size : length e.text.items ≡ length text_in
@@ -122,16 +125,16 @@ module _ (p : Places) (program : Program) (g : Function) (e : Emitted) where
     pub text : first_far jumps_in ≡ None → e.text.items ≡ text_in
 
 emitted_in : (p : Places) (program : Program) (g : Function) (a b : Part) (start end : Methods) → a.bytes.items ≡ [] → a.far ≡ None →
-    Adds a b (code_bytes (main_code p g)) (statements_jumps p 0 g.body) → start.part ≡ b → start.begins.items ≡ [] →
+    AddsCode a b (main_code p g) (statements_lines g.body) → start.part ≡ b → start.begins.items ≡ [] →
     AddsMethods p start end (methods program) →
     IsEmittedIn p program g (record { text = end.part.bytes; begins = end.begins; far = end.part.far })
 emitted_in p program g a b start end empty near first begun none others =
     let ms = methods program in
     let rest : Adds b end.part (methods_bytes p ms) (flat_map (method_jumps p) ms) =
     subst (λ (x : Part). Adds x end.part (methods_bytes p ms) (flat_map (method_jumps p) ms)) begun others.part in
-    let all : IsPart end.part (code_bytes (main_code p g) ++ methods_bytes p ms) (statements_jumps p 0 g.body ++ flat_map (method_jumps p) ms) =
+    let all : IsPart end.part (code_bytes (main_code p g) ++ methods_bytes p ms) (main_jumps p g ++ flat_map (method_jumps p) ms) =
     is_part a end.part _ _ empty near
-    (then a b end.part (code_bytes (main_code p g)) (methods_bytes p ms) (statements_jumps p 0 g.body) (flat_map (method_jumps p) ms) first rest) in
+    (then a b end.part (code_bytes (main_code p g)) (methods_bytes p ms) (main_jumps p g) (flat_map (method_jumps p) ms) first rest) in
     let size : length start.part.bytes.items ≡ code_size (main_code p g) =
     ap (λ (x : Part). length x.bytes.items) begun ∙ (is_part a b _ _ empty near first).size ∙ bytes_size (main_code p g) in
     record {
@@ -148,7 +151,7 @@ of_program program g e h = record { size = h.size; begins = h.begins; far = h.fa
 pub emitted : (p : Places) (fs : List declared.Function) (main : ℕ) (f : declared.Function) (g : Function) (a b : Part) (start end : Methods) →
     p ≡ places_of (program_of fs main) → main < length fs → f ≡ get_or fs main f → slice_get (map function_tree fs) main ≡ Some g →
     a.bytes.items ≡ [] → a.far ≡ None →
-    Adds a b (code_bytes (main_code p (function_tree f))) (statements_jumps p 0 (function_tree f).body) → start.part ≡ b → start.begins.items ≡ [] →
+    AddsCode a b (main_code p (function_tree f)) (statements_lines (function_tree f).body) → start.part ≡ b → start.begins.items ≡ [] →
     AddsMethods p start end (methods (program_of fs main)) →
     IsEmitted (program_of fs main) g (record { text = end.part.bytes; begins = end.begins; far = end.part.far })
 emitted p fs main f g a b start end placed known is found empty near first begun none others =

@@ -6,8 +6,9 @@ use Rattle.tiny_tree.specs.Tree.{Function, Program}
 use Rattle.tiny_tree.specs.Named.{vars_of}
 use Rattle.tiny_tree.specs.View.{block_tree, function_tree}
 use Rattle.ijvm_instr.specs.Instructions.{two_bytes}
+use Rattle.ijvm_instr.specs.Jumps.{first_far}
 use Rattle.tiny_code.specs.Code.{Places, begins, code_size, main_code, methods, places_of}
-use Rattle.tiny_code.specs.Image.{first_far, jumps, method_bytes, method_jumps, methods_bytes, statements_jumps, text_of}
+use Rattle.tiny_code.specs.Image.{jumps, method_bytes, method_jumps, methods_bytes, statements_lines, text_of}
 use Rattle.tiny_emit.specs.declared.part.Part.{Part}
 use Rattle.tiny_emit.specs.declared.program.Emitted.{Emitted}
 use Rattle.tiny_emit.specs.declared.program.Methods.{Methods}
@@ -22,7 +23,7 @@ abbrev pub header_of : declared.Function → List ℕ
 header_of f = two_bytes (f.parameters + 1) ++ two_bytes (vars_of (block_tree f.body))
 
 abbrev pub AddsMain : Places → Part → Part → Function → Type 0
-AddsMain p old new g = AddsCode old new (main_code p g) (statements_jumps p 0 g.body)
+AddsMain p old new g = AddsCode old new (main_code p g) (statements_lines g.body)
 
 -- a method with its header, whose code does not depend on the position of its function
 abbrev pub AddsMethod : Places → Part → Part → Function → Type 0

@@ -2,13 +2,13 @@
 
 ghost use Rattle.std.specs.Prelude.{◌≡◌, ◌<◌, ◌≤◌, ◌^◌, ◌∷◌, [], pos, neg_ℤ, false, None, length, IfOk, OnOk};
 ghost use Rattle.std.specs.Option.{option_or};
-ghost use Rattle.tiny_code.specs.Image.{first_far, is_far};
+ghost use Rattle.ijvm_instr.specs.Jumps.{first_far, is_far};
 ghost use Rattle.tiny_emit.specs.declared.part.Way.TheVariants.{Always};
 ghost use Rattle.tiny_emit.specs.Adds.{far_of, jump_code};
 ghost use Rattle.tiny_emit.specs.Appended.{AddsCode, AddsJump, AddsPart, IsCode};
 
 use crate::expr::put;
-use ijvm_instr::Instr;
+use ijvm_instr::{Instr, is_far};
 use std::alloc::{AllocError, Global};
 
 /// A jump: the line of its `if` or `while`, and how far it is, in bytes.
@@ -31,12 +31,6 @@ pub(crate) enum Way {
     IfEqual,
     IfNegative,
     Always,
-}
-
-fn is_far(distance: i32) -> bool
-    ensures { result ≡ is_far distance }
-{
-    distance < -32_768 || 32_767 < distance
 }
 
 /// The distance as an operand, where it fits one.

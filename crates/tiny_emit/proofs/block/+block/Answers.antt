@@ -6,7 +6,8 @@ use Rattle.tiny_tree.specs.Tree as tree
 use Rattle.tiny_tree.specs.Tree.{else_of}
 use Rattle.tiny_tree.specs.View.{block_tree, cond_tree, statement_tree}
 use Rattle.tiny_code.specs.Code.{statement_code}
-use Rattle.tiny_code.specs.Image.{statement_jumps}
+use Rattle.tiny_code.specs.Image.{statement_lines}
+use Rattle.tiny_code.specs.Lined.{else_lined, statements_lined}
 use Rattle.tiny_emit.specs.Appended.{AddsCode}
 use Rattle.tiny_pool.specs.Places.{places_in}
 use Rattle.tiny_emit.proofs.Lists.{statement_added, statements_done}
@@ -20,8 +21,9 @@ add_statement-returns-in_ok-second-in-If t c =
     ≡ tree.If c.in-If.line (cond_tree c.in-If.cond) (block_tree c.in-If.taken) (else_of (option_map block_tree c.in-If.otherwise)) =
     search (rules, the_lemmas) in
     on_ok_weaker c.add_if.result
-    (λ h. subst (λ (s : tree.Statement). AddsCode c.args.part.now c.add_if.new.part (statement_code p local s) (statement_jumps p local s)) (sym is)
-    (h _ _ _ _ c.in_ok-first-in-If.ensures c.in_ok-second-in-If.ensures))
+    (λ h. subst (λ (s : tree.Statement). AddsCode c.args.part.now c.add_if.new.part (statement_code p local s) (statement_lines s)) (sym is)
+    (h _ _ _ _ (statements_lined p local (block_tree c.in-If.taken)) (else_lined p local (else_of (option_map block_tree c.in-If.otherwise)))
+    c.in_ok-first-in-If.ensures c.in_ok-second-in-If.ensures))
     c.add_if.ensures
 
 pub add_statement-returns-in_ok-body-in-While : goal.add_statement-returns-in_ok-body-in-While
@@ -31,8 +33,8 @@ add_statement-returns-in_ok-body-in-While t c =
     let is : statement_tree c.args.statement.now ≡ tree.While c.in-While.line (cond_tree c.in-While.cond) (block_tree c.in-While.body) =
     search (rules, the_lemmas) in
     on_ok_weaker c.add_while.result
-    (λ h. subst (λ (s : tree.Statement). AddsCode c.args.part.now c.add_while.new.part (statement_code p local s) (statement_jumps p local s)) (sym is)
-    (h _ _ c.in_ok-body-in-While.ensures))
+    (λ h. subst (λ (s : tree.Statement). AddsCode c.args.part.now c.add_while.new.part (statement_code p local s) (statement_lines s)) (sym is)
+    (h _ _ (statements_lined p local (block_tree c.in-While.body)) c.in_ok-body-in-While.ensures))
     c.add_while.ensures
 
 pub add_statements-loop-statement-preserved : goal.add_statements-loop-statement-preserved
