@@ -1,3 +1,4 @@
 pub mod Image
 pub mod ImageFile
 pub mod Reading
+pub mod Header

@@ -9,6 +9,6 @@ pub mod writer;
 
 pub use image::{Image, ImageError};
 pub use laws::a_file_says_one_thing;
-pub use method::Method;
+pub use method::{Method, push_header};
 pub use reader::read_image;
 pub use writer::write_image;

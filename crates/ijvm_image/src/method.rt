@@ -1,9 +1,12 @@
 //! The header of a method.
 
-ghost use Rattle.std.specs.Prelude.{◌≡◌, ◌+◌, ◌<◌, length, slice_get, IfSome};
+ghost use Rattle.std.specs.Prelude.{◌≡◌, ◌+◌, ◌++◌, ◌<◌, length, slice_get, IfSome, OnOk};
+ghost use Rattle.ijvm_image.specs.Header.{header};
 ghost use Rattle.ijvm_image.specs.Image.{params, others, method_at};
 
 use crate::image::Image;
+use ijvm_instr::two_bytes;
+use std::alloc::AllocError;
 
 /// Where a method begins, and the two counts of its header.
 #[derive(Clone, Copy, Debug, PartialEq, Eq)]
@@ -32,6 +35,15 @@ impl Method {
             others: 256 * u16::from(text[at + 2]) + u16::from(text[at + 3]),
         })
     }
+}
+
+/// Appends the header of a method with these counts.
+pub fn push_header(text: &mut Vec<u8>, params: u16, others: u16) -> Result<(), AllocError>
+    ensures { OnOk result (text.new.items ≡ text.old.items ++ header params others) }
+{
+    text.extend_from_slice(&two_bytes(params))?;
+    text.extend_from_slice(&two_bytes(others))?;
+    Ok(())
 }
 
 impl Image {

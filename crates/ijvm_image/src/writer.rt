@@ -2,26 +2,17 @@
 
 ghost use Rattle.std.specs.Prelude.{◌≡◌, ◌+◌, ◌≤◌, ◌<◌, ◌++◌, length, OnOk, IfOk, ◌*◌};
 ghost use Rattle.std.specs.List.{flat_map};
-ghost use Rattle.ijvm_instr.specs.Instructions.{two_bytes};
 ghost use Rattle.ijvm_image.specs.ImageFile.{word_bytes, block_of, file_of};
 
 use crate::image::Image;
+use ijvm_instr::two_bytes;
 use std::alloc::{AllocError, Global};
-
-/// Appends a number of two bytes, the high one first.
-fn push_half(file: &mut Vec<u8>, half: u16) -> Result<(), AllocError>
-    ensures { OnOk result (file.new.items ≡ file.old.items ++ two_bytes half) }
-{
-    file.push((half / 256) as u8)?;
-    file.push((half % 256) as u8)?;
-    Ok(())
-}
 
 fn push_word(file: &mut Vec<u8>, word: u32) -> Result<(), AllocError>
     ensures { OnOk result (file.new.items ≡ file.old.items ++ word_bytes word) }
 {
-    push_half(file, (word / 0x1_0000) as u16)?;
-    push_half(file, (word % 0x1_0000) as u16)?;
+    file.extend_from_slice(&two_bytes((word / 0x1_0000) as u16))?;
+    file.extend_from_slice(&two_bytes((word % 0x1_0000) as u16))?;
     Ok(())
 }
 

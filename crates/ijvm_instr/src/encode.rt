@@ -1,12 +1,20 @@
 //! The bytes of an instruction: its opcode, with WIDE before it where its row says so, and its operands.
 
-ghost use Rattle.std.specs.Prelude.{◌≡◌, ◌+◌, ◌≤◌, ◌++◌};
+ghost use Rattle.std.specs.Prelude.{◌≡◌, ◌+◌, ◌≤◌, ◌++◌, OnOk};
 ghost use Rattle.arrayvec.specs.ArrayVec.{array_vec_len};
 ghost use Rattle.ijvm_instr.specs.Instructions.{spelling, operand_bytes, two_bytes};
 
 use crate::instr::Instr;
 use crate::row::{Operands, Row};
 use arrayvec::ArrayVec;
+use std::alloc::AllocError;
+
+/// A number as two bytes, the high one first.
+pub fn two_bytes(number: u16) -> [u8; 2]
+    ensures { result ≡ two_bytes number }
+{
+    [(number / 256) as u8, (number % 256) as u8]
+}
 
 /// Appends a number of two bytes, the high one first.
 fn push_half(bytes: &mut ArrayVec<u8, 6>, half: u16)
@@ -50,4 +58,12 @@ pub fn encode_instr(instr: Instr) -> ArrayVec<u8, 6>
     bytes.push(row.opcode);
     push_operands(&mut bytes, row.operands);
     bytes
+}
+
+/// Appends the bytes of an instruction to a text.
+pub fn push_instr(text: &mut Vec<u8>, instr: Instr) -> Result<(), AllocError>
+    ensures { OnOk result (text.new.items ≡ text.old.items ++ spelling instr) }
+{
+    text.extend_from_slice(encode_instr(instr).as_slice())?;
+    Ok(())
 }

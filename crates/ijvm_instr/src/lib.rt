@@ -10,7 +10,7 @@ pub mod print;
 pub mod row;
 
 pub use decode::{decode_at, decode_instr};
-pub use encode::encode_instr;
+pub use encode::{encode_instr, push_instr, two_bytes};
 pub use instr::{INSTRUCTIONS, Instr};
 pub use jumps::is_far;
 pub use laws::read_instructions_are_whole;

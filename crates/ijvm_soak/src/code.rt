@@ -5,7 +5,8 @@ ghost use Rattle.std.specs.List.{flat_map};
 ghost use Rattle.ijvm_instr.specs.Instructions.{spelling};
 ghost use Rattle.ijvm_soak.specs.Generated.{block, block_at, main_text, method_text};
 
-use ijvm_instr::{Instr, encode_instr};
+use ijvm_image::push_header;
+use ijvm_instr::{Instr, push_instr};
 use std::alloc::AllocError;
 
 /// The distance from a block's branch to the block's end.
@@ -16,7 +17,7 @@ fn push_code(text: &mut Vec<u8>, code: &[Instr]) -> Result<(), AllocError>
     ensures { OnOk result (text.new.items ≡ text.old.items ++ flat_map spelling code.now) }
 {
     for instr in code {
-        text.extend_from_slice(encode_instr(*instr).as_slice())?;
+        push_instr(text, *instr)?;
     }
     Ok(())
 }
@@ -85,7 +86,7 @@ pub(crate) fn push_main(text: &mut Vec<u8>, seed: u32, size: u16) -> Result<(), 
 pub(crate) fn push_method(text: &mut Vec<u8>) -> Result<(), AllocError>
     ensures { OnOk result (text.new.items ≡ text.old.items ++ method_text) }
 {
-    text.extend_from_slice(&[0, 2, 0, 0])?;
+    push_header(text, 2, 0)?;
     push_code(
         text,
         &[

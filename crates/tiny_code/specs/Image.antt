@@ -1,8 +1,9 @@
 -- The image of a program's code: its text is main's code and then the other functions, each after its header.
 use Rattle.std.specs.Prelude.{◌≡◌, ◌≤◌, ℕ, ◌+◌, List, [], ◌∷◌, ◌++◌, length, slice_get, Some, None}
 use Rattle.std.specs.List.{flat_map}
-use Rattle.ijvm_instr.specs.Instructions.{spelling, two_bytes}
+use Rattle.ijvm_instr.specs.Instructions.{spelling}
 use Rattle.ijvm_instr.specs.Jumps.{Jump, first_far, jumps_of}
+use Rattle.ijvm_image.specs.Header.{header}
 use Rattle.ijvm_image.specs.Image.{ImageView}
 use Rattle.tiny_tree.specs.Named.{IsNamed, vars_of}
 use Rattle.tiny_tree.specs.Tree.{Cond, Equal, Different, Less, Statement, If, While, Else, no_else, else_block, Statements, no_statements, statement, Function, Program}
@@ -11,7 +12,7 @@ use Rattle.tiny_code.specs.Code.{Places, begins, code_size, main_code, method_co
 -- ---- the text and the pool
 
 abbrev pub method_bytes : Places → ℕ × Function → List ℕ
-method_bytes p m = two_bytes (m.1.parameters + 1) ++ (two_bytes (vars_of m.1.body) ++ flat_map spelling (method_code p m.1))
+method_bytes p m = header (m.1.parameters + 1) (vars_of m.1.body) ++ flat_map spelling (method_code p m.1)
 
 abbrev pub methods_bytes : Places → List (ℕ × Function) → List ℕ
 methods_bytes p ms = flat_map (method_bytes p) ms

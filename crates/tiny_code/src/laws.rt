@@ -6,7 +6,9 @@ ghost use Rattle.ijvm_image.specs.Image.{ImageView};
 ghost use Rattle.ijvm_instr.specs.declared.instr.Instr.{Instr};
 ghost use Rattle.ijvm_instr.specs.Instructions.{IsInstr};
 ghost use Rattle.tiny_tree.specs.Tree.{Function, Program};
-ghost use Rattle.tiny_code.specs.Code.{Places, methods};
+ghost use Rattle.ijvm_instr.specs.Jumps.{HasLines};
+ghost use Rattle.tiny_code.specs.Code.{Places, main_code, method_code, methods};
+ghost use Rattle.tiny_code.specs.Image.{statements_lines};
 ghost use Rattle.tiny_code.specs.Laid.{Holds, IsLaidOut};
 ghost use Rattle.tiny_code.specs.Laws.{IsOther, StandsBetween};
 
@@ -29,3 +31,9 @@ pub fn written_code_stands()
 {
     read_instructions_are_whole();
 }
+
+/// Each jump of the code of a function has one line, that of its `if` or `while`.
+pub fn jumps_have_lines()
+    ensures main { (p : Places) (g : Function) → HasLines (statements_lines g.body) (main_code p g) }
+    ensures method { (p : Places) (g : Function) → HasLines (statements_lines g.body) (method_code p g) }
+{}

@@ -3,4 +3,6 @@
 
 mod laws;
 
-pub use laws::{laid_out_programs_hold, methods_are_the_others, written_code_stands};
+pub use laws::{
+    jumps_have_lines, laid_out_programs_hold, methods_are_the_others, written_code_stands,
+};

@@ -7,8 +7,9 @@ use Rattle.std.proofs.lemmas.List.{get_or-append-add}
 use Rattle.std.proofs.lemmas.List.Elements.{All-nil, All-cons, All-head, All-tail, Contains-append_right}
 use Rattle.ijvm_instr.specs.declared.instr.Instr.{Instr}
 use Rattle.ijvm_instr.specs.declared.instr.Instr.TheVariants.{Bipush, Ireturn, Halt as HaltCode}
-use Rattle.ijvm_instr.specs.Instructions.{IsInstr, spelling, two_bytes}
+use Rattle.ijvm_instr.specs.Instructions.{IsInstr, spelling}
 use Rattle.ijvm_instr.specs.Jumps.{Jump}
+use Rattle.ijvm_image.specs.Header.{header}
 use Rattle.ijvm_image.specs.Image.{ImageView, params, others}
 use Rattle.tiny_tree.specs.Tree.{Function, Program}
 use Rattle.tiny_tree.specs.Named.{IsNamed, IsNamedFunction, names_count, parameters_seen, vars_of}
@@ -45,8 +46,8 @@ zero_fits = let small : 0 < 2 ^ 7 = omega arith in record { sfits = small }
 
 -- ---- the methods, one after the other
 
-abbrev header : Function → List ℕ
-header g = two_bytes (g.parameters + 1) ++ two_bytes (vars_of g.body)
+abbrev header_of : Function → List ℕ
+header_of g = header (g.parameters + 1) (vars_of g.body)
 
 module _ (stands : (code : List Instr) (before after : List ℕ) → All IsInstr code → length before + code_size code ≤ 65536 →
     CodeAt (before ++ (flat_map spelling code ++ after)) (length before) code)
@@ -96,11 +97,11 @@ module _ (stands : (code : List Instr) (before after : List ℕ) → All IsInstr
 
     code_is : IsFit m → CodeAt image.text (length front + 4) code
     code_is fit =
-        let at : length (front ++ header m.1) ≡ length front + 4 = length-append front (header m.1) in
-        let split : image.text ≡ (front ++ header m.1) ++ bytes = text ∙ sym (append_assoc front (header m.1) bytes) in
+        let at : length (front ++ header_of m.1) ≡ length front + 4 = length-append front (header_of m.1) in
+        let split : image.text ≡ (front ++ header_of m.1) ++ bytes = text ∙ sym (append_assoc front (header_of m.1) bytes) in
         subst (λ (xs : List ℕ). CodeAt xs (length front + 4) code) (sym split)
-        (subst (λ (k : ℕ). CodeAt ((front ++ header m.1) ++ bytes) k code) at
-        (stands code (front ++ header m.1) rest fit (omega (arith, at, long, short))))
+        (subst (λ (k : ℕ). CodeAt ((front ++ header_of m.1) ++ bytes) k code) at
+        (stands code (front ++ header_of m.1) rest fit (omega (arith, at, long, short))))
 
     method_at : IsFit m → slice_get image.pool (p.entry m.0) ≡ Some (length front) → IsMethodAt image p (length front) m.0 m.1
     method_at fit entry = record {

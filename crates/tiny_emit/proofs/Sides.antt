@@ -12,7 +12,7 @@ use Rattle.tiny_code.specs.Lined.{distances_append, leave_lined, test_lined}
 use Rattle.tiny_emit.specs.declared.part.Part.{Part}
 use Rattle.tiny_emit.specs.declared.part.Way.{Way}
 use Rattle.tiny_emit.specs.declared.part.Way.TheVariants.{IfEqual}
-use Rattle.tiny_emit.specs.Adds.{Adds, IsPart, jump_code, way_of}
+use Rattle.tiny_emit.specs.Adds.{Adds, jump_code, way_of}
 use Rattle.tiny_emit.specs.Appended.{AddsCode, AddsJump, IsCode}
 use Rattle.tiny_emit.specs.Bytes.{code_bytes}
 use Rattle.tiny_emit.proofs.Bytes.{joined}

@@ -8,7 +8,7 @@ use Rattle.std.proofs.lemmas.Option.{same_Some, slice_get-map, slice_get_read}
 use Rattle.std.proofs.lemmas.Bool.Decides.{eqb_tells}
 use Rattle.ijvm_instr.specs.declared.instr.Instr.{Instr}
 use Rattle.ijvm_instr.specs.declared.instr.Instr.TheVariants.{Bipush, Ireturn, Halt}
-use Rattle.ijvm_instr.specs.Instructions.{two_bytes}
+use Rattle.ijvm_image.specs.Header.{header}
 use Rattle.ijvm_instr.specs.Jumps.{HasLines, Jump, first_far}
 use Rattle.tiny_tree.specs.declared.tree.Function as declared
 use Rattle.tiny_tree.specs.Named.{vars_of}
@@ -38,26 +38,25 @@ module _ (p : Places) where
   main_added a b c g h k =
       straight_end a b c (statements_code p 0 g.body) (Halt ∷ []) (statements_lines g.body) (statements_lined p 0 g.body) h k
 
-  method_is : (m : ℕ × Function) →
-      (two_bytes (m.1.parameters + 1) ++ two_bytes (vars_of m.1.body)) ++ code_bytes (method_code p m.1) ≡ method_bytes p m
+  method_is : (m : ℕ × Function) → header (m.1.parameters + 1) (vars_of m.1.body) ++ code_bytes (method_code p m.1) ≡ method_bytes p m
   unfolding code_bytes
   method_is m = refl
 
-  pub method_added : (a b c d e : Part) (m : ℕ × Function) → Adds a b (two_bytes (m.1.parameters + 1) ++ two_bytes (vars_of m.1.body)) [] →
+  pub method_added : (a b c d e : Part) (m : ℕ × Function) → Adds a b (header (m.1.parameters + 1) (vars_of m.1.body)) [] →
       AddsCode b c (statements_code p 1 m.1.body) (statements_lines m.1.body) →
       AddsCode c d (Bipush (pos 0) ∷ []) [] → AddsCode d e (Ireturn ∷ []) [] → Adds a e (method_bytes p m) (method_jumps p m)
-  method_added a b c d e m header body push return =
+  method_added a b c d e m counts body push return =
       let last : AddsCode c e (Bipush (pos 0) ∷ Ireturn ∷ []) [] = then_code c d e (Bipush (pos 0) ∷ []) (Ireturn ∷ []) [] [] refl push return in
       let code : AddsCode b e (method_code p m.1) (statements_lines m.1.body) =
       straight_end b c e (statements_code p 1 m.1.body) (Bipush (pos 0) ∷ Ireturn ∷ []) (statements_lines m.1.body)
       (statements_lined p 1 m.1.body) body last in
       subst (λ (l : List ℕ). Adds a e l (method_jumps p m)) (method_is m)
-      (then a b e (two_bytes (m.1.parameters + 1) ++ two_bytes (vars_of m.1.body)) (code_bytes (method_code p m.1)) [] (method_jumps p m) header code)
+      (then a b e (header (m.1.parameters + 1) (vars_of m.1.body)) (code_bytes (method_code p m.1)) [] (method_jumps p m) counts code)
 
   method_length : (m : ℕ × Function) → length (method_bytes p m) ≡ method_size p m.1
   method_length m =
       ap length (sym (method_is m))
-      ∙ length-append (two_bytes (m.1.parameters + 1) ++ two_bytes (vars_of m.1.body)) (code_bytes (method_code p m.1))
+      ∙ length-append (header (m.1.parameters + 1) (vars_of m.1.body)) (code_bytes (method_code p m.1))
       ∙ ap (λ (n : ℕ). 4 + n) (bytes_size (method_code p m.1))
 
   pub no_methods : (a : Methods) → AddsMethods p a a []

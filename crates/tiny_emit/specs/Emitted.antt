@@ -5,7 +5,7 @@ use Rattle.tiny_tree.specs.declared.tree.Function as declared
 use Rattle.tiny_tree.specs.Tree.{Function, Program}
 use Rattle.tiny_tree.specs.Named.{vars_of}
 use Rattle.tiny_tree.specs.View.{block_tree, function_tree}
-use Rattle.ijvm_instr.specs.Instructions.{two_bytes}
+use Rattle.ijvm_image.specs.Header.{header}
 use Rattle.ijvm_instr.specs.Jumps.{first_far}
 use Rattle.tiny_code.specs.Code.{Places, begins, code_size, main_code, methods, places_of}
 use Rattle.tiny_code.specs.Image.{jumps, method_bytes, method_jumps, methods_bytes, statements_lines, text_of}
@@ -20,7 +20,7 @@ program_of functions main = record { functions = map function_tree functions; ma
 
 -- a method's header: how many words it takes with its link word, and how many variables it has
 abbrev pub header_of : declared.Function → List ℕ
-header_of f = two_bytes (f.parameters + 1) ++ two_bytes (vars_of (block_tree f.body))
+header_of f = header (f.parameters + 1) (vars_of (block_tree f.body))
 
 abbrev pub AddsMain : Places → Part → Part → Function → Type 0
 AddsMain p old new g = AddsCode old new (main_code p g) (statements_lines g.body)

@@ -1,27 +1,19 @@
 //! Appends the code of an expression, which leaves one word on the stack.
 
-ghost use Rattle.std.specs.Prelude.{◌≡◌, ◌+◌, ◌∷◌, ◌++◌, [], OnOk, IfOk};
-ghost use Rattle.ijvm_instr.specs.Instructions.{spelling};
+ghost use Rattle.std.specs.Prelude.{◌≡◌, ◌+◌, ◌∷◌, [], OnOk, IfOk};
 ghost use Rattle.tiny_code.specs.Code.{operator_code};
 ghost use Rattle.tiny_emit.specs.Appended.{Puts, code_of_arguments, code_of_call, code_of_expr, code_of_steps, code_of_term};
 
-use ijvm_instr::{Instr, encode_instr};
+use ijvm_instr::{Instr, push_instr};
 use std::alloc::AllocError;
 use tiny_pool::Table;
 use tiny_tree::{Expr, Operator, Step, Term};
-
-fn push(bytes: &mut Vec<u8>, instr: Instr) -> Result<(), AllocError>
-    ensures { OnOk result (bytes.new.items ≡ bytes.old.items ++ spelling instr) }
-{
-    bytes.extend_from_slice(encode_instr(instr).as_slice())?;
-    Ok(())
-}
 
 /// Appends the bytes of an instruction.
 pub(crate) fn put(bytes: &mut Vec<u8>, instr: Instr) -> Result<(), AllocError>
     ensures { OnOk result (Puts bytes.old bytes.new (instr ∷ [])) }
 {
-    push(bytes, instr)
+    push_instr(bytes, instr)
 }
 
 fn operator(operator: Operator) -> Instr

@@ -1,7 +1,7 @@
 //! The code of a program.
 
 ghost use Rattle.std.specs.Prelude.{◌≡◌, ◌<◌, ◌+◌, ◌∷◌, ◌++◌, [], IfOk, OnOk, length};
-ghost use Rattle.ijvm_instr.specs.Instructions.{two_bytes};
+ghost use Rattle.ijvm_image.specs.Header.{header};
 ghost use Rattle.tiny_code.specs.Code.{methods, places_of};
 ghost use Rattle.tiny_emit.specs.Adds.{Adds};
 ghost use Rattle.tiny_emit.specs.Emitted.{AddsMain, AddsMethod, AddsMethods, IsEmittedFrom, header_of, program_of};
@@ -11,6 +11,7 @@ ghost use Rattle.tiny_tree.specs.View.{function_tree};
 use crate::block::add_block;
 use crate::part::{Jump, Part};
 use crate::vars::{sum, vars_of};
+use ijvm_image::push_header;
 use ijvm_instr::Instr;
 use std::alloc::{AllocError, Global};
 use tiny_pool::Table;
@@ -32,22 +33,20 @@ struct Methods {
     begins: Vec<u32>,
 }
 
-fn put_two_bytes(bytes: &mut Vec<u8>, number: u32) -> Result<(), AllocError>
-    ensures { OnOk result (bytes.new.items ≡ bytes.old.items ++ two_bytes number) }
+/// A count as a number of two bytes; it is an error if it does not fit one.
+fn count_of(count: u32) -> Result<u16, AllocError>
+    ensures { IfOk result (λ n. n ≡ count) }
 {
-    if number > 65535 {
+    let Ok(count) = u16::try_from(count) else {
         return Err(AllocError);
-    }
-    bytes.push((number / 256) as u8)?;
-    bytes.push((number % 256) as u8)?;
-    Ok(())
+    };
+    Ok(count)
 }
 
 fn put_header(bytes: &mut Vec<u8>, parameters: u32, vars: u32) -> Result<(), AllocError>
-    ensures { OnOk result (bytes.new.items ≡ bytes.old.items ++ (two_bytes (parameters + 1) ++ two_bytes vars)) }
+    ensures { OnOk result (bytes.new.items ≡ bytes.old.items ++ header (parameters + 1) vars) }
 {
-    put_two_bytes(bytes, sum(parameters, 1)?)?;
-    put_two_bytes(bytes, vars)
+    push_header(bytes, count_of(sum(parameters, 1)?)?, count_of(vars)?)
 }
 
 fn add_header(part: &mut Part, function: &Function) -> Result<(), AllocError>
