@@ -7,7 +7,8 @@ use Rattle.ijvm_program.specs.declared.line.Operation.{Operation}
 use Rattle.ijvm_program.specs.declared.line.Operation.TheVariants.{Plain, Constant, Call, To}
 use Rattle.ijvm_program.specs.Layout.{text_size}
 use Rattle.ijvm_program.specs.Program.{ProgramView}
-use Rattle.method_linker.specs.Linked.{code_bytes, text, pool, first_far}
+use Rattle.ijvm_instr.specs.Jumps.{first_far}
+use Rattle.method_linker.specs.Linked.{code_bytes, text, pool}
 
 abbrev at_line : ℕ → Operation → CodeLine
 at_line line operation = record { line = line; operation = operation }
@@ -59,15 +60,10 @@ echo =
     at_line 2 (Plain In) ∷ at_line 3 (Plain Dup) ∷ at_line 4 (Plain (Bipush (pos 10))) ∷ at_line 5 (To IfIcmpeq 6) ∷ at_line 6 (Plain Out)
     ∷ at_line 7 (To Goto 0) ∷ at_line 8 (Plain Out) ∷ at_line 9 (Plain Halt) ∷ []
 
-bytes_of_echo : code_bytes 0 0 echo ≡
+bytes_of_echo : code_bytes 0 echo ≡
     0xFC ∷ 0x59 ∷ 0x10 ∷ 0x0A ∷ 0x9F ∷ 0x00 ∷ 0x07 ∷ 0xFD ∷ 0xA7 ∷ 0xFF ∷ 0xF8 ∷ 0xFD ∷ 0xFF ∷ []
 unfolding code_bytes
 bytes_of_echo = refl
-
--- the echo has the same bytes in a method
-bytes_of_echo_behind : code_bytes 0 20 echo ≡ code_bytes 0 0 echo
-unfolding code_bytes
-bytes_of_echo_behind = refl
 
 -- ---- the limits of a distance
 

@@ -11,7 +11,8 @@ use Rattle.ijvm_program.specs.declared.line.CodeLine.{CodeLine}
 use Rattle.ijvm_program.specs.Layout.{instr_of}
 use Rattle.method_linker.specs.declared.error.LinkError.{LinkError}
 use Rattle.method_linker.specs.declared.error.LinkError.TheVariants.{JumpTooFar}
-use Rattle.method_linker.specs.Linked.{distance, line_bytes, code_bytes, code_distances, first_far, is_far}
+use Rattle.ijvm_instr.specs.Jumps.{first_far, is_far}
+use Rattle.method_linker.specs.Linked.{distance, line_bytes, code_bytes, code_distances}
 use Rattle.method_linker.specs.Steps.{IsStopped, IsPushedUpTo, line_jump}
 use Rattle.method_linker.proofs.Texts.{bytes_of_lines, distances_of_lines}
 
@@ -81,30 +82,30 @@ line_at lines i d h =
     sym (e ∙ ap (λ y. (0 + i, y)) same ∙ ap (λ k. (k, x)) (zero-add i))
 
 pub line_more : (first : ℕ) (lines : List CodeLine) (i : ℕ) (d : CodeLine) (far : ℤ) (old new newer : List ℕ) → i < length lines →
-    IsPushedUpTo (line_bytes first 0 lines) (line_jump lines) (enumerate_from 0 lines) i old new → far ≡ distance 0 lines i (get_or lines i d).operation →
+    IsPushedUpTo (line_bytes first lines) (line_jump lines) (enumerate_from 0 lines) i old new → far ≡ distance lines i (get_or lines i d).operation →
     newer ≡ new ++ spelling (instr_of first far (get_or lines i d).operation) → first_far (((get_or lines i d).line, far) ∷ []) ≡ None →
-    IsPushedUpTo (line_bytes first 0 lines) (line_jump lines) (enumerate_from 0 lines) (i + 1) old newer
+    IsPushedUpTo (line_bytes first lines) (line_jump lines) (enumerate_from 0 lines) (i + 1) old newer
 line_more first lines i d far old new newer h so_far is pushed near =
     let x = get_or lines i d in
     let inside : i < length (enumerate_from 0 lines) = omega (arith, length-enumerate_from 0 lines) in
-    pushed_more (line_bytes first 0 lines) (line_jump lines) (enumerate_from 0 lines) i (i, x) old new newer inside (line_at lines i d h) so_far
+    pushed_more (line_bytes first lines) (line_jump lines) (enumerate_from 0 lines) i (i, x) old new newer inside (line_at lines i d h) so_far
     (pushed ∙ ap (λ z. new ++ spelling (instr_of first z x.operation)) is) (ap (λ z. first_far ((x.line, z) ∷ [])) (sym is) ∙ near)
 
 pub line_stops : (first : ℕ) (lines : List CodeLine) (i : ℕ) (d : CodeLine) (far : ℤ) (old new : List ℕ) (e : LinkError) → i < length lines →
-    IsPushedUpTo (line_bytes first 0 lines) (line_jump lines) (enumerate_from 0 lines) i old new → far ≡ distance 0 lines i (get_or lines i d).operation →
-    IsStopped (((get_or lines i d).line, far) ∷ []) e → IsStopped (code_distances 0 lines) e
+    IsPushedUpTo (line_bytes first lines) (line_jump lines) (enumerate_from 0 lines) i old new → far ≡ distance lines i (get_or lines i d).operation →
+    IsStopped (((get_or lines i d).line, far) ∷ []) e → IsStopped (code_distances lines) e
 line_stops first lines i d far old new e h so_far is stopped =
     let x = get_or lines i d in
     let inside : i < length (enumerate_from 0 lines) = omega (arith, length-enumerate_from 0 lines) in
     let P : ℤ → Type 0 = λ z. IsStopped ((x.line, z) ∷ []) e in
     let Q : List (ℕ × ℤ) → Type 0 = λ ls. IsStopped ls e in
     subst Q (distances_of_lines lines)
-    (stopped_at (line_bytes first 0 lines) (line_jump lines) (enumerate_from 0 lines) i (i, x) old new e inside (line_at lines i d h) so_far (subst P is stopped))
+    (stopped_at (line_bytes first lines) (line_jump lines) (enumerate_from 0 lines) i (i, x) old new e inside (line_at lines i d h) so_far (subst P is stopped))
 
 pub lines_all : (first : ℕ) (lines : List CodeLine) (i : ℕ) (old new : List ℕ) → length lines ≤ i →
-    IsPushedUpTo (line_bytes first 0 lines) (line_jump lines) (enumerate_from 0 lines) i old new →
-    (new ≡ old ++ code_bytes first 0 lines) × (first_far (code_distances 0 lines) ≡ None)
+    IsPushedUpTo (line_bytes first lines) (line_jump lines) (enumerate_from 0 lines) i old new →
+    (new ≡ old ++ code_bytes first lines) × (first_far (code_distances lines) ≡ None)
 lines_all first lines i old new h so_far =
     let past : length (enumerate_from 0 lines) ≤ i = omega (arith, length-enumerate_from 0 lines) in
-    let all = pushed_all (line_bytes first 0 lines) (line_jump lines) (enumerate_from 0 lines) i old new past so_far in
+    let all = pushed_all (line_bytes first lines) (line_jump lines) (enumerate_from 0 lines) i old new past so_far in
     (all.0 ∙ ap (λ t. old ++ t) (bytes_of_lines first lines), ap first_far (sym (distances_of_lines lines)) ∙ all.1)

@@ -1,8 +1,10 @@
 -- The image of a program: its text is the headers and the instructions one after the other, its pool the constants and then the
 -- methods' entries. And when a program has no image.
-use Rattle.std.specs.Prelude.{◌≡◌, ℕ, ◌+◌, ◌<◌, ◌≤◌, ℤ, pos, negsuc, ◌-ℤ◌, int_lt, Bool, ◌||◌, List, ◌++◌, length, map, find, Option, Some, None}
+use Rattle.std.specs.Prelude.{◌≡◌, ℕ, ◌+◌, ◌<◌, ◌≤◌, ℤ, pos, ◌-ℤ◌, List, ◌++◌, length, map, Some, None}
 use Rattle.std.specs.List.{flat_map, enumerate_from, range_with_len}
-use Rattle.ijvm_instr.specs.Instructions.{spelling, two_bytes}
+use Rattle.ijvm_instr.specs.Instructions.{spelling}
+use Rattle.ijvm_instr.specs.Jumps.{Jump, first_far}
+use Rattle.ijvm_image.specs.Header.{header}
 use Rattle.ijvm_image.specs.Image.{ImageView}
 use Rattle.ijvm_program.specs.declared.line.CodeLine.{CodeLine}
 use Rattle.ijvm_program.specs.declared.line.Operation.{Operation}
@@ -13,51 +15,46 @@ use Rattle.ijvm_program.specs.Program.{ProgramView}
 use Rattle.method_linker.specs.declared.error.LinkError.{LinkError}
 use Rattle.method_linker.specs.declared.error.LinkError.TheVariants.{PoolTooLong, TextTooLong, JumpTooFar, OutOfMemory}
 
--- ---- the code of a unit: `begin` is the address of its first line, `first` the index of the first method's entry in the pool
+-- ---- the code of a unit: `first` is the index of the first method's entry in the pool
 
--- how far the operation of the line at this position jumps: from its own address to its target's
-abbrev pub distance : ℕ → List CodeLine → ℕ → Operation → ℤ
-distance begin lines position (To jump target) = pos (line_address begin lines target) -ℤ pos (line_address begin lines position)
-distance begin lines position (Plain instr) = pos 0
-distance begin lines position (Constant index) = pos 0
-distance begin lines position (Call index) = pos 0
+-- how far the operation of the line at this position jumps: from its own address to its target's, counted in the unit's code
+abbrev pub distance : List CodeLine → ℕ → Operation → ℤ
+distance lines position (To jump target) = pos (line_address 0 lines target) -ℤ pos (line_address 0 lines position)
+distance lines position (Plain instr) = pos 0
+distance lines position (Constant index) = pos 0
+distance lines position (Call index) = pos 0
 
-abbrev pub line_bytes : ℕ → ℕ → List CodeLine → ℕ × CodeLine → List ℕ
-line_bytes first begin lines (position, line) = spelling (instr_of first (distance begin lines position line.operation) line.operation)
+abbrev pub line_bytes : ℕ → List CodeLine → ℕ × CodeLine → List ℕ
+line_bytes first lines (position, line) = spelling (instr_of first (distance lines position line.operation) line.operation)
 
-unfoldable pub code_bytes : ℕ → ℕ → List CodeLine → List ℕ
-code_bytes first begin lines = flat_map (line_bytes first begin lines) (enumerate_from 0 lines)
+unfoldable pub code_bytes : ℕ → List CodeLine → List ℕ
+code_bytes first lines = flat_map (line_bytes first lines) (enumerate_from 0 lines)
 
 -- a line's number in the source, and how far it jumps
-abbrev pub line_distance : ℕ → List CodeLine → ℕ × CodeLine → ℕ × ℤ
-line_distance begin lines (position, line) = (line.line, distance begin lines position line.operation)
+abbrev pub line_distance : List CodeLine → ℕ × CodeLine → Jump
+line_distance lines (position, line) = (line.line, distance lines position line.operation)
 
-unfoldable pub code_distances : ℕ → List CodeLine → List (ℕ × ℤ)
-code_distances begin lines = map (line_distance begin lines) (enumerate_from 0 lines)
+unfoldable pub code_distances : List CodeLine → List Jump
+code_distances lines = map (line_distance lines) (enumerate_from 0 lines)
 
 -- ---- the text
 
 -- the counts of a method: its parameters with the object reference, and its other locals
-abbrev pub header : UnitView → List ℕ
-header method = two_bytes (length method.parameters + 1) ++ two_bytes (length method.locals)
+abbrev pub header_of : UnitView → List ℕ
+header_of method = header (length method.parameters + 1) (length method.locals)
 
--- the address of the first line of the method at this position
-abbrev pub code_begin : ProgramView → ℕ → ℕ
-code_begin program index = entry_of program.main program.methods index + 4
-
-abbrev pub method_bytes : ProgramView → ℕ × UnitView → List ℕ
-method_bytes program (index, method) = header method ++ code_bytes (length program.constants) (code_begin program index) method.lines
+abbrev pub method_bytes : ℕ → UnitView → List ℕ
+method_bytes first method = header_of method ++ code_bytes first method.lines
 
 unfoldable pub text : ProgramView → List ℕ
-text program =
-    code_bytes (length program.constants) 0 program.main.lines ++ flat_map (method_bytes program) (enumerate_from 0 program.methods)
+text program = code_bytes (length program.constants) program.main.lines ++ flat_map (method_bytes (length program.constants)) program.methods
 
-abbrev pub method_distances : ProgramView → ℕ × UnitView → List (ℕ × ℤ)
-method_distances program (index, method) = code_distances (code_begin program index) method.lines
+abbrev pub method_distances : UnitView → List Jump
+method_distances method = code_distances method.lines
 
 -- the distances of all lines, in the order of the text
-unfoldable pub distances : ProgramView → List (ℕ × ℤ)
-distances program = code_distances 0 program.main.lines ++ flat_map (method_distances program) (enumerate_from 0 program.methods)
+unfoldable pub distances : ProgramView → List Jump
+distances program = code_distances program.main.lines ++ flat_map method_distances program.methods
 
 -- ---- the pool
 
@@ -72,14 +69,6 @@ unfoldable pub pool : ProgramView → List ℕ
 pool program = map (λ c. c.value) program.constants ++ entries program
 
 -- ---- limits
-
--- the distance is no signed number of 16 bits
-abbrev pub is_far : ℤ → Bool
-is_far z = int_lt z (negsuc 32767) || int_lt (pos 32767) z
-
--- the first line that jumps too far
-abbrev pub first_far : List (ℕ × ℤ) → Option (ℕ × ℤ)
-first_far lines = find (λ line. is_far line.1) lines
 
 -- these bytes are the program's text, and no line of it jumps too far
 abbrev pub IsTextOf : ProgramView → List ℕ → Type 0

@@ -1,15 +1,16 @@
--- What the linker's steps need and leave. Places are addresses in a unit's own code: a jump is as far between places as between addresses.
+-- What the linker's steps need and leave. Places are addresses in a unit's own code.
 use Rattle.std.specs.Prelude.{◌≡◌, ℕ, ◌+◌, ◌<◌, ◌≤◌, ℤ, List, [], ◌∷◌, ◌++◌, length, take, map, All, Some, None, Result, MatchResult}
 use Rattle.std.specs.List.{range_with_len, flat_map}
 use Rattle.ijvm_program.specs.declared.line.CodeLine.{CodeLine}
 use Rattle.ijvm_program.specs.declared.line.Operation.{Operation}
 use Rattle.ijvm_program.specs.declared.line.Operation.TheVariants.{Plain, Constant, Call, To}
 use Rattle.ijvm_instr.specs.Instructions.{spelling}
+use Rattle.ijvm_instr.specs.Jumps.{first_far}
 use Rattle.ijvm_program.specs.Layout.{instr_of, line_address}
 use Rattle.ijvm_program.specs.Unit.{UnitView}
 use Rattle.method_linker.specs.declared.error.LinkError.{LinkError}
 use Rattle.method_linker.specs.declared.error.LinkError.TheVariants.{PoolTooLong, TextTooLong, JumpTooFar, OutOfMemory}
-use Rattle.method_linker.specs.Linked.{code_bytes, code_distances, line_distance, first_far, header}
+use Rattle.method_linker.specs.Linked.{line_distance}
 
 -- the places of a unit's lines
 unfoldable pub line_places : List CodeLine → List ℕ
@@ -52,12 +53,6 @@ IsLinePushed old new first far line result = IsPushed old new (spelling (instr_o
 abbrev pub ArePushed : {X : Type 0} → List ℕ → List ℕ → (X → List ℕ) → (X → List (ℕ × ℤ)) → List X → Result (Unit {0}) LinkError → Type 0
 ArePushed old new bytes lines xs result = IsPushed old new (flat_map bytes xs) (flat_map lines xs) result
 
-abbrev pub method_code : ℕ → UnitView → List ℕ
-method_code first method = header method ++ code_bytes first 0 method.lines
-
-abbrev pub method_jumps : UnitView → List (ℕ × ℤ)
-method_jumps method = code_distances 0 method.lines
-
 -- what a unit needs to be linked: operations that have their indices and targets, and counts of 16 bits
 pub record IsLinkableUnit (first : ℕ) (unit : UnitView) : Type 0 where
   pub lines : All (IsLinkable first (length unit.lines)) unit.lines
@@ -70,4 +65,4 @@ pub record IsPushedUpTo {X : Type 0} (bytes : X → List ℕ) (lines : X → Lis
 
 -- the distance of a line, as a list
 abbrev pub line_jump : List CodeLine → ℕ × CodeLine → List (ℕ × ℤ)
-line_jump lines e = line_distance 0 lines e ∷ []
+line_jump lines e = line_distance lines e ∷ []

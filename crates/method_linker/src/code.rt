@@ -1,13 +1,14 @@
 //! The code of a unit.
 
 ghost use Rattle.std.specs.Prelude.{◌≡◌, ◌≤◌, length, All, IfOk, Err, true};
+ghost use Rattle.ijvm_instr.specs.Jumps.{is_far};
 ghost use Rattle.ijvm_program.specs.Layout.{code_size, instr_of};
-ghost use Rattle.method_linker.specs.Linked.{code_bytes, code_distances, is_far};
+ghost use Rattle.method_linker.specs.Linked.{code_bytes, code_distances};
 ghost use Rattle.method_linker.specs.Steps.{line_places, HasIndex, IsLinkable, IsPushed, IsLinePushed};
 
 use crate::error::LinkError;
-use crate::instruction::{distance, instr_of, is_far};
-use ijvm_instr::encode_instr;
+use crate::instruction::{distance, instr_of};
+use ijvm_instr::{is_far, push_instr};
 use ijvm_program::{CodeLine, size_of};
 use std::alloc::{AllocError, Global};
 
@@ -39,8 +40,7 @@ fn push_line(
     if is_far(distance) {
         return Err(LinkError::JumpTooFar(line.line, distance));
     }
-    let bytes = encode_instr(instr_of(line.operation, first, distance));
-    text.extend_from_slice(bytes.as_slice())?;
+    push_instr(text, instr_of(line.operation, first, distance))?;
     Ok(())
 }
 
@@ -54,7 +54,7 @@ fn push_lines(
     requires few { code_size lines.now ≤ 65536 }
     requires placed { places.now ≡ line_places lines.now }
     requires linkable { All (IsLinkable first (length lines.now)) lines.now }
-    ensures { IsPushed text.old.items text.new.items (code_bytes first 0 lines.now) (code_distances 0 lines.now) result }
+    ensures { IsPushed text.old.items text.new.items (code_bytes first lines.now) (code_distances lines.now) result }
 {
     for (position, line) in lines.iter().enumerate() {
         let far = distance(lines, places, position, line.operation);
@@ -72,7 +72,7 @@ pub fn push_code(
 ) -> Result<(), LinkError>
     requires few { code_size lines.now ≤ 65536 }
     requires linkable { All (IsLinkable first (length lines.now)) lines.now }
-    ensures { IsPushed text.old.items text.new.items (code_bytes first 0 lines.now) (code_distances 0 lines.now) result }
+    ensures { IsPushed text.old.items text.new.items (code_bytes first lines.now) (code_distances lines.now) result }
 {
     let places = line_places(alloc, lines)?;
     push_lines(text, lines, &places, first)

@@ -1,19 +1,13 @@
 //! The instruction of a line.
 
 ghost use Rattle.std.specs.Prelude.{◌≡◌, ◌≤◌, ◌<◌, false, length};
+ghost use Rattle.ijvm_instr.specs.Jumps.{is_far};
 ghost use Rattle.ijvm_program.specs.Layout.{code_size, jump_by, instr_of};
-ghost use Rattle.method_linker.specs.Linked.{distance, is_far};
+ghost use Rattle.method_linker.specs.Linked.{distance};
 ghost use Rattle.method_linker.specs.Steps.{line_places, HasIndex, HasTarget};
 
 use ijvm_instr::Instr;
 use ijvm_program::{CodeLine, Jump, Operation};
-
-/// Whether a distance is no number of 16 bits.
-pub fn is_far(distance: i32) -> bool
-    ensures { result ≡ is_far distance }
-{
-    distance < -32_768 || 32_767 < distance
-}
 
 /// How far the line at this position jumps.
 pub fn distance(lines: &[CodeLine], places: &[u32], position: usize, operation: Operation) -> i32
@@ -21,7 +15,7 @@ pub fn distance(lines: &[CodeLine], places: &[u32], position: usize, operation: 
     requires placed { places.now ≡ line_places lines.now }
     requires position { position < length lines.now }
     requires target { HasTarget (length lines.now) operation }
-    ensures { result ≡ distance 0 lines.now position operation }
+    ensures { result ≡ distance lines.now position operation }
 {
     match operation {
         Operation::To { target, .. } => places[target as usize] as i32 - places[position] as i32,

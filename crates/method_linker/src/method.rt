@@ -1,33 +1,26 @@
 //! Methods: a header and code.
 
-ghost use Rattle.std.specs.Prelude.{◌≡◌, ◌≤◌, ◌<◌, ◌+◌, ◌++◌, length, All, OnOk, sum_by};
-ghost use Rattle.ijvm_instr.specs.Instructions.{two_bytes};
+ghost use Rattle.std.specs.Prelude.{◌≡◌, ◌≤◌, ◌+◌, ◌++◌, length, All, OnOk, sum_by};
 ghost use Rattle.ijvm_program.specs.Layout.{code_size, method_size};
-ghost use Rattle.method_linker.specs.Linked.{header};
-ghost use Rattle.method_linker.specs.Steps.{IsLinkableUnit, IsPushed, method_code, method_jumps, ArePushed};
+ghost use Rattle.method_linker.specs.Linked.{header_of, method_bytes, method_distances};
+ghost use Rattle.method_linker.specs.Steps.{IsLinkableUnit, IsPushed, ArePushed};
 
 use crate::code::push_code;
 use crate::error::LinkError;
+use ijvm_image::push_header;
 use ijvm_program::Unit;
 use std::alloc::{AllocError, Global};
 
-/// Appends a count of two bytes, the high one first.
-fn push_count(text: &mut Vec<u8>, count: u16) -> Result<(), AllocError>
-    ensures { OnOk result (text.new.items ≡ text.old.items ++ two_bytes count) }
-{
-    text.push((count / 256) as u8)?;
-    text.push((count % 256) as u8)?;
-    Ok(())
-}
-
 /// Appends the counts of a method: its parameters with the object reference, and its other locals.
-fn push_header(text: &mut Vec<u8>, method: &Unit) -> Result<(), AllocError>
+fn push_counts(text: &mut Vec<u8>, method: &Unit) -> Result<(), AllocError>
     requires { length method.now.parameters + length method.now.locals ≤ 65534 }
-    ensures { OnOk result (text.new.items ≡ text.old.items ++ header method.now) }
+    ensures { OnOk result (text.new.items ≡ text.old.items ++ header_of method.now) }
 {
-    push_count(text, method.parameters().len() as u16 + 1)?;
-    push_count(text, method.locals().len() as u16)?;
-    Ok(())
+    push_header(
+        text,
+        method.parameters().len() as u16 + 1,
+        method.locals().len() as u16,
+    )
 }
 
 fn push_method(
@@ -38,9 +31,9 @@ fn push_method(
 ) -> Result<(), LinkError>
     requires few { code_size method.now.lines ≤ 65536 }
     requires linkable { IsLinkableUnit first method.now }
-    ensures { IsPushed text.old.items text.new.items (method_code first method.now) (method_jumps method.now) result }
+    ensures { IsPushed text.old.items text.new.items (method_bytes first method.now) (method_distances method.now) result }
 {
-    push_header(text, method)?;
+    push_counts(text, method)?;
     push_code(alloc, text, method.lines(), first)
 }
 
@@ -53,7 +46,7 @@ pub fn push_methods(
 ) -> Result<(), LinkError>
     requires few { sum_by method_size methods.now ≤ 65536 }
     requires linkable { All (IsLinkableUnit first) methods.now }
-    ensures { ArePushed text.old.items text.new.items (method_code first) method_jumps methods.now result }
+    ensures { ArePushed text.old.items text.new.items (method_bytes first) method_distances methods.now result }
 {
     for method in methods {
         push_method(alloc, text, method, first)?;
