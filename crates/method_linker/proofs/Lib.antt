@@ -1,5 +1,4 @@
 pub mod Places
 pub mod Pushed
 pub mod Texts
-pub mod Images
-mod Examples
+pub mod Examples

@@ -1,9 +1,8 @@
--- The text and the distances of a program, by units; and their sizes.
-use Rattle.std.proofs.Common.{◌≡◌, ℕ, ◌+◌, ℤ, pos, List, [], ◌∷◌, ◌++◌, length, map, refl, sym, ap, ◌∙◌, length-append, arith}
+-- The sizes of a text and of a pool.
+use Rattle.std.proofs.Common.{◌≡◌, ℕ, ◌+◌, ℤ, pos, List, [], ◌∷◌, length, map, refl, sym, ap, ◌∙◌, length-append, arith}
 use Rattle.std.specs.List.{flat_map, enumerate_from, range_with_len, sum_by}
 use Rattle.std.proofs.lemmas.List.{length-map}
 use Rattle.std.proofs.lemmas.List.FromFn.{length-map-range_with_len}
-use Rattle.std.proofs.lemmas.List.Concat.{flat_map_single}
 use Rattle.std.proofs.lemmas.List.Sums.{sum_by-cons}
 use Rattle.ijvm_instr.specs.Instructions.{spelling}
 use Rattle.ijvm_program.specs.declared.line.Constant.{Constant as ConstantLine}
@@ -15,34 +14,13 @@ use Rattle.ijvm_program.specs.declared.line.Operation.TheVariants.{To}
 use Rattle.ijvm_program.specs.Layout.{instr_of, line_size, code_size, method_size, text_size, entry_of}
 use Rattle.ijvm_program.specs.Unit.{UnitView}
 use Rattle.ijvm_program.specs.Program.{ProgramView}
-use Rattle.method_linker.specs.Linked.{distance, line_bytes, code_bytes, line_distance, code_distances, header_of, method_bytes, text, method_distances, distances, pool, pool_size}
-use Rattle.method_linker.specs.Steps.{line_jump}
-
-pub text_by_units : (p : ProgramView) → text p ≡ code_bytes (length p.constants) p.main.lines ++ flat_map (method_bytes (length p.constants)) p.methods
-unfolding text
-text_by_units p = refl
-
-pub distances_by_units : (p : ProgramView) → distances p ≡ code_distances p.main.lines ++ flat_map method_distances p.methods
-unfolding distances
-distances_by_units p = refl
-
--- ---- the code of a unit, as a loop over its lines appends it
-
-pub bytes_of_lines : (first : ℕ) (lines : List CodeLine) → flat_map (line_bytes first lines) (enumerate_from 0 lines) ≡ code_bytes first lines
-unfolding code_bytes
-bytes_of_lines first lines = refl
-
-pub distances_of_lines : (lines : List CodeLine) → flat_map (line_jump lines) (enumerate_from 0 lines) ≡ code_distances lines
-unfolding code_distances
-distances_of_lines lines = flat_map_single (line_distance lines) (enumerate_from 0 lines)
-
--- ---- sizes
+use Rattle.method_linker.specs.Linked.{distance, line_bytes, code_bytes, header_of, method_bytes, text, pool, pool_size}
 
 length_jump : (j : Jump) (d : ℤ) → length (spelling (instr_of 0 d (To j 0))) ≡ 3
 length_jump Ifeq d = refl
 length_jump _ d = refl
 
-length-spelling : (first : ℕ) (d : ℤ) (o : Operation) → length (spelling (instr_of first d o)) ≡ length (spelling (instr_of 0 (pos 0) o))
+pub length-spelling : (first : ℕ) (d : ℤ) (o : Operation) → length (spelling (instr_of first d o)) ≡ length (spelling (instr_of 0 (pos 0) o))
 length-spelling first d (To jump target) = length_jump jump d ∙ sym (length_jump jump (pos 0))
 length-spelling first d _ = refl
 

@@ -70,10 +70,6 @@ pool program = map (λ c. c.value) program.constants ++ entries program
 
 -- ---- limits
 
--- these bytes are the program's text, and no line of it jumps too far
-abbrev pub IsTextOf : ProgramView → List ℕ → Type 0
-IsTextOf program bytes = (bytes ≡ text program) × (first_far (distances program) ≡ None)
-
 -- the program is in the limits, and this is its image
 pub record IsLinked (program : ProgramView) (image : ImageView) : Type 0 where
   pub pool_fits : pool_size program ≤ 16384

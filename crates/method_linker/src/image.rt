@@ -1,9 +1,9 @@
 //! The image of a program.
 
-ghost use Rattle.std.specs.Prelude.{◌≤◌, MatchResult, IfOk, IfErr};
+ghost use Rattle.std.specs.Prelude.{◌≡◌, ◌≤◌, IfOk, IfErr};
+ghost use Rattle.ijvm_text.specs.Adds.{IsText};
 ghost use Rattle.ijvm_program.specs.Layout.{text_size};
-ghost use Rattle.method_linker.specs.Linked.{text, distances, pool_size, IsLinked, IsRefused, IsTextOf};
-ghost use Rattle.method_linker.specs.Steps.{IsStopped};
+ghost use Rattle.method_linker.specs.Linked.{text, distances, pool_size, IsLinked, IsRefused};
 
 use crate::code::push_code;
 use crate::error::LinkError;
@@ -12,7 +12,8 @@ use crate::pool::{pool_of, pool_size};
 use crate::size::text_size;
 use ijvm_image::Image;
 use ijvm_program::Program;
-use std::alloc::Global;
+use ijvm_text::{Jump, Text};
+use std::alloc::{AllocError, Global};
 
 /// The words that a pool has room for.
 const MOST_WORDS: u32 = 16_384;
@@ -21,16 +22,23 @@ const MOST_WORDS: u32 = 16_384;
 const MOST_BYTES: u32 = 65_536;
 
 /// Main's code, and then the methods in order.
-fn text_of(alloc: Global, program: &Program) -> Result<Vec<u8>, LinkError>
+fn text_of(alloc: Global, program: &Program) -> Result<Text, AllocError>
     requires pool { pool_size program.now ≤ 16384 }
     requires text { text_size program.now.main program.now.methods ≤ 65536 }
-    ensures { MatchResult result (λ bytes. IsTextOf program.now bytes.items) (IsStopped (distances program.now)) }
+    ensures { IfOk result (λ made. IsText made (text program.now) (distances program.now)) }
 {
     let first = program.constants().len() as u32;
-    let mut text = Vec::new(alloc);
+    let mut text = Text::new(alloc);
     push_code(alloc, &mut text, program.main().lines(), first)?;
     push_methods(alloc, &mut text, program.methods(), first)?;
     Ok(text)
+}
+
+/// The refusal of a jump that leads too far.
+fn too_far(jump: Jump) -> LinkError
+    ensures { result ≡ LinkError.JumpTooFar jump.line jump.distance }
+{
+    LinkError::JumpTooFar(jump.line, jump.distance)
 }
 
 /// The image of a program, or the first limit that it exceeds.
@@ -46,7 +54,10 @@ pub fn link(alloc: Global, program: &Program) -> Result<Image, LinkError>
     if size > MOST_BYTES {
         return Err(LinkError::TextTooLong(size));
     }
-    let text = text_of(alloc, program)?;
+    let Text { bytes, far } = text_of(alloc, program)?;
+    if let Some(jump) = far {
+        return Err(too_far(jump));
+    }
     let pool = pool_of(alloc, program)?;
-    Ok(Image::new(text, pool))
+    Ok(Image::new(bytes, pool))
 }

@@ -1,7 +1,6 @@
 //! The instruction of a line.
 
-ghost use Rattle.std.specs.Prelude.{◌≡◌, ◌≤◌, ◌<◌, false, length};
-ghost use Rattle.ijvm_instr.specs.Jumps.{is_far};
+ghost use Rattle.std.specs.Prelude.{◌≡◌, ◌≤◌, ◌<◌, length};
 ghost use Rattle.ijvm_program.specs.Layout.{code_size, jump_by, instr_of};
 ghost use Rattle.method_linker.specs.Linked.{distance};
 ghost use Rattle.method_linker.specs.Steps.{line_places, HasIndex, HasTarget};
@@ -23,27 +22,26 @@ pub fn distance(lines: &[CodeLine], places: &[u32], position: usize, operation: 
     }
 }
 
-fn jump_by(jump: Jump, distance: i16) -> Instr
-    ensures { result ≡ jump_by jump distance }
+fn jump_by(jump: Jump, offset: i16) -> Instr
+    ensures { result ≡ jump_by jump offset }
 {
     match jump {
-        Jump::Ifeq => Instr::Ifeq(distance),
-        Jump::Iflt => Instr::Iflt(distance),
-        Jump::IfIcmpeq => Instr::IfIcmpeq(distance),
-        Jump::Goto => Instr::Goto(distance),
+        Jump::Ifeq => Instr::Ifeq(offset),
+        Jump::Iflt => Instr::Iflt(offset),
+        Jump::IfIcmpeq => Instr::IfIcmpeq(offset),
+        Jump::Goto => Instr::Goto(offset),
     }
 }
 
-/// The instruction of an operation, where the methods' entries begin at this index of the pool.
-pub fn instr_of(operation: Operation, first: u32, distance: i32) -> Instr
-    requires near { is_far distance ≡ false }
-    requires index { HasIndex first operation }
-    ensures { result ≡ instr_of first distance operation }
+/// The instruction of an operation, where the methods' entries begin at this index of the pool and a jump has this operand.
+pub fn instr_of(operation: Operation, first: u32, offset: i16) -> Instr
+    requires { HasIndex first operation }
+    ensures { result ≡ instr_of first offset operation }
 {
     match operation {
         Operation::Plain(instr) => instr,
         Operation::Constant(index) => Instr::LdcW(index as u16),
         Operation::Call(index) => Instr::Invokevirtual((first + index) as u16),
-        Operation::To { jump, .. } => jump_by(jump, distance as i16),
+        Operation::To { jump, .. } => jump_by(jump, offset),
     }
 }

@@ -1,10 +1,8 @@
 -- Bytes that are appended, part by part.
 use Rattle.std.proofs.Common.{◌≡◌, ◌<◌, ◌≤◌, ℕ, ◌+◌, List, [], ◌∷◌, ◌++◌, length, map, drop, get_or, refl, sym, ap, ◌∙◌, append_assoc}
 use Rattle.std.proofs.lemmas.List.{append-nil, drop_all}
-use Rattle.std.proofs.lemmas.Grind.{flat_map-append}
 use Rattle.ijvm_instr.specs.declared.instr.Instr.{Instr}
 use Rattle.ijvm_instr.specs.declared.instr.Instr.TheVariants.{LdcW, Invokevirtual}
-use Rattle.ijvm_instr.specs.Instructions.{spelling}
 use Rattle.tiny_tree.specs.declared.tree.Operator.{Operator}
 use Rattle.tiny_tree.specs.declared.tree.Expr.{Expr, out-Expr}
 use Rattle.tiny_tree.specs.declared.tree.Step.{Step, out-Step}
@@ -12,20 +10,9 @@ use Rattle.tiny_tree.specs.Tree as tree
 use Rattle.tiny_tree.specs.Tree.{arguments_of, steps_of}
 use Rattle.tiny_tree.specs.View.{expr_tree, step_tree, term_tree}
 use Rattle.tiny_tree.specs.Outs.{drop_item, expr_tree_out, step_tree_out}
-use Rattle.tiny_emit.specs.Bytes.{code_bytes}
+use Rattle.ijvm_text.specs.Adding.{joined, none}
+use Rattle.ijvm_text.specs.Bytes.{code_bytes}
 use Rattle.tiny_code.specs.Code.{Places, arguments_code, expr_code, operator_code, steps_code, term_code}
-
-pub one : (i : Instr) → spelling i ≡ code_bytes (i ∷ [])
-unfolding code_bytes
-one i = sym (append-nil (spelling i))
-
-pub none : code_bytes [] ≡ []
-unfolding code_bytes
-none = refl
-
-pub joined : (a b : List Instr) → code_bytes (a ++ b) ≡ code_bytes a ++ code_bytes b
-unfolding code_bytes
-joined a b = flat_map-append spelling a b
 
 pub then_bytes : (old mid new : List ℕ) (a b : List Instr) → mid ≡ old ++ code_bytes a → new ≡ mid ++ code_bytes b →
     new ≡ old ++ code_bytes (a ++ b)

@@ -1,5 +1,4 @@
 mod Bytes
-mod Adding
 mod Sides
 mod Lists
 mod Texts

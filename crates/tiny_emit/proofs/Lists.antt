@@ -8,21 +8,21 @@ use Rattle.tiny_tree.specs.View.{statement_tree}
 use Rattle.tiny_code.specs.Code.{Places, statement_code, statements_code}
 use Rattle.tiny_code.specs.Image.{statement_lines, statements_lines}
 use Rattle.tiny_code.specs.Lined.{statement_lined}
-use Rattle.tiny_emit.specs.declared.part.Part.{Part}
-use Rattle.tiny_emit.specs.Appended.{AddsCode}
+use Rattle.ijvm_text.specs.declared.text.Text.{Text}
+use Rattle.ijvm_text.specs.Adds.{AddsCode}
 use Rattle.tiny_tree.specs.Outs.{drop_item}
-use Rattle.tiny_emit.proofs.Adding.{no_code}
+use Rattle.ijvm_text.specs.Adding.{no_code}
 use Rattle.tiny_emit.proofs.Sides.{then_code}
 
 module _ (p : Places) (local : ℕ) where
   abbrev trees : List Statement → tree.Statements
   trees ss = statements_of (map statement_tree ss)
 
-  abbrev Added : Part → Part → List Statement → Type 0
+  abbrev Added : Text → Text → List Statement → Type 0
   Added a b ss = AddsCode a b (statements_code p local (trees ss)) (statements_lines (trees ss))
 
   -- one more statement
-  pub statement_added : (a b end : Part) (ss : List Statement) (i : ℕ) (s : Statement) → i < length ss → s ≡ get_or ss i s →
+  pub statement_added : (a b end : Text) (ss : List Statement) (i : ℕ) (s : Statement) → i < length ss → s ≡ get_or ss i s →
       AddsCode a b (statement_code p local (statement_tree s)) (statement_lines (statement_tree s)) →
       Added b end (drop (i + 1) ss) → Added a end (drop i ss)
   statement_added a b end ss i s lt is h k =
@@ -31,5 +31,5 @@ module _ (p : Places) (local : ℕ) where
       (statement_lines (statement_tree s)) (statements_lines (trees (drop (i + 1) ss))) (statement_lined p local (statement_tree s)) h k)
 
   -- no further statement
-  pub statements_done : (a : Part) (ss : List Statement) (i : ℕ) → length ss ≤ i → Added a a (drop i ss)
+  pub statements_done : (a : Text) (ss : List Statement) (i : ℕ) → length ss ≤ i → Added a a (drop i ss)
   statements_done a ss i h = subst (Added a a) (sym (drop_all i ss h)) (no_code a)

@@ -1,22 +1,29 @@
--- The code of tests, choices and loops, part by part.
-use Rattle.std.proofs.Common.{◌≡◌, ℕ, ℤ, pos, ◌+◌, ◌-◌, List, [], ◌∷◌, ◌++◌, length, refl, sym, ap, ◌∙◌, subst, arith}
+-- The code of tests, choices and loops, piece by piece.
+use Rattle.std.proofs.Common.{◌≡◌, ℕ, ℤ, pos, ◌+◌, ◌-◌, false, List, [], ◌∷◌, ◌++◌, length, refl, sym, ap, ◌∙◌, subst, arith, length-append}
 use Rattle.std.specs.Prelude.{neg_ℤ}
 use Rattle.std.specs.List.{zip}
+use Rattle.std.specs.Option.{option_or}
 use Rattle.ijvm_instr.specs.declared.instr.Instr.{Instr}
 use Rattle.ijvm_instr.specs.declared.instr.Instr.TheVariants.{Iflt, IfIcmpeq, Goto}
-use Rattle.ijvm_instr.specs.Jumps.{HasLines, Jump, distances, jumps_of}
+use Rattle.ijvm_instr.specs.Instructions.{row_of, size_of, spelling}
+use Rattle.ijvm_instr.specs.Jumps.{HasLines, Jump, distances, first_far, is_far, jumps_of}
 use Rattle.tiny_tree.specs.Tree.{Cond, Expr, Equal, Different, Less}
 use Rattle.tiny_code.specs.Code.{Places, choice, code_size, if_code, leave_code, loop, test_code}
 use Rattle.tiny_code.specs.Image.{if_lines, leave_lines, while_lines}
 use Rattle.tiny_code.specs.Lined.{distances_append, leave_lined, test_lined}
-use Rattle.tiny_emit.specs.declared.part.Part.{Part}
-use Rattle.tiny_emit.specs.declared.part.Way.{Way}
-use Rattle.tiny_emit.specs.declared.part.Way.TheVariants.{IfEqual}
-use Rattle.tiny_emit.specs.Adds.{Adds, jump_code, way_of}
-use Rattle.tiny_emit.specs.Appended.{AddsCode, AddsJump, IsCode}
-use Rattle.tiny_emit.specs.Bytes.{code_bytes}
-use Rattle.tiny_emit.proofs.Bytes.{joined}
-use Rattle.tiny_emit.proofs.Adding.{bytes_size, then}
+use Rattle.ijvm_text.specs.declared.text.Text.{Text}
+use Rattle.tiny_emit.specs.declared.jump.Way.{Way}
+use Rattle.tiny_emit.specs.declared.jump.Way.TheVariants.{IfEqual}
+use Rattle.ijvm_text.specs.Adding.{joined, jumped, then}
+use Rattle.ijvm_text.specs.Adds.{Adds, AddsCode, IsCode, far_of}
+use Rattle.ijvm_text.specs.Bytes.{code_bytes}
+use Rattle.tiny_emit.specs.Appended.{AddsJump}
+use Rattle.tiny_emit.specs.Ways.{jump_code, way_of}
+
+pub bytes_size : (code : List Instr) → length (code_bytes code) ≡ code_size code
+unfolding code_bytes
+bytes_size [] = refl
+bytes_size (i ∷ is) = length-append (spelling i) (code_bytes is) ∙ ap (λ (n : ℕ). size_of (row_of i) + n) (bytes_size is)
 
 zip_append : (i j : List ℕ) (d e : List ℤ) → length i ≡ length d → zip (i ++ j) (d ++ e) ≡ zip i d ++ zip j e
 zip_append [] j [] e h = refl
@@ -27,25 +34,36 @@ zip_append (n ∷ i) j (z ∷ d) e h = ap (λ (js : List Jump). (n, z) ∷ js) (
 jumps_append : (x y : List Instr) (i j : List ℕ) → HasLines i x → jumps_of (i ++ j) (x ++ y) ≡ jumps_of i x ++ jumps_of j y
 jumps_append x y i j h = ap (λ (ds : List ℤ). zip (i ++ j) ds) (distances_append x y) ∙ zip_append i j (distances x) (distances y) h
 
-pub then_code : (a b c : Part) (x y : List Instr) (i j : List ℕ) → HasLines i x → AddsCode a b x i → AddsCode b c y j →
+pub then_code : (a b c : Text) (x y : List Instr) (i j : List ℕ) → HasLines i x → AddsCode a b x i → AddsCode b c y j →
     AddsCode a c (x ++ y) (i ++ j)
 then_code a b c x y i j count h k =
     subst (λ (js : List Jump). Adds a c (code_bytes (x ++ y)) js) (sym (jumps_append x y i j count))
     (subst (λ (l : List ℕ). Adds a c l (jumps_of i x ++ jumps_of j y)) (sym (joined x y))
     (then a b c (code_bytes x) (code_bytes y) (jumps_of i x) (jumps_of j y) h k))
 
-part_size : (part : Part) (x : List Instr) (i : List ℕ) (m : ℕ) → IsCode part x i → m ≡ length part.bytes.items → m ≡ code_size x
-part_size part x i m h is = is ∙ h.size ∙ bytes_size x
+text_size : (text : Text) (x : List Instr) (i : List ℕ) (m : ℕ) → IsCode text x i → m ≡ length text.bytes.items → m ≡ code_size x
+text_size text x i m h is = is ∙ h.size ∙ bytes_size x
 
 jump_lined : (w : Way) (line : ℕ) (z : ℤ) → HasLines (line ∷ []) (jump_code w z ∷ [])
 jump_lined IfEqual line z = refl
 jump_lined _ line z = refl
 
-jump_added : (a b : Part) (w : Way) (line : ℕ) (z : ℤ) → AddsJump a b w line z → AddsCode a b (jump_code w z ∷ []) (line ∷ [])
+jump_size : (w : Way) (o z : ℤ) → code_size (jump_code w o ∷ []) ≡ code_size (jump_code w z ∷ [])
+jump_size IfEqual o z = refl
+jump_size _ o z = refl
+
+pub way_jumped : (a b : Text) (w : Way) (line : ℕ) (z o : ℤ) → b.bytes.items ≡ a.bytes.items ++ code_bytes (jump_code w o ∷ []) →
+    far_of b.far ≡ option_or (far_of a.far) (first_far ((line, z) ∷ [])) → (is_far z ≡ false → o ≡ z) → AddsJump a b w line z
+way_jumped a b w line z o is far near =
+    jumped a b line z (code_bytes (jump_code w o ∷ [])) (code_bytes (jump_code w z ∷ []))
+    (bytes_size (jump_code w o ∷ []) ∙ jump_size w o z ∙ sym (bytes_size (jump_code w z ∷ []))) is far
+    (λ h. ap (λ (k : ℤ). code_bytes (jump_code w k ∷ [])) (near h))
+
+jump_added : (a b : Text) (w : Way) (line : ℕ) (z : ℤ) → AddsJump a b w line z → AddsCode a b (jump_code w z ∷ []) (line ∷ [])
 jump_added a b IfEqual line z h = h
 jump_added a b _ line z h = h
 
-module _ (a b c d e f : Part) (test : List Instr) (w v : Way) (same : w ≡ v) (line m n : ℕ) (x y : List Instr) (i j : List ℕ)
+module _ (a b c d e f : Text) (test : List Instr) (w v : Way) (same : w ≡ v) (line m n : ℕ) (x y : List Instr) (i j : List ℕ)
     (straight : HasLines [] test) (count : HasLines i x) where
   abbrev chosen : ℕ → ℕ → List Instr
   chosen k l = test ++ (jump_code v (pos (6 + k)) ∷ (x ++ (Goto (pos (3 + l)) ∷ y)))
@@ -64,14 +82,14 @@ module _ (a b c d e f : Part) (test : List Instr) (w v : Way) (same : w ≡ v) (
       (jump_added b c v line (pos (6 + m)) on) sides in
       then_code a b f test (jump_code v (pos (6 + m)) ∷ (x ++ after)) [] (line ∷ (i ++ line ∷ j)) straight tested all
 
-  pub choice_added : (first second : Part) → IsCode first x i → IsCode second y j →
+  pub choice_added : (first second : Text) → IsCode first x i → IsCode second y j →
       m ≡ length first.bytes.items → n ≡ length second.bytes.items →
       AddsCode a b test [] → AddsJump b c w line (pos (6 + m)) → AddsCode c d x i →
       AddsCode d e (Goto (pos (3 + n)) ∷ []) (line ∷ []) → AddsCode e f y j →
       AddsCode a f (choice test (jump_code v) x y) (line ∷ (i ++ line ∷ j))
   choice_added first second front back m_is n_is tested on one past two =
-      subst (λ (k : ℕ). Added (code_size x) k) (part_size second y j n back n_is)
-      (subst (λ (k : ℕ). Added k n) (part_size first x i m front m_is)
+      subst (λ (k : ℕ). Added (code_size x) k) (text_size second y j n back n_is)
+      (subst (λ (k : ℕ). Added k n) (text_size first x i m front m_is)
       (choice_of tested (subst (λ (k : Way). AddsJump b c k line (pos (6 + m))) same on) one past two))
 
 module _ (p : Places) (local line : ℕ) (a b : List Instr) (i j : List ℕ) (Q : List Instr → List ℕ → Type 0) where
@@ -87,7 +105,7 @@ module _ (p : Places) (local line : ℕ) (a b : List Instr) (i j : List ℕ) (Q 
   pub if_less : (t : Cond) (l r : Expr) → t ≡ Less l r → Chosen t → Q (if_code p local t b a) (if_lines line t j i)
   if_less t l r e h = subst (λ (k : Cond). Q (if_code p local k b a) (if_lines line k j i)) (sym e) (subst Chosen e h)
 
-module _ (p : Places) (local line n : ℕ) (a b c : Part) where
+module _ (p : Places) (local line n : ℕ) (a b c : Text) where
   abbrev Left : Cond → Type 0
   Left t = AddsCode a c (leave_code p local t n) (leave_lines line t)
 
@@ -101,7 +119,7 @@ module _ (p : Places) (local line n : ℕ) (a b c : Part) where
   leave_less t l r e h k =
       subst Left (sym e) (then_code a b c (Iflt (pos 6) ∷ []) (Goto (pos (6 + n)) ∷ []) (line ∷ []) (line ∷ []) refl h k)
 
-module _ (a b c d e : Part) (p : Places) (local line n z : ℕ) (t : Cond) (x : List Instr) (i : List ℕ) where
+module _ (a b c d e : Text) (p : Places) (local line n z : ℕ) (t : Cond) (x : List Instr) (i : List ℕ) where
   abbrev leave_at : ℕ → List Instr
   leave_at k = leave_code p local t k
 
@@ -111,7 +129,7 @@ module _ (a b c d e : Part) (p : Places) (local line n z : ℕ) (t : Cond) (x : 
   abbrev looped : ℕ → List Instr
   looped k = test_code p local t ++ (leave_at k ++ (x ++ Goto (back_from k) ∷ []))
 
-  pub loop_added : (body : Part) → HasLines i x → IsCode body x i → n ≡ length body.bytes.items →
+  pub loop_added : (body : Text) → HasLines i x → IsCode body x i → n ≡ length body.bytes.items →
       z ≡ code_size (test_code p local t) + code_size (leave_at n) + n →
       AddsCode a b (test_code p local t) [] → AddsCode b c (leave_at n) (leave_lines line t) → AddsCode c d x i →
       AddsCode d e (Goto (neg_ℤ (pos z)) ∷ []) (line ∷ []) →
@@ -122,11 +140,11 @@ module _ (a b c d e : Part) (p : Places) (local line n z : ℕ) (t : Cond) (x : 
       let last : AddsCode c e (x ++ jump) (i ++ line ∷ []) = then_code c d e x jump i (line ∷ []) count inner back' in
       let most : AddsCode b e (leave_at n ++ (x ++ jump)) (while_lines line t i) =
       then_code b c e (leave_at n) (x ++ jump) (leave_lines line t) (i ++ line ∷ []) (leave_lined p local line t n) left last in
-      subst (λ (k : ℕ). AddsCode a e (looped k) (while_lines line t i)) (part_size body x i n is n_is)
+      subst (λ (k : ℕ). AddsCode a e (looped k) (while_lines line t i)) (text_size body x i n is n_is)
       (then_code a b e (test_code p local t) (leave_at n ++ (x ++ jump)) [] (while_lines line t i) (test_lined p local t) tested most)
 
   -- how far back
-  pub gone_back : (begin end : ℕ) (body : Part) → IsCode body x i → n ≡ length body.bytes.items →
+  pub gone_back : (begin end : ℕ) (body : Text) → IsCode body x i → n ≡ length body.bytes.items →
       begin ≡ length a.bytes.items → end ≡ length d.bytes.items →
       AddsCode a b (test_code p local t) [] → AddsCode b c (leave_at n) (leave_lines line t) →
       AddsCode c d x i → end - begin ≡ code_size (test_code p local t) + code_size (leave_at n) + n

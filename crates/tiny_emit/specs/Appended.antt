@@ -1,10 +1,9 @@
 -- What is appended for the parts of a program as they stand in memory: their code, and their jumps.
-use Rattle.std.specs.Prelude.{◌≡◌, ℕ, ℤ, ◌+◌, List, [], ◌∷◌, ◌++◌, map, Option, Vec}
-use Rattle.std.specs.declared.alloc.Global.{Global}
+use Rattle.std.specs.Prelude.{◌≡◌, ℕ, ℤ, ◌+◌, List, [], ◌∷◌, ◌++◌, map, Option}
 use Rattle.std.specs.Option.{option_map}
 use Rattle.ijvm_instr.specs.declared.instr.Instr.{Instr}
 use Rattle.ijvm_instr.specs.declared.instr.Instr.TheVariants.{Istore, Pop, Isub}
-use Rattle.ijvm_instr.specs.Jumps.{HasLines, Jump, jumps_of}
+use Rattle.ijvm_instr.specs.Jumps.{HasLines}
 use Rattle.tiny_tree.specs.declared.tree.Block.{Block}
 use Rattle.tiny_tree.specs.declared.tree.Cond.{Cond}
 use Rattle.tiny_tree.specs.declared.tree.Expr.{Expr}
@@ -18,33 +17,18 @@ use Rattle.tiny_code.specs.Code.{Places, arguments_code, choice, code_size, else
 use Rattle.tiny_code.specs.Image.{else_lines, if_lines, leave_lines, statement_lines, statements_lines, while_lines}
 use Rattle.tiny_pool.specs.declared.table.Table.{Table}
 use Rattle.tiny_pool.specs.Places.{places_in}
-use Rattle.tiny_emit.specs.declared.part.Part.{Part}
-use Rattle.tiny_emit.specs.declared.part.Way.{Way}
-use Rattle.tiny_emit.specs.Adds.{Adds, IsPart, jump_code, way_of}
-use Rattle.tiny_emit.specs.Bytes.{code_bytes}
-
--- this code stands after the old bytes
-abbrev pub Puts : Vec ℕ Global → Vec ℕ Global → List Instr → Type 0
-Puts old new code = new.items ≡ old.items ++ code_bytes code
-
--- this code, whose jumps have these lines, is added to the old part
-abbrev pub AddsCode : Part → Part → List Instr → List ℕ → Type 0
-AddsCode old new code lines = Adds old new (code_bytes code) (jumps_of lines code)
-
--- the part is this code, whose jumps have these lines
-abbrev pub IsCode : Part → List Instr → List ℕ → Type 0
-IsCode part code lines = IsPart part (code_bytes code) (jumps_of lines code)
-
--- all of the other part is added to the old one
-abbrev pub AddsPart : Part → Part → Part → Type 0
-AddsPart old new other = (bytes : List ℕ) (js : List Jump) → IsPart other bytes js → Adds old new bytes js
+use Rattle.ijvm_text.specs.declared.text.Text.{Text}
+use Rattle.ijvm_text.specs.Adds.{Adds, AddsCode, IsCode}
+use Rattle.ijvm_text.specs.Bytes.{code_bytes}
+use Rattle.tiny_emit.specs.declared.jump.Way.{Way}
+use Rattle.tiny_emit.specs.Ways.{jump_code, way_of}
 
 -- a jump that is taken so, of a statement in this line, is added
-abbrev pub AddsJump : Part → Part → Way → ℕ → ℤ → Type 0
+abbrev pub AddsJump : Text → Text → Way → ℕ → ℤ → Type 0
 AddsJump old new way line distance = Adds old new (code_bytes (jump_code way distance ∷ [])) ((line, distance) ∷ [])
 
 -- what leads out of the loop of a `while`, or into its body of this size, is added
-abbrev pub AddsLeave : Places → ℕ → Part → Part → ℕ → Cond → ℕ → Type 0
+abbrev pub AddsLeave : Places → ℕ → Text → Text → ℕ → Cond → ℕ → Type 0
 AddsLeave p local old new line c size = AddsCode old new (leave_code p local (cond_tree c) size) (leave_lines line (cond_tree c))
 
 -- ---- with the places of a table, in a function whose first variable is this local
@@ -80,39 +64,39 @@ module _ (table : Table) (local : ℕ) where
   abbrev pub code_of_test : Cond → List Instr
   code_of_test c = test_code (places_in table) local (cond_tree c)
 
-  abbrev pub AddsStatement : Part → Part → Statement → Type 0
+  abbrev pub AddsStatement : Text → Text → Statement → Type 0
   AddsStatement old new s = AddsCode old new (statement_code (places_in table) local (statement_tree s)) (statement_lines (statement_tree s))
 
-  abbrev AddsAll : Part → Part → tree.Statements → Type 0
+  abbrev AddsAll : Text → Text → tree.Statements → Type 0
   AddsAll old new ss = AddsCode old new (statements_code (places_in table) local ss) (statements_lines ss)
 
-  abbrev pub AddsStatements : Part → Part → List Statement → Type 0
+  abbrev pub AddsStatements : Text → Text → List Statement → Type 0
   AddsStatements old new ss = AddsAll old new (statements_of (map statement_tree ss))
 
-  abbrev pub AddsBlock : Part → Part → Block → Type 0
+  abbrev pub AddsBlock : Text → Text → Block → Type 0
   AddsBlock old new b = AddsAll old new (block_tree b)
 
-  -- the part is this block's code
-  abbrev pub IsBlock : Part → Block → Type 0
+  -- the text is this block's code
+  abbrev pub IsBlock : Text → Block → Type 0
   IsBlock part b = IsCode part (statements_code (places_in table) local (block_tree b)) (statements_lines (block_tree b))
 
-  -- the part is the code of the block after `else`, where there is one
-  abbrev pub IsElse : Part → Option Block → Type 0
+  -- the text is the code of the block after `else`, where there is one
+  abbrev pub IsElse : Text → Option Block → Type 0
   IsElse part b = let other : tree.Else = else_of (option_map block_tree b) in
       IsCode part (else_code (places_in table) local other) (else_lines other)
 
   -- a choice between two codes, of which the test jumps to the second, is added
-  abbrev pub AddsChoice : Part → Part → ℕ → Cond → Part → Part → Type 0
+  abbrev pub AddsChoice : Text → Text → ℕ → Cond → Text → Text → Type 0
   AddsChoice old new line c first second = (a b : List Instr) (i j : List ℕ) → HasLines i a → IsCode first a i → IsCode second b j →
       AddsCode old new (choice (code_of_test c) (jump_code (way_of (cond_tree c))) a b) (line ∷ (i ++ line ∷ j))
 
   -- an `if` with the codes of its two blocks is added
-  abbrev pub AddsIf : Part → Part → ℕ → Cond → Part → Part → Type 0
+  abbrev pub AddsIf : Text → Text → ℕ → Cond → Text → Text → Type 0
   AddsIf old new line c taken other =
       (a b : List Instr) (i j : List ℕ) → HasLines i a → HasLines j b → IsCode taken a i → IsCode other b j →
       AddsCode old new (if_code (places_in table) local (cond_tree c) a b) (if_lines line (cond_tree c) i j)
 
   -- a `while` with the code of its block is added
-  abbrev pub AddsWhile : Part → Part → ℕ → Cond → Part → Type 0
+  abbrev pub AddsWhile : Text → Text → ℕ → Cond → Text → Type 0
   AddsWhile old new line c body = (a : List Instr) (i : List ℕ) → HasLines i a → IsCode body a i →
       AddsCode old new (loop (code_of_test c) (leave_code (places_in table) local (cond_tree c) (code_size a)) a) (while_lines line (cond_tree c) i)

@@ -9,11 +9,10 @@ use Rattle.ijvm_image.specs.Header.{header}
 use Rattle.ijvm_instr.specs.Jumps.{first_far}
 use Rattle.tiny_code.specs.Code.{Places, begins, code_size, main_code, methods, places_of}
 use Rattle.tiny_code.specs.Image.{jumps, method_bytes, method_jumps, methods_bytes, statements_lines, text_of}
-use Rattle.tiny_emit.specs.declared.part.Part.{Part}
+use Rattle.ijvm_text.specs.declared.text.Text.{Text}
 use Rattle.tiny_emit.specs.declared.program.Emitted.{Emitted}
 use Rattle.tiny_emit.specs.declared.program.Methods.{Methods}
-use Rattle.tiny_emit.specs.Adds.{Adds, far_of}
-use Rattle.tiny_emit.specs.Appended.{AddsCode}
+use Rattle.ijvm_text.specs.Adds.{Adds, AddsCode, far_of}
 
 abbrev pub program_of : List declared.Function → ℕ → Program
 program_of functions main = record { functions = map function_tree functions; main = main }
@@ -22,17 +21,17 @@ program_of functions main = record { functions = map function_tree functions; ma
 abbrev pub header_of : declared.Function → List ℕ
 header_of f = header (f.parameters + 1) (vars_of (block_tree f.body))
 
-abbrev pub AddsMain : Places → Part → Part → Function → Type 0
+abbrev pub AddsMain : Places → Text → Text → Function → Type 0
 AddsMain p old new g = AddsCode old new (main_code p g) (statements_lines g.body)
 
 -- a method with its header, whose code does not depend on the position of its function
-abbrev pub AddsMethod : Places → Part → Part → Function → Type 0
+abbrev pub AddsMethod : Places → Text → Text → Function → Type 0
 AddsMethod p old new g = Adds old new (method_bytes p (0, g)) (method_jumps p (0, g))
 
 -- these methods, each with its header, stand after the old text, and where each begins after the old list
 pub record AddsMethods (p : Places) (old new : Methods) (ms : List (ℕ × Function)) : Type 0 where
-  pub part : Adds old.part new.part (methods_bytes p ms) (flat_map (method_jumps p) ms)
-  pub begins : new.begins.items ≡ old.begins.items ++ begins p (length old.part.bytes.items) ms
+  pub text : Adds old.text new.text (methods_bytes p ms) (flat_map (method_jumps p) ms)
+  pub begins : new.begins.items ≡ old.begins.items ++ begins p (length old.text.bytes.items) ms
 
 -- where a jump is too far, the text has its size, and nothing else of it is known
 pub record IsEmitted (program : Program) (main : Function) (e : Emitted) : Type 0 where

@@ -2,13 +2,15 @@
 
 ghost use Rattle.std.specs.Prelude.{◌≡◌, ◌<◌, ◌^◌, [], ℕ, OnOk};
 ghost use Rattle.tiny_code.specs.Code.{Places};
-ghost use Rattle.tiny_emit.specs.Adds.{way_of};
-ghost use Rattle.tiny_emit.specs.Appended.{AddsChoice, AddsCode, AddsIf, AddsLeave, AddsWhile, Puts, code_of_difference, code_of_sides, code_of_test};
+ghost use Rattle.ijvm_text.specs.Adds.{AddsCode, Puts};
+ghost use Rattle.tiny_emit.specs.Ways.{way_of};
+ghost use Rattle.tiny_emit.specs.Appended.{AddsChoice, AddsIf, AddsLeave, AddsWhile, code_of_difference, code_of_sides, code_of_test};
 ghost use Rattle.tiny_tree.specs.View.{cond_tree};
 
-use crate::expr::{put, put_expr};
-use crate::part::{Part, Way};
+use crate::expr::put_expr;
+use crate::jump::{Way, add_backward_jump, add_forward_jump};
 use ijvm_instr::Instr;
+use ijvm_text::{Text, put};
 use std::alloc::AllocError;
 use tiny_pool::Table;
 use tiny_tree::{Cond, Expr};
@@ -50,10 +52,10 @@ fn put_test(bytes: &mut Vec<u8>, table: &Table, local: u8, cond: &Cond) -> Resul
     }
 }
 
-fn add_test(part: &mut Part, table: &Table, local: u8, cond: &Cond) -> Result<(), AllocError>
-    ensures { OnOk result (AddsCode part.old part.new (code_of_test table.now local cond.now) []) }
+fn add_test(text: &mut Text, table: &Table, local: u8, cond: &Cond) -> Result<(), AllocError>
+    ensures { OnOk result (AddsCode text.old text.new (code_of_test table.now local cond.now) []) }
 {
-    put_test(&mut part.bytes, table, local, cond)
+    put_test(&mut text.bytes, table, local, cond)
 }
 
 /// When a test jumps.
@@ -69,75 +71,75 @@ fn way_of(cond: &Cond) -> Way
 
 /// The second side is where the test jumps to.
 fn add_choice(
-    part: &mut Part,
+    text: &mut Text,
     table: &Table,
     local: u8,
     line: u32,
     cond: &Cond,
-    first: &Part,
-    second: &Part,
+    first: &Text,
+    second: &Text,
 ) -> Result<(), AllocError>
-    ensures { OnOk result (AddsChoice table.now local part.old part.new line cond.now first.now second.now) }
+    ensures { OnOk result (AddsChoice table.now local text.old text.new line cond.now first.now second.now) }
 {
-    add_test(part, table, local, cond)?;
-    part.add_forward_jump(way_of(cond), line, 6 + first.size()?)?;
-    part.add_part(first)?;
-    part.add_forward_jump(Way::Always, line, 3 + second.size()?)?;
-    part.add_part(second)
+    add_test(text, table, local, cond)?;
+    add_forward_jump(text, way_of(cond), line, 6 + first.size()?)?;
+    text.add_text(first)?;
+    add_forward_jump(text, Way::Always, line, 3 + second.size()?)?;
+    text.add_text(second)
 }
 
 /// An `if`, from its two blocks.
 pub(crate) fn add_if(
-    part: &mut Part,
+    text: &mut Text,
     table: &Table,
     local: u8,
     line: u32,
     cond: &Cond,
-    taken: &Part,
-    other: &Part,
+    taken: &Text,
+    other: &Text,
 ) -> Result<(), AllocError>
-    ensures { OnOk result (AddsIf table.now local part.old part.new line cond.now taken.now other.now) }
+    ensures { OnOk result (AddsIf table.now local text.old text.new line cond.now taken.now other.now) }
 {
     match cond {
-        Cond::Different { .. } => add_choice(part, table, local, line, cond, taken, other),
-        Cond::Equal { .. } => add_choice(part, table, local, line, cond, other, taken),
-        Cond::Less { .. } => add_choice(part, table, local, line, cond, other, taken),
+        Cond::Different { .. } => add_choice(text, table, local, line, cond, taken, other),
+        Cond::Equal { .. } => add_choice(text, table, local, line, cond, other, taken),
+        Cond::Less { .. } => add_choice(text, table, local, line, cond, other, taken),
     }
 }
 
 /// What leads out of a loop with a body of this size, or into it.
-fn add_leave(part: &mut Part, line: u32, cond: &Cond, size: u32) -> Result<(), AllocError>
+fn add_leave(text: &mut Text, line: u32, cond: &Cond, size: u32) -> Result<(), AllocError>
     requires { size < 2 ^ 30 }
-    ensures { (p : Places) (local : ℕ) → OnOk result (AddsLeave p local part.old part.new line cond.now size) }
+    ensures { (p : Places) (local : ℕ) → OnOk result (AddsLeave p local text.old text.new line cond.now size) }
 {
     match cond {
-        Cond::Different { .. } => part.add_forward_jump(Way::IfEqual, line, 6 + size),
+        Cond::Different { .. } => add_forward_jump(text, Way::IfEqual, line, 6 + size),
         Cond::Equal { .. } => {
-            part.add_forward_jump(Way::IfEqual, line, 6)?;
-            part.add_forward_jump(Way::Always, line, 6 + size)
+            add_forward_jump(text, Way::IfEqual, line, 6)?;
+            add_forward_jump(text, Way::Always, line, 6 + size)
         }
         Cond::Less { .. } => {
-            part.add_forward_jump(Way::IfNegative, line, 6)?;
-            part.add_forward_jump(Way::Always, line, 6 + size)
+            add_forward_jump(text, Way::IfNegative, line, 6)?;
+            add_forward_jump(text, Way::Always, line, 6 + size)
         }
     }
 }
 
 /// A `while`, from its block.
 pub(crate) fn add_while(
-    part: &mut Part,
+    text: &mut Text,
     table: &Table,
     local: u8,
     line: u32,
     cond: &Cond,
-    body: &Part,
+    body: &Text,
 ) -> Result<(), AllocError>
-    ensures { OnOk result (AddsWhile table.now local part.old part.new line cond.now body.now) }
+    ensures { OnOk result (AddsWhile table.now local text.old text.new line cond.now body.now) }
 {
-    let begin = part.size()?;
-    add_test(part, table, local, cond)?;
-    add_leave(part, line, cond, body.size()?)?;
-    part.add_part(body)?;
-    let end = part.size()?;
-    part.add_backward_jump(line, end - begin)
+    let begin = text.size()?;
+    add_test(text, table, local, cond)?;
+    add_leave(text, line, cond, body.size()?)?;
+    text.add_text(body)?;
+    let end = text.size()?;
+    add_backward_jump(text, line, end - begin)
 }

@@ -1,20 +1,15 @@
 //! Appends the code of an expression, which leaves one word on the stack.
 
-ghost use Rattle.std.specs.Prelude.{◌≡◌, ◌+◌, ◌∷◌, [], OnOk, IfOk};
+ghost use Rattle.std.specs.Prelude.{◌≡◌, ◌+◌, ◌∷◌, ◌++◌, [], OnOk, IfOk};
 ghost use Rattle.tiny_code.specs.Code.{operator_code};
-ghost use Rattle.tiny_emit.specs.Appended.{Puts, code_of_arguments, code_of_call, code_of_expr, code_of_steps, code_of_term};
+ghost use Rattle.ijvm_text.specs.Adds.{Puts};
+ghost use Rattle.tiny_emit.specs.Appended.{code_of_arguments, code_of_call, code_of_expr, code_of_steps, code_of_term};
 
-use ijvm_instr::{Instr, push_instr};
+use ijvm_instr::Instr;
+use ijvm_text::put;
 use std::alloc::AllocError;
 use tiny_pool::Table;
 use tiny_tree::{Expr, Operator, Step, Term};
-
-/// Appends the bytes of an instruction.
-pub(crate) fn put(bytes: &mut Vec<u8>, instr: Instr) -> Result<(), AllocError>
-    ensures { OnOk result (Puts bytes.old bytes.new (instr ∷ [])) }
-{
-    push_instr(bytes, instr)
-}
 
 fn operator(operator: Operator) -> Instr
     ensures { result ≡ operator_code operator }

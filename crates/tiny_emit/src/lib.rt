@@ -4,9 +4,8 @@
 mod block;
 mod choice;
 mod expr;
-mod part;
+mod jump;
 mod program;
 mod vars;
 
-pub use part::Jump;
 pub use program::{Emitted, emit};

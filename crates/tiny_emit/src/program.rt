@@ -3,16 +3,16 @@
 ghost use Rattle.std.specs.Prelude.{◌≡◌, ◌<◌, ◌+◌, ◌∷◌, ◌++◌, [], IfOk, OnOk, length};
 ghost use Rattle.ijvm_image.specs.Header.{header};
 ghost use Rattle.tiny_code.specs.Code.{methods, places_of};
-ghost use Rattle.tiny_emit.specs.Adds.{Adds};
+ghost use Rattle.ijvm_text.specs.Adds.{Adds};
 ghost use Rattle.tiny_emit.specs.Emitted.{AddsMain, AddsMethod, AddsMethods, IsEmittedFrom, header_of, program_of};
 ghost use Rattle.tiny_pool.specs.Places.{places_in};
 ghost use Rattle.tiny_tree.specs.View.{function_tree};
 
 use crate::block::add_block;
-use crate::part::{Jump, Part};
 use crate::vars::{sum, vars_of};
 use ijvm_image::push_header;
 use ijvm_instr::Instr;
+use ijvm_text::{Jump, Text};
 use std::alloc::{AllocError, Global};
 use tiny_pool::Table;
 use tiny_tree::Function;
@@ -29,7 +29,7 @@ pub struct Emitted {
 /// A text, and where each of its methods begins.
 #[derive(Drop)]
 struct Methods {
-    part: Part,
+    text: Text,
     begins: Vec<u32>,
 }
 
@@ -49,39 +49,39 @@ fn put_header(bytes: &mut Vec<u8>, parameters: u32, vars: u32) -> Result<(), All
     push_header(bytes, count_of(sum(parameters, 1)?)?, count_of(vars)?)
 }
 
-fn add_header(part: &mut Part, function: &Function) -> Result<(), AllocError>
-    ensures { OnOk result (Adds part.old part.new (header_of function.now) []) }
+fn add_header(text: &mut Text, function: &Function) -> Result<(), AllocError>
+    ensures { OnOk result (Adds text.old text.new (header_of function.now) []) }
 {
     let vars = vars_of(&function.body)?;
-    put_header(&mut part.bytes, function.parameters, vars)
+    put_header(&mut text.bytes, function.parameters, vars)
 }
 
 /// Appends main's code.
 fn add_main(
-    part: &mut Part,
+    text: &mut Text,
     alloc: Global,
     table: &Table,
     function: &Function,
 ) -> Result<(), AllocError>
-    ensures { OnOk result (AddsMain (places_in table.now) part.old part.new (function_tree function.now)) }
+    ensures { OnOk result (AddsMain (places_in table.now) text.old text.new (function_tree function.now)) }
 {
-    add_block(part, alloc, table, 0, &function.body)?;
-    part.add(Instr::Halt)
+    add_block(text, alloc, table, 0, &function.body)?;
+    text.add(Instr::Halt)
 }
 
 /// Appends a function's code, after its header.
 fn add_method(
-    part: &mut Part,
+    text: &mut Text,
     alloc: Global,
     table: &Table,
     function: &Function,
 ) -> Result<(), AllocError>
-    ensures { OnOk result (AddsMethod (places_in table.now) part.old part.new (function_tree function.now)) }
+    ensures { OnOk result (AddsMethod (places_in table.now) text.old text.new (function_tree function.now)) }
 {
-    add_header(part, function)?;
-    add_block(part, alloc, table, 1, &function.body)?;
-    part.add(Instr::Bipush(0))?;
-    part.add(Instr::Ireturn)
+    add_header(text, function)?;
+    add_block(text, alloc, table, 1, &function.body)?;
+    text.add(Instr::Bipush(0))?;
+    text.add(Instr::Ireturn)
 }
 
 impl Methods {
@@ -89,8 +89,8 @@ impl Methods {
         ensures { OnOk result (AddsMethods (places_in table.now) self.old self.new
             ((0, function_tree function.now) ∷ [])) }
     {
-        self.begins.push(self.part.size()?)?;
-        add_method(&mut self.part, alloc, table, function)
+        self.begins.push(self.text.size()?)?;
+        add_method(&mut self.text, alloc, table, function)
     }
 
     fn add_all(
@@ -123,15 +123,15 @@ pub fn emit(
     requires placed { places_in table.now ≡ places_of (program_of functions.now main) }
     ensures { IfOk result (λ e. IsEmittedFrom (program_of functions.now main) e) }
 {
-    let mut part = Part::new(alloc);
-    add_main(&mut part, alloc, table, &functions[main as usize])?;
+    let mut text = Text::new(alloc);
+    add_main(&mut text, alloc, table, &functions[main as usize])?;
     let mut methods = Methods {
-        part,
+        text,
         begins: Vec::new(alloc),
     };
     methods.add_all(alloc, table, functions, main)?;
-    let Methods { part, begins } = methods;
-    let Part { bytes, far } = part;
+    let Methods { text, begins } = methods;
+    let Text { bytes, far } = text;
     Ok(Emitted {
         text: bytes,
         begins,

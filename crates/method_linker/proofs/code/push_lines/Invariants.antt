@@ -1,8 +1,10 @@
+use Rattle.std.proofs.Common.{drop}
 use Rattle.std.specs.List.{enumerate_from}
-use Rattle.method_linker.specs.Linked.{line_bytes}
-use Rattle.method_linker.specs.Steps.{line_jump, IsPushedUpTo}
+use Rattle.ijvm_text.specs.declared.text.Text.{Text}
+use Rattle.method_linker.specs.Steps.{AddsLines}
 use Rattle.method_linker.proofs.code.push_lines.Given as goal
 
+-- what ends with the lines that are left ends with all of them
 abbrev pub invariant-loop-position : goal.invariant-loop-position
-invariant-loop-position l =
-    IsPushedUpTo (line_bytes l.first l.lines) (line_jump l.lines) (enumerate_from 0 l.lines) l.position l.initial.text.items l.text.items
+invariant-loop-position l = (end : Text) → AddsLines l.first l.lines l.text end (drop l.position (enumerate_from 0 l.lines)) →
+    AddsLines l.first l.lines l.fn.text end (enumerate_from 0 l.lines)

@@ -4,6 +4,6 @@ use Rattle.method_linker.proofs.image.link.Goals as goal
 
 pub new-requires : goal.new-requires
 new-requires c = record {
-  text_fits = omega (arith, ap length c.in_ok-text.ensures.0, length-text c.args.program.now);
+  text_fits = omega (arith, c.in_ok-bytes.ensures.size, length-text c.args.program.now);
   pool_fits = omega (arith, ap length c.in_ok-pool.ensures, length-pool c.args.program.now);
 }

@@ -3,7 +3,7 @@ use Rattle.std.proofs.lemmas.Result.{on_ok_weaker}
 use Rattle.ijvm_instr.specs.declared.instr.Instr.{Instr}
 use Rattle.tiny_pool.specs.Places.{places_in}
 use Rattle.tiny_tree.specs.View.{cond_tree}
-use Rattle.tiny_emit.specs.Appended.{AddsCode}
+use Rattle.ijvm_text.specs.Adds.{AddsCode}
 use Rattle.tiny_emit.proofs.Sides.{if_different, if_equal, if_less}
 use Rattle.tiny_emit.proofs.choice.add_if.Goals as goal
 
@@ -11,19 +11,19 @@ pub returns-in-Different : goal.returns-in-Different
 returns-in-Different c =
     on_ok_weaker c.add_choice.result
     (λ h a b i j front back taken other. if_different (places_in c.args.table.now) c.args.local c.args.line a b i j
-    (λ (code : List Instr) (lines : List ℕ). AddsCode c.args.part.now c.add_choice.new.part code lines)
+    (λ (code : List Instr) (lines : List ℕ). AddsCode c.args.text.now c.add_choice.new.text code lines)
     (cond_tree c.args.cond.now) _ _ (ap cond_tree c.in-Different.is) (h a b i j front taken other)) c.add_choice.ensures
 
 pub returns-in-Equal : goal.returns-in-Equal
 returns-in-Equal c =
     on_ok_weaker c.add_choice-in-Equal.result
     (λ h a b i j front back taken other. if_equal (places_in c.args.table.now) c.args.local c.args.line b a j i
-    (λ (code : List Instr) (lines : List ℕ). AddsCode c.args.part.now c.add_choice-in-Equal.new.part code lines)
+    (λ (code : List Instr) (lines : List ℕ). AddsCode c.args.text.now c.add_choice-in-Equal.new.text code lines)
     (cond_tree c.args.cond.now) _ _ (ap cond_tree c.in-Equal.is) (h b a j i back other taken)) c.add_choice-in-Equal.ensures
 
 pub returns-in-Less : goal.returns-in-Less
 returns-in-Less c =
     on_ok_weaker c.add_choice-in-Less.result
     (λ h a b i j front back taken other. if_less (places_in c.args.table.now) c.args.local c.args.line b a j i
-    (λ (code : List Instr) (lines : List ℕ). AddsCode c.args.part.now c.add_choice-in-Less.new.part code lines)
+    (λ (code : List Instr) (lines : List ℕ). AddsCode c.args.text.now c.add_choice-in-Less.new.text code lines)
     (cond_tree c.args.cond.now) _ _ (ap cond_tree c.in-Less.is) (h b a j i back other taken)) c.add_choice-in-Less.ensures

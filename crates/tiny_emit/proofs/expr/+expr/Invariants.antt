@@ -1,7 +1,7 @@
 use Rattle.std.proofs.Common.{◌≡◌, ◌++◌, drop, map}
 use Rattle.tiny_tree.specs.Tree.{arguments_of, steps_of}
 use Rattle.tiny_tree.specs.View.{expr_tree, step_tree}
-use Rattle.tiny_emit.specs.Bytes.{code_bytes}
+use Rattle.ijvm_text.specs.Bytes.{code_bytes}
 use Rattle.tiny_pool.specs.Places.{places_in}
 use Rattle.tiny_code.specs.Code.{arguments_code, steps_code}
 use Rattle.tiny_emit.proofs.expr.+expr.Given as goal

@@ -1,4 +1,4 @@
--- The bytes of emitted code: those of its instructions, one after the other.
+-- The bytes of code: those of its instructions, one after the other.
 use Rattle.std.specs.Prelude.{ℕ, List}
 use Rattle.std.specs.List.{flat_map}
 use Rattle.ijvm_instr.specs.declared.instr.Instr.{Instr}
