@@ -1,6 +1,5 @@
 -- Each end of a call is one of its answers.
 use Rattle.std.proofs.Common.{◌≡◌, ◌≢◌, ◌∙◌, ◌⊎◌, ℕ, Bool, List, Option, Some, None, refl, sym, ap, subst, arith, inl, inr}
-use Rattle.std.proofs.lemmas.Option.{same_Some}
 use Rattle.mic_words.specs.declared.machine.Machine.{Machine}
 use Rattle.mic_words.specs.declared.machine.Machine.TheVariants.{Mic1, Mic2}
 use Rattle.console_port.specs.declared.map.MemoryMap.{MemoryMap}
@@ -34,7 +33,11 @@ use Rattle.mal_shipped.specs.Shipped.{HasShipped}
 use Rattle.mic_watched.specs.declared.cycle.Cycle.{Cycle}
 use Rattle.mic_watched.specs.Watched.{ShowsCycles}
 use Rattle.mic_base.specs.Causes.{Rose}
-use Rattle.cli_words.specs.Words.{Asked, Assemble, ListOf, Verify, Run, RunPipeline, RunOwn, Trace, Profile, Debug, Reference, Micro, PrintMicro, Soak, Cache, Rewind, Compile, Tiny}
+use Rattle.cli_words.specs.declared.request.Processor.{Processor}
+use Rattle.cli_words.specs.declared.request.Processor.TheVariants.{Datapath, Mic3}
+use Rattle.cli_words.specs.declared.table.CommandName.{CommandName}
+use Rattle.cli_words.specs.declared.table.CommandName.TheVariants as name
+use Rattle.cli_words.specs.Words.{Asked, machine_of}
 use Rattle.cli_outside.specs.Status as exits
 use Rattle.cli_outside.specs.Messages.{out_of_memory}
 use Rattle.cli_outside.specs.Outside.{FilesState, OutsideView, PrintsOnOut, Said, Says, SinkState, SourceState, TellsOnErr, Unsaid, with_files}
@@ -72,9 +75,9 @@ use Rattle.cli_soak.specs.SoakEnds.{SoakEnds}
 use Rattle.cli_soak.specs.SoakEnds as soaking
 use Rattle.cli_call.specs.ClockedEnd.{ClockedEnd}
 use Rattle.cli_call.specs.ClockedEnd as clocking
-use Rattle.cli_call.specs.CallEnds.{CallEnds, EndsAs, EndsOn, EndsOnMachine}
+use Rattle.cli_call.specs.CallEnds.{CallEnds, EndsOn, EndsOnMachine, EndsRun, PrintsMicro}
 use Rattle.cli_call.specs.CallEnds as calls
-use Rattle.cli_call.specs.Answers.{Adrift, ConsoleFailed, Done, Ended, FileFailed, HasFileRead, IsAnswer, IsFaultless, IsOnlyTold, IsReference, IsUntouched, Misused, NoMemory, OutOfMap, Refused, Runs, RunsOwn, ShortOfMemory, SinkFailed, TooLong}
+use Rattle.cli_call.specs.Answers.{Adrift, ConsoleFailed, Done, Ended, FileFailed, HasFileRead, IsAnswer, IsRun, IsFaultless, IsOnlyTold, IsReference, IsUntouched, Misused, NoMemory, OutOfMap, Refused, Runs, RunsOwn, ShortOfMemory, SinkFailed, TakesFile, TooLong}
 
 -- a sink that failed between these has failed since the one before
 either_of : (a a' b b' c d : ℕ) → a ≡ a' → b ≡ b' → Rose a c ⊎ Rose b d → Rose a' c ⊎ Rose b' d
@@ -120,15 +123,6 @@ module _ {M S : Type 0} (state : M → S) (m : Meaning S) (machine : Machine) (l
       (led.0, led.1, λ r shown same. let here = led.2 r shown same in (here.0, here.2)))
       end (ended (not_write_fault end stray)) in
       not_stray so.finish.end (subst IsStray so.is stray)
-
--- a trace or a profile with a file of its own
-traces_own : (file : List ℕ) (machine : Machine) (bound : ℕ) (map : MemoryMap) (own : Option (List ℕ)) (buses : Bool) (name : List ℕ) → own ≡ Some name →
-    RunsOwn (Some (Trace file machine bound map own buses))
-traces_own file machine bound map own buses name is = rw is tt
-
-profiles_own : (file : List ℕ) (machine : Machine) (bound : ℕ) (map : MemoryMap) (own : Option (List ℕ)) (name : List ℕ) → own ≡ Some name →
-    RunsOwn (Some (Profile file machine bound map own))
-profiles_own file machine bound map own name is = rw is tt
 
 -- a run ends out of the map or adrift only by a microprogram of one's own
 abbrev pub Stays : Option Asked → OutsideView → OutsideView → {M S : Type 0} → (M → S) → Meaning S → ℕ → MalView → VerifiedView → Type 0
@@ -335,92 +329,97 @@ module _ (asks : Option Asked) (old new : OutsideView) (status : ℕ) where
   defined_run machine bound program runs refers (reference.Reported r h files says) = on_err_well _ _ says (reported machine bound program r runs h files)
   defined_run machine bound program runs refers (reference.Short short console out flushed files says) = on_err _ _ says (ShortOfMemory refers)
 
--- both machines end a run by the microprogram that ships as the definition does
+-- each machine ends a run by the microprogram that ships as the definition does
 pub record ShippedEnd : Type 0 where
   pub listed : IsListed
   pub mic1 : EndsAsDefined micro_of1 mic1_meaning (HasShipped Mic1) 0x002 (timing_of Mic1)
   pub mic2 : EndsAsDefined micro_of2 mic2_meaning (HasShipped Mic2) 0x002 (timing_of Mic2)
+  pub mic3 : EndsAsDefined pipeline_of mic3_meaning (HasShipped Mic2) 0x002 mic3_timing
 
-module _ (listed : IsListed) (old new : OutsideView) (status : ℕ) where
+-- Without a file of its own, a command clocks the microprogram that ships.
+stays : {M S : Type 0} (state : M → S) (m : Meaning S) (listed : IsListed) (timing : Timing) (law : EndsAsDefined state m (HasShipped m.machine) 0x002 timing)
+    (asks : Option Asked) (old new : OutsideView) (bound : ℕ) (own : Option (List ℕ)) (micro : MalView) (program : VerifiedView) → IsChosenMicroprogram m.machine own old micro →
+    ((name : List ℕ) → own ≡ Some name → RunsOwn asks) → Stays asks old new state m bound micro program
+stays state m listed timing law asks old new bound None micro program chosen owns =
+    λ l last cycles end run stray.
+    absurd (shipped_stays state m m.machine listed timing law micro program bound _ _ _ _ l run.first last cycles end chosen run.begins run.shows run.ends stray)
+stays state m listed timing law asks old new bound (Some name) micro program chosen owns = λ l last cycles end run stray. owns name refl
+
+module _ (shipped : ShippedEnd) (a : Asked) (old new : OutsideView) (status : ℕ) where
+  -- what a command's words have read, and what it runs
+
+  has_file : (command : CommandName) → a.command ≡ command → TakesFile command → HasFileRead (Some a) a.file
+  has_file command is takes = inl (subst TakesFile (sym is) takes, refl)
+
+  runs_by : (command : CommandName) → a.command ≡ command → IsRun command → Runs (Some a)
+  runs_by command is runs = subst IsRun (sym is) runs
+
+  owns_by : Runs (Some a) → (name : List ℕ) → a.micro ≡ Some name → RunsOwn (Some a)
+  owns_by runs name is = (runs, rw is refl)
+
   module _ {M S : Type 0} (state : M → S) (m : Meaning S) (IsReady : ℕ → List ℕ → ℕ → S → World → Type 0) (IsShipped : List ℕ → Type 0) (entry : ℕ) (timing : Timing)
       (law : EndsAsDefined state m (HasShipped m.machine) 0x002 timing) where
-    -- Without a file of its own, a trace or a profile clocks the microprogram that ships.
-    stays : (asks : Option Asked) (bound : ℕ) (own : Option (List ℕ)) (micro : MalView) (program : VerifiedView) → IsAccepted program → IsChosenMicroprogram m.machine own old micro →
-        ((name : List ℕ) → own ≡ Some name → RunsOwn asks) → Stays asks old new state m bound micro program
-    stays asks bound None micro program accepted chosen owns =
-        λ l last cycles end run stray.
-        absurd (shipped_stays state m m.machine listed timing law micro program bound _ _ _ _ l run.first last cycles end chosen run.begins run.shows run.ends stray)
-    stays asks bound (Some name) micro program accepted chosen owns = λ l last cycles end run stray. owns name refl
+    ran_by : (own : Option (List ℕ)) → a.micro ≡ own → a.command ≡ name.Run →
+        EndsRun state m IsReady IsShipped entry timing a.file own a.bound a.map old new status → IsAnswer (Some a) old new status
+    ran_by None own is h =
+        over (Some a) old new status _ _ _ a.file (has_file name.Run is refl) h
+        (clocked (Some a) old new status state m IsReady IsShipped entry timing (runs_by name.Run is tt) a.bound)
+    ran_by (Some one) own is h =
+        let runs = runs_by name.Run is tt in
+        prepared (Some a) old new status m.machine a.map _ a.file (Some one) (has_file name.Run is refl) (λ name same. inr (inl (own ∙ same))) h
+        (λ micro program accepted chosen. ran_own (Some a) old new status state m runs a.bound micro program (owns_by runs one own))
 
-    on_machine : (asked : Asked) → EndsOn state m IsReady IsShipped entry timing asked old new status → IsAnswer (Some asked) old new status
-    on_machine (Run file machine bound map) h =
-        over (Some (Run file machine bound map)) old new status _ _ _ file refl h
-        (clocked (Some (Run file machine bound map)) old new status state m IsReady IsShipped entry timing tt bound)
-    on_machine (RunOwn file machine bound map own) h =
-        prepared (Some (RunOwn file machine bound map own)) old new status m.machine map _ file (Some own) (inl refl) (λ one is. inr (sym (same_Some own one is))) h
-        (λ micro program accepted chosen. ran_own (Some (RunOwn file machine bound map own)) old new status state m tt bound micro program tt)
-    on_machine (Trace file machine bound map own buses) h =
-        prepared (Some (Trace file machine bound map own buses)) old new status m.machine map _ file own (inl refl) (λ one is. inr is) h
-        (λ micro program accepted chosen. ran_traced (Some (Trace file machine bound map own buses)) old new status state m tt bound micro program
-        (stays (Some (Trace file machine bound map own buses)) bound own micro program accepted chosen (traces_own file machine bound map own buses)) buses)
-    on_machine (Profile file machine bound map own) h =
-        prepared (Some (Profile file machine bound map own)) old new status m.machine map _ file own (inl refl) (λ one is. inr is) h
-        (λ micro program accepted chosen. ran_profiled (Some (Profile file machine bound map own)) old new status state m tt bound micro program
-        (stays (Some (Profile file machine bound map own)) bound own micro program accepted chosen (profiles_own file machine bound map own)))
-    on_machine (Debug file machine bound map own input) h =
-        prepared (Some (Debug file machine bound map own input)) old new status m.machine map _ file own (inl refl) (λ one is. inr (inl is)) h
-        (λ micro program accepted chosen ended. with_input (Some (Debug file machine bound map own input)) old new status _ input (λ one is. inr (inr is)) ended
-        (debugged (Some (Debug file machine bound map own input)) old new status state m bound micro program))
-    on_machine (Reference file machine bound map) h =
-        over (Some (Reference file machine bound map)) old new status _ _ _ file refl h
-        (λ program. defined_run (Some (Reference file machine bound map)) old new status machine bound program tt tt)
-    on_machine (Soak seed size machine) h = soaked (Some (Soak seed size machine)) old new status state m IsReady IsShipped entry timing tt seed size h
-    on_machine (Rewind file machine input depth map) h =
-        prepared (Some (Rewind file machine input depth map)) old new status m.machine map _ file None (inl refl) (λ one is. absurd (let none : None ≡ Some one = is in cc)) h
-        (λ micro program accepted chosen ended. with_input (Some (Rewind file machine input depth map)) old new status _ input (λ one is. inr is) ended
-        (rewound (Some (Rewind file machine input depth map)) old new status state m depth micro program))
-    on_machine (Tiny tiny machine bound) h =
-        over (Some (Tiny tiny machine bound)) old new status _ _ _ tiny refl h
-        (clocked (Some (Tiny tiny machine bound)) old new status state m IsReady IsShipped entry timing tt bound)
-    on_machine (RunPipeline file bound map) h = absurd h
-    on_machine _ h = absurd h
+    on_machine : (command : CommandName) → a.command ≡ command → EndsOn state m IsReady IsShipped entry timing command a old new status → IsAnswer (Some a) old new status
+    on_machine name.Assemble is h = over (Some a) old new status _ _ _ a.file (has_file name.Assemble is refl) h (λ value. written (Some a) old new status _ _ _)
+    on_machine name.List is h = over (Some a) old new status _ _ _ a.file (has_file name.List is refl) h (printed (Some a) old new status _)
+    on_machine name.Verify is h = over (Some a) old new status _ _ _ a.file (has_file name.Verify is refl) h (printed (Some a) old new status _)
+    on_machine name.Run is h = ran_by a.micro refl is h
+    on_machine name.Trace is h =
+        let runs = runs_by name.Trace is tt in
+        prepared (Some a) old new status m.machine a.map _ a.file a.micro (has_file name.Trace is refl) (λ one is. inr (inl is)) h
+        (λ micro program accepted chosen. ran_traced (Some a) old new status state m runs a.bound micro program
+        (stays state m shipped.listed timing law (Some a) old new a.bound a.micro micro program chosen (owns_by runs)) a.buses)
+    on_machine name.Profile is h =
+        let runs = runs_by name.Profile is tt in
+        prepared (Some a) old new status m.machine a.map _ a.file a.micro (has_file name.Profile is refl) (λ one is. inr (inl is)) h
+        (λ micro program accepted chosen. ran_profiled (Some a) old new status state m runs a.bound micro program
+        (stays state m shipped.listed timing law (Some a) old new a.bound a.micro micro program chosen (owns_by runs)))
+    on_machine name.Debug is h =
+        prepared (Some a) old new status m.machine a.map _ a.file a.micro (has_file name.Debug is refl) (λ one is. inr (inl is)) h
+        (λ micro program accepted chosen ended. with_input (Some a) old new status _ a.input (λ one is. inr (inr is)) ended
+        (debugged (Some a) old new status state m a.bound micro program))
+    on_machine name.Reference is h =
+        over (Some a) old new status _ _ _ a.file (has_file name.Reference is refl) h
+        (λ program. defined_run (Some a) old new status (machine_of a.processor) a.bound program (runs_by name.Reference is tt) is)
+    on_machine name.Micro is h = over (Some a) old new status _ _ _ a.file (has_file name.Micro is refl) h (λ value. written (Some a) old new status _ _ _)
+    on_machine name.PrintMicro is h = printed_by a.micro refl h
+      where
+        printed_by : (own : Option (List ℕ)) → a.micro ≡ own → PrintsMicro (machine_of a.processor) own old new status → IsAnswer (Some a) old new status
+        printed_by None own h = prints_on (Some a) old new status _ _ old.files refl h Done
+        printed_by (Some file) own h =
+            over (Some a) old new status _ _ _ file (inr (inl own)) h (λ text h. prints_on (Some a) old new status _ _ old.files refl h Done)
+    on_machine name.Soak is h = soaked (Some a) old new status state m IsReady IsShipped entry timing (runs_by name.Soak is tt) a.seed a.size h
+    on_machine name.Cache is h =
+        prepared (Some a) old new status Mic1 a.map _ a.file None (has_file name.Cache is refl) (λ one is. absurd (let none : None ≡ Some one = is in cc)) h
+        (λ micro program accepted chosen. ran_cached (Some a) old new status micro_of1 mic1_meaning (runs_by name.Cache is tt) a.bound micro program
+        (stays micro_of1 mic1_meaning shipped.listed (timing_of Mic1) shipped.mic1 (Some a) old new a.bound None micro program chosen
+        (λ name is. absurd (let none : None ≡ Some name = is in cc))) a.lines)
+    on_machine name.Rewind is h =
+        prepared (Some a) old new status m.machine a.map _ a.file None (has_file name.Rewind is refl) (λ one is. absurd (let none : None ≡ Some one = is in cc)) h
+        (λ micro program accepted chosen ended. with_input (Some a) old new status _ a.input (λ one is. inr (inr is)) ended
+        (rewound (Some a) old new status state m a.depth micro program))
+    on_machine name.Compile is h = over (Some a) old new status _ _ _ a.file (has_file name.Compile is refl) h (λ program. written (Some a) old new status _ _ _)
+    on_machine name.Tiny is h =
+        over (Some a) old new status _ _ _ a.file (has_file name.Tiny is refl) h
+        (clocked (Some a) old new status state m IsReady IsShipped entry timing (runs_by name.Tiny is tt) a.bound)
+
+  by_machine : (processor : Processor) → EndsOnMachine processor a.command a old new status → IsAnswer (Some a) old new status
+  by_machine (Datapath Mic1) h = on_machine micro_of1 mic1_meaning IsReady1 (HasShipped Mic1) 0x002 (timing_of Mic1) shipped.mic1 a.command refl h
+  by_machine (Datapath Mic2) h = on_machine micro_of2 mic2_meaning IsReady2 (HasShipped Mic2) 0x002 (timing_of Mic2) shipped.mic2 a.command refl h
+  by_machine Mic3 h = on_machine pipeline_of mic3_meaning IsReady3 (HasShipped Mic2) 0x002 mic3_timing shipped.mic3 a.command refl h
 
 module _ (shipped : ShippedEnd) (old new : OutsideView) (status : ℕ) where
-  by_machine : (machine : Machine) (asked : Asked) → EndsOnMachine machine asked old new status → IsAnswer (Some asked) old new status
-  by_machine Mic1 asked h = on_machine shipped.listed old new status micro_of1 mic1_meaning IsReady1 (HasShipped Mic1) 0x002 (timing_of Mic1) shipped.mic1 asked h
-  by_machine Mic2 asked h = on_machine shipped.listed old new status micro_of2 mic2_meaning IsReady2 (HasShipped Mic2) 0x002 (timing_of Mic2) shipped.mic2 asked h
-
-  by_words : (asks : Option Asked) → EndsAs asks old new status → IsAnswer asks old new status
-  by_words None h = only_told None old new status _ _ h (Misused refl)
-  by_words (Some (Assemble source image)) h =
-      over (Some (Assemble source image)) old new status _ _ _ source refl h (λ value. written (Some (Assemble source image)) old new status _ _ _)
-  by_words (Some (ListOf file map)) h = over (Some (ListOf file map)) old new status _ _ _ file refl h (printed (Some (ListOf file map)) old new status _)
-  by_words (Some (Verify file map)) h = over (Some (Verify file map)) old new status _ _ _ file refl h (printed (Some (Verify file map)) old new status _)
-  by_words (Some (Run file machine bound map)) h = by_machine machine (Run file machine bound map) h
-  by_words (Some (RunPipeline file bound map)) h =
-      over (Some (RunPipeline file bound map)) old new status _ _ _ file refl h
-      (clocked (Some (RunPipeline file bound map)) old new status pipeline_of mic3_meaning IsReady3 (HasShipped Mic2) 0x002 mic3_timing tt bound)
-  by_words (Some (RunOwn file machine bound map micro)) h = by_machine machine (RunOwn file machine bound map micro) h
-  by_words (Some (Trace file machine bound map micro buses)) h = by_machine machine (Trace file machine bound map micro buses) h
-  by_words (Some (Profile file machine bound map micro)) h = by_machine machine (Profile file machine bound map micro) h
-  by_words (Some (Debug file machine bound map micro input)) h = by_machine machine (Debug file machine bound map micro input) h
-  by_words (Some (Reference file machine bound map)) h = by_machine machine (Reference file machine bound map) h
-  by_words (Some (Micro mal store machine)) h =
-      over (Some (Micro mal store machine)) old new status _ _ _ mal refl h (λ value. written (Some (Micro mal store machine)) old new status _ _ _)
-  by_words (Some (PrintMicro (Some file) machine)) h =
-      over (Some (PrintMicro (Some file) machine)) old new status _ _ _ file refl h (λ text h. prints_on (Some (PrintMicro (Some file) machine)) old new status _ _ old.files refl h Done)
-  by_words (Some (PrintMicro None machine)) h = prints_on (Some (PrintMicro None machine)) old new status _ _ old.files refl h Done
-  by_words (Some (Soak seed size machine)) h = by_machine machine (Soak seed size machine) h
-  by_words (Some (Rewind file machine input depth map)) h = by_machine machine (Rewind file machine input depth map) h
-  by_words (Some (Compile tiny image)) h =
-      over (Some (Compile tiny image)) old new status _ _ _ tiny refl h (λ program. written (Some (Compile tiny image)) old new status _ _ _)
-  by_words (Some (Tiny tiny machine bound)) h = by_machine machine (Tiny tiny machine bound) h
-  by_words (Some (Cache file lines bound map)) h =
-      prepared (Some (Cache file lines bound map)) old new status Mic1 map _ file None refl (λ one is. absurd (let none : None ≡ Some one = is in cc)) h
-      (λ micro program accepted chosen. ran_cached (Some (Cache file lines bound map)) old new status micro_of1 mic1_meaning tt bound micro program
-      (stays shipped.listed old new status micro_of1 mic1_meaning IsReady1 (HasShipped Mic1) 0x002 (timing_of Mic1) shipped.mic1 (Some (Cache file lines bound map)) bound None
-      micro program accepted chosen (λ name is. absurd (let none : None ≡ Some name = is in cc))) lines)
-
   pub answered : (asks : Option Asked) → CallEnds asks old new status → IsAnswer asks old new status
   answered asks (calls.NoRoom h) = short asks old new status h
-  answered asks (calls.Done h) = by_words asks h
+  answered None (calls.Done h) = only_told None old new status _ _ h (Misused refl)
+  answered (Some a) (calls.Done h) = by_machine shipped a old new status a.processor h

@@ -30,7 +30,7 @@ use Rattle.cli_call.specs.ClockedEnd.{ClockedEnd, CutByRead, CutByWrite, Ran}
 use Rattle.cli_call.specs.ClockedEnd as clocked
 use Rattle.cli_call.specs.Agree.{IsQuiet}
 use Rattle.cli_words.specs.Words.{Tiny}
-use Rattle.cli_call.specs.CallEnds.{CallEnds, Done, EndsOnMachine, NoRoom}
+use Rattle.cli_call.specs.CallEnds.{CallEnds, Done, EndsAs, NoRoom}
 use Rattle.cli_call.specs.Meant.{CallsAreAsMeant, Cut, EndsAsMeant, HasEnded, HasGot, IsTinyCall, SomeBound, Whole}
 use Rattle.cli_call.proofs.Agreeing.{OneEnd, said, told_input}
 use Rattle.cli_call.proofs.AtLimit.{given_at_last}
@@ -175,7 +175,7 @@ module _ (one_program : (text : List ℕ) (v w : VerifiedView) → IsCompiled te
 
   module _ (program : Program) (input : List ℕ) (bound : ℕ) (old new : OutsideView) (status : ℕ) where
     by_machine : (machine : Machine) (file : List ℕ) (contents : Contents) → old.files.contents ≡ Some contents → file_in contents file ≡ Some text → old.console.left ≡ Some input →
-        IsQuiet old new status → EndsOnMachine machine (Tiny file machine bound) old new status → Comes program v (timing_of machine) input bound old new status
+        IsQuiet old new status → EndsAs (Some (Tiny file machine bound)) old new status → Comes program v (timing_of machine) input bound old new status
     by_machine Mic1 file contents tells has left quiet ends =
         clocked_comes micro_of1 mic1_meaning IsReady1 (HasShipped Mic1) 0x002 (timing_of Mic1) program v input bound old new status left quiet
         (does _ file contents old new status tells has quiet ends)

@@ -1,58 +1,51 @@
 -- The answers of a call of `mic`, one by one: the cause of each, and the state of the outside after it.
-use Rattle.std.specs.Prelude.{◌≡◌, ◌<◌, ◌≤◌, ◌⊎◌, ℕ, List, length, Option, Some, None}
+use Rattle.std.specs.Prelude.{◌≡◌, ◌<◌, ◌≤◌, ◌⊎◌, ℕ, true, List, length, Option, Some, None, codes, is_some}
 use Rattle.mic_base.specs.Causes.{Rose}
 use Rattle.mic_base.specs.Files.{Tells, most_bytes}
-use Rattle.cli_words.specs.Words.{Asked, Assemble, ListOf, Verify, Run, RunPipeline, RunOwn, Trace, Profile, Debug, Reference, Micro, PrintMicro, Soak, Cache, Rewind, Compile, Tiny}
+use Rattle.cli_words.specs.declared.table.CommandName.{CommandName}
+use Rattle.cli_words.specs.declared.table.CommandName.TheVariants as name
+use Rattle.cli_words.specs.Reading.{is_in}
+use Rattle.cli_words.specs.Table.{form_for}
+use Rattle.cli_words.specs.Words.{Asked}
 use Rattle.cli_outside.specs.Status as exits
 use Rattle.cli_outside.specs.Outside.{OutsideView}
 use Rattle.cli_outside.specs.Work.{IsFileRead}
 use Rattle.cli_call.specs.CallEnds.{CallEnds}
 
--- the words have this file read
+-- the command has the plain word FILE, which names a file that it reads
+abbrev pub TakesFile : CommandName → Type 0
+TakesFile command = is_in (codes "FILE") (form_for command).plain ≡ true
+
+-- the words have this file read: the command's own, a microprogram, or the input of a session
 abbrev pub HasFileRead : Option Asked → List ℕ → Type 0
 HasFileRead None name = ⊥
-HasFileRead (Some (Assemble source image)) name = name ≡ source
-HasFileRead (Some (ListOf file map)) name = name ≡ file
-HasFileRead (Some (Verify file map)) name = name ≡ file
-HasFileRead (Some (Run file machine bound map)) name = name ≡ file
-HasFileRead (Some (RunPipeline file bound map)) name = name ≡ file
-HasFileRead (Some (RunOwn file machine bound map micro)) name = (name ≡ file) ⊎ (name ≡ micro)
-HasFileRead (Some (Trace file machine bound map micro buses)) name = (name ≡ file) ⊎ (micro ≡ Some name)
-HasFileRead (Some (Profile file machine bound map micro)) name = (name ≡ file) ⊎ (micro ≡ Some name)
-HasFileRead (Some (Debug file machine bound map micro input)) name = (name ≡ file) ⊎ ((micro ≡ Some name) ⊎ (input ≡ Some name))
-HasFileRead (Some (Reference file machine bound map)) name = name ≡ file
-HasFileRead (Some (Micro mal store machine)) name = name ≡ mal
-HasFileRead (Some (PrintMicro file machine)) name = file ≡ Some name
-HasFileRead (Some (Soak seed size machine)) name = ⊥
-HasFileRead (Some (Cache file lines bound map)) name = name ≡ file
-HasFileRead (Some (Rewind file machine input depth map)) name = (name ≡ file) ⊎ (input ≡ Some name)
-HasFileRead (Some (Compile tiny image)) name = name ≡ tiny
-HasFileRead (Some (Tiny tiny machine bound)) name = name ≡ tiny
+HasFileRead (Some a) name = (TakesFile a.command × (name ≡ a.file)) ⊎ ((a.micro ≡ Some name) ⊎ (a.input ≡ Some name))
+
+-- the command runs a program to its end
+abbrev pub IsRun : CommandName → Type 0
+IsRun name.Run = Unit {0}
+IsRun name.Trace = Unit {0}
+IsRun name.Profile = Unit {0}
+IsRun name.Reference = Unit {0}
+IsRun name.Soak = Unit {0}
+IsRun name.Cache = Unit {0}
+IsRun name.Tiny = Unit {0}
+IsRun _ = ⊥
 
 -- the words have a program run to its end
 abbrev pub Runs : Option Asked → Type 0
-Runs (Some (Run file machine bound map)) = Unit {0}
-Runs (Some (RunPipeline file bound map)) = Unit {0}
-Runs (Some (RunOwn file machine bound map micro)) = Unit {0}
-Runs (Some (Trace file machine bound map micro buses)) = Unit {0}
-Runs (Some (Profile file machine bound map micro)) = Unit {0}
-Runs (Some (Reference file machine bound map)) = Unit {0}
-Runs (Some (Soak seed size machine)) = Unit {0}
-Runs (Some (Cache file lines bound map)) = Unit {0}
-Runs (Some (Tiny tiny machine bound)) = Unit {0}
-Runs asks = ⊥
+Runs None = ⊥
+Runs (Some a) = IsRun a.command
 
 -- the words have it run by a person's own microprogram
 abbrev pub RunsOwn : Option Asked → Type 0
-RunsOwn (Some (RunOwn file machine bound map micro)) = Unit {0}
-RunsOwn (Some (Trace file machine bound map (Some micro) buses)) = Unit {0}
-RunsOwn (Some (Profile file machine bound map (Some micro))) = Unit {0}
-RunsOwn asks = ⊥
+RunsOwn None = ⊥
+RunsOwn (Some a) = IsRun a.command × (is_some a.micro ≡ true)
 
 -- the words have the definition run it
 abbrev pub IsReference : Option Asked → Type 0
-IsReference (Some (Reference file machine bound map)) = Unit {0}
-IsReference asks = ⊥
+IsReference None = ⊥
+IsReference (Some a) = a.command ≡ name.Reference
 
 -- the console and `out` are as they were
 pub record IsUntouched (old new : OutsideView) : Type 0 where

@@ -11,6 +11,7 @@ use cli_outside::{Outside, Status, close};
 use ijvm_simulation::shipped_runs_end_as_defined;
 use mal_shipped::loaded_programs_are_shipped;
 use mic_base::{Files, Sink, Source};
+use mic3_pipeline::Mic3Interpreter;
 use shipped_microcode::{Mic1Interpreter, Mic2Interpreter};
 use std::alloc::Global;
 
@@ -21,6 +22,7 @@ pub fn each_answer_has_its_cause()
     loaded_programs_are_shipped();
     shipped_runs_end_as_defined::<Mic1Interpreter>();
     shipped_runs_end_as_defined::<Mic2Interpreter>();
+    shipped_runs_end_as_defined::<Mic3Interpreter>();
 }
 
 /// Does what the words after the program's name ask for.

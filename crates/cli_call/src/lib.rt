@@ -3,13 +3,9 @@
 #![tactic(auto)]
 
 mod answers;
-mod cache;
-mod job;
 mod laws;
 mod print;
-mod rewind;
 mod run;
-mod soak;
 mod tiny;
 mod top_call;
 mod usage;

@@ -1,8 +1,7 @@
 //! `print-micro`, of the file that is named or of what ships.
 
-ghost use Rattle.cli_words.specs.Words.{PrintMicro};
-ghost use Rattle.cli_outside.specs.Outside.{name_in};
-ghost use Rattle.cli_call.specs.CallEnds.{DoesAsked};
+ghost use Rattle.cli_outside.specs.Outside.{Over, name_in};
+ghost use Rattle.cli_call.specs.CallEnds.{PrintsMicro};
 
 use cli_micro::{print_micro, print_shipped};
 use cli_outside::{Outside, Status};
@@ -17,7 +16,7 @@ pub(crate) fn print_asked<F: Files, S: Source, K: Sink, E: Sink>(
     machine: Machine,
     outside: &mut Outside<'_, F, S, K, E>,
 ) -> Status
-    ensures { DoesAsked (PrintMicro (name_in file.entry) machine) outside.old outside.new result.0 }
+    ensures { Over (PrintsMicro machine (name_in file.entry)) outside.old outside.new result.0 }
 {
     match file {
         Some(file) => print_micro(alloc, file, machine, outside),

@@ -1,10 +1,8 @@
-//! `tiny`: the program of a Tiny text, clocked on the machine that is named with the microprogram that ships for it.
+//! `tiny`: the program of a Tiny text, clocked on a machine with the microprogram that ships for it.
 
 ghost use Rattle.std.specs.Prelude.{◌≤◌, ◌^◌};
-ghost use Rattle.cli_words.specs.Words.{Tiny, most_cycles};
 ghost use Rattle.cli_outside.specs.Outside.{Over};
 ghost use Rattle.cli_tiny.specs.Answers.{EndsOverTiny};
-ghost use Rattle.cli_call.specs.CallEnds.{DoesAsked};
 ghost use Rattle.cli_call.specs.ClockedEnd.{ClockedEnd};
 
 use crate::run::run_program;
@@ -12,29 +10,10 @@ use cli_outside::{Outside, Status};
 use cli_tiny::program_in_tiny;
 use ijvm_simulation::Interpreter;
 use mic_base::{Files, Sink, Source};
-use mic_words::Machine;
-use shipped_microcode::{Mic1Interpreter, Mic2Interpreter};
 use std::alloc::Global;
 
-/// Compiles the text, and clocks its program.
-pub(crate) fn tiny_on<F: Files, S: Source, K: Sink, E: Sink>(
-    alloc: Global,
-    tiny: &str,
-    machine: Machine,
-    bound: u64,
-    outside: &mut Outside<'_, F, S, K, E>,
-) -> Status
-    requires { bound ≤ most_cycles }
-    ensures { DoesAsked (Tiny tiny.now machine bound) outside.old outside.new result.0 }
-{
-    match machine {
-        Machine::Mic1 => run_tiny::<Mic1Interpreter, F, S, K, E>(alloc, tiny, bound, outside),
-        Machine::Mic2 => run_tiny::<Mic2Interpreter, F, S, K, E>(alloc, tiny, bound, outside),
-    }
-}
-
 /// Compiles the text, and clocks its program on this machine.
-fn run_tiny<I: Interpreter, F: Files, S: Source, K: Sink, E: Sink>(
+pub(crate) fn run_tiny<I: Interpreter, F: Files, S: Source, K: Sink, E: Sink>(
     alloc: Global,
     tiny: &str,
     bound: u64,

@@ -1,25 +1,28 @@
-//! What each command is asked by its words.
+//! What the words of a command line ask for is done, on the machine that they name.
 
 ghost use Rattle.std.specs.Prelude.{map, string_bytes};
 ghost use Rattle.cli_words.specs.Words.{HasLimits, asked, request_of};
 ghost use Rattle.cli_outside.specs.Outside.{Over};
-ghost use Rattle.cli_call.specs.CallEnds.{CallEnds, DoesAsked};
+ghost use Rattle.cli_call.specs.CallEnds.{CallEnds, DoesAsked, EndsOn};
 
-use crate::cache::run_cached;
-use crate::job::run_job;
 use crate::print::print_asked;
-use crate::rewind::rewind_on;
-use crate::run::run_file;
-use crate::soak::soak_on;
-use crate::tiny::tiny_on;
+use crate::run::{run_asked, run_file};
+use crate::tiny::run_tiny;
 use crate::usage::misused;
+use cli_boards::{cache_file, profile_file, trace_file};
+use cli_debug::debug_file;
 use cli_micro::micro;
 use cli_outside::{Outside, Status};
-use cli_programs::{assemble_file, list_file, verify_file};
+use cli_programs::{assemble_file, list_file, reference_file, verify_file};
+use cli_rewind::rewind_file;
+use cli_soak::soak;
 use cli_tiny::compile_file;
-use cli_words::{Request, WordsError, read_words};
+use cli_words::{CommandName, Processor, Request, WordsError, read_words};
+use ijvm_simulation::Interpreter;
 use mic_base::{Files, Sink, Source};
+use mic_words::Machine;
 use mic3_pipeline::Mic3Interpreter;
+use shipped_microcode::{Mic1Interpreter, Mic2Interpreter};
 use std::alloc::Global;
 
 /// Does what the words after the program's name ask for.
@@ -40,49 +43,101 @@ pub(crate) fn answer_words<F: Files, S: Source, K: Sink, E: Sink>(
 /// Does what a request asks for.
 fn answer_request<F: Files, S: Source, K: Sink, E: Sink>(
     alloc: Global,
-    request: Request,
+    request: Request<&str>,
     outside: &mut Outside<'_, F, S, K, E>,
 ) -> Status
     requires { HasLimits request }
     ensures { DoesAsked (asked request.entry) outside.old outside.new result.0 }
 {
-    match request {
-        Request::Assemble { source, image } => assemble_file(alloc, source, image, outside),
-        Request::List { file, map } => list_file(alloc, file, map, outside),
-        Request::Verify { file, map } => verify_file(alloc, file, map, outside),
-        Request::Run { job, mode } => run_job(alloc, job, mode, outside),
-        Request::RunPipeline { file, bound, map } => {
+    match request.processor {
+        Processor::Datapath(Machine::Mic1) => {
+            answer_on::<Mic1Interpreter, F, S, K, E>(alloc, request, outside)
+        }
+        Processor::Datapath(Machine::Mic2) => {
+            answer_on::<Mic2Interpreter, F, S, K, E>(alloc, request, outside)
+        }
+        Processor::Mic3 => {
+            let Request {
+                file,
+                bound,
+                map,
+                ..
+            } = request;
             run_file::<Mic3Interpreter, F, S, K, E>(alloc, file, bound, map, outside)
         }
-        Request::Micro {
-            mal,
-            store,
-            machine,
-        } => micro(alloc, mal, store, machine, outside),
-        Request::PrintMicro { file, machine } => print_asked(alloc, file, machine, outside),
-        Request::Soak {
-            seed,
-            size,
-            machine,
-        } => soak_on(alloc, seed, size, machine, outside),
-        Request::Cache {
-            file,
-            lines,
-            bound,
-            map,
-        } => run_cached(alloc, file, lines, bound, map, outside),
-        Request::Rewind {
-            file,
-            machine,
-            input,
-            depth,
-            map,
-        } => rewind_on(alloc, file, machine, input, depth, map, outside),
-        Request::Compile { tiny, image } => compile_file(alloc, tiny, image, outside),
-        Request::Tiny {
-            tiny,
-            machine,
-            bound,
-        } => tiny_on(alloc, tiny, machine, bound, outside),
+    }
+}
+
+/// Does what a request asks for, on this machine where a machine is clocked.
+fn answer_on<I: Interpreter, F: Files, S: Source, K: Sink, E: Sink>(
+    alloc: Global,
+    request: Request<&str>,
+    outside: &mut Outside<'_, F, S, K, E>,
+) -> Status
+where
+    I::Machine: Drop,
+    requires { HasLimits request }
+    ensures { Over (EndsOn I.Machine.state I.Machine.meaning I.Machine.IsReady I.IsShipped I.entry I.timing request.entry.command (asked request.entry))
+        outside.old outside.new result.0 }
+{
+    let Request {
+        file,
+        micro: own,
+        bound,
+        map,
+        ..
+    } = request;
+    let machine = request.processor.machine();
+    match request.command {
+        CommandName::Assemble => assemble_file(alloc, file, request.target, outside),
+        CommandName::List => list_file(alloc, file, map, outside),
+        CommandName::Verify => verify_file(alloc, file, map, outside),
+        CommandName::Run => run_asked::<I, F, S, K, E>(alloc, file, own, bound, map, outside),
+        CommandName::Trace => {
+            trace_file(
+                alloc,
+                I::machine(),
+                file,
+                own,
+                bound,
+                map,
+                request.buses,
+                outside,
+            )
+        }
+        CommandName::Profile => profile_file(alloc, I::machine(), file, own, bound, map, outside),
+        CommandName::Debug => {
+            debug_file(
+                alloc,
+                I::machine(),
+                file,
+                own,
+                request.input,
+                bound,
+                map,
+                outside,
+            )
+        }
+        CommandName::Reference => reference_file(alloc, file, machine, bound, map, outside),
+        CommandName::Micro => micro(alloc, file, request.target, machine, outside),
+        CommandName::PrintMicro => print_asked(alloc, own, machine, outside),
+        CommandName::Soak => soak::<I, F, S, K, E>(alloc, request.seed, request.size, outside),
+        CommandName::Cache => {
+            let mic1 = Mic1Interpreter::machine();
+            cache_file(alloc, mic1, file, request.lines, bound, map, outside)
+        }
+        CommandName::Rewind => {
+            rewind_file(
+                alloc,
+                I::machine(),
+                file,
+                request.input,
+                request.depth,
+                map,
+                outside,
+            )
+        }
+        CommandName::Compile => compile_file(alloc, file, request.target, outside),
+        CommandName::Tiny => run_tiny::<I, F, S, K, E>(alloc, file, bound, outside),
     }
 }

@@ -6,7 +6,7 @@ use Rattle.clap.specs.Matches.{first_value, found_of}
 use Rattle.clap.proofs.WalkLemmas.{first_value-rows}
 use Rattle.clap.specs.Walk.{Row, first_of, has_row, rows_of}
 use Rattle.clap.specs.declared.parser.matches.ArgMatches.{ArgMatches}
-use Rattle.cli_words.specs.Reading.{Entry, Form, Text, has, is_distinct, is_in, names_of, text_in}
+use Rattle.cli_words.specs.Reading.{Entry, Form, Text, has, is_in, text_in}
 use Rattle.cli_words.specs.Taking.{HoldsGiven}
 use Rattle.cli_words.proofs.Rules.{own_text, same_text}
 use Rattle.cli_words.proofs.Adding.{has_rows, rows}
@@ -110,45 +110,9 @@ first_flag n g r (m ∷ fs) h has_is first_is = go (has_row n r) refl (bytes_eq 
         other_has [] = rw e refl
         other_has (x ∷ q) = ap (λ k. bytes_eq x.id n || k) (other_has q)
 
--- ---- no name is a value's and a flag's
-
-apart : (n : Text) (xs ys : List Text) → is_distinct (xs ++ ys) ≡ true → is_in n xs ≡ true → is_in n ys ≡ false
-apart n [] ys d h = cc
-apart n (x ∷ xs) ys d h = go (bytes_eq x n) refl (is_in x (xs ++ ys)) refl (apart n xs ys)
-  where
-    later : (z : Text) (zs : List Text) → is_in z (zs ++ ys) ≡ false → is_in z ys ≡ false
-    later z [] k = k
-    later z (y ∷ zs) k = step (bytes_eq y z) refl (later z zs)
-      where
-        step : (b : Bool) → bytes_eq y z ≡ b → (is_in z (zs ++ ys) ≡ false → is_in z ys ≡ false) → is_in z ys ≡ false
-        step true e rec = let bad : true ≡ false = rw e at k in cc
-        step false e rec = rec (rw e at k)
-
-    go : (b : Bool) → bytes_eq x n ≡ b → (w : Bool) → is_in x (xs ++ ys) ≡ w → (is_distinct (xs ++ ys) ≡ true → is_in n xs ≡ true → is_in n ys ≡ false) → is_in n ys ≡ false
-    go b e true t rec = let bad : false ≡ true = rw t at d in cc
-    go true e false t rec = ap (λ z. is_in z ys) (sym (same_text x n e)) ∙ later x xs t
-    go false e false t rec = rec (rw t at d) (rw e at h)
-
-tail_distinct : (xs ys : List Text) → is_distinct (xs ++ ys) ≡ true → is_distinct ys ≡ true
-tail_distinct [] ys d = d
-tail_distinct (x ∷ xs) ys d = go (is_in x (xs ++ ys)) refl (tail_distinct xs ys)
-  where
-    go : (w : Bool) → is_in x (xs ++ ys) ≡ w → (is_distinct (xs ++ ys) ≡ true → is_distinct ys ≡ true) → is_distinct ys ≡ true
-    go true t rec = let bad : false ≡ true = rw t at d in cc
-    go false t rec = rec (rw t at d)
-
-not_left : (n : Text) (xs ys : List Text) → is_in n (xs ++ ys) ≡ false → is_in n ys ≡ false
-not_left n [] ys k = k
-not_left n (y ∷ xs) ys k = step (bytes_eq y n) refl (not_left n xs ys)
-  where
-    step : (b : Bool) → bytes_eq y n ≡ b → (is_in n (xs ++ ys) ≡ false → is_in n ys ≡ false) → is_in n ys ≡ false
-    step true e rec = let bad : true ≡ false = rw e at k in cc
-    step false e rec = rec (rw e at k)
-
-pub holds : (f : Form) (g : List Entry) (m : ArgMatches) → is_distinct (names_of f) ≡ true → rows_of (found_of m) ≡ flagged (rows g) f.flags → HoldsGiven f g m
-holds f g m distinct is_found = record {
-  plain = λ n h. first n ∙ first_other n (rows g) f.flags (not_left n f.options f.flags (apart n f.plain (f.options ++ f.flags) distinct h)) ∙ first_rows n g;
-  options = λ n h. first n ∙ first_other n (rows g) f.flags (apart n f.options f.flags (tail_distinct f.plain (f.options ++ f.flags) distinct) h) ∙ first_rows n g;
+pub holds : (f : Form) (g : List Entry) (m : ArgMatches) → rows_of (found_of m) ≡ flagged (rows g) f.flags → HoldsGiven f g m
+holds f g m is_found = record {
+  texts = λ n h. first n ∙ first_other n (rows g) f.flags h ∙ first_rows n g;
   flags = λ n h. first n ∙ first_flag n g (rows g) f.flags h (has_rows n g) (first_rows n g);
 }
   where

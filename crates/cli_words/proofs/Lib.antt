@@ -5,7 +5,7 @@ pub mod Walks
 pub mod Ends
 pub mod Getting
 pub mod Naming
-pub mod Jobs
+pub mod Asking
 pub mod Once
 pub mod Spelled
 pub mod Taken

@@ -4,4 +4,3 @@ pub mod Spelled
 pub mod Table
 pub mod Taking
 pub mod Words
-pub mod Asking

@@ -21,7 +21,7 @@ row name plain is_whole options flags = record {
 
 -- a command: its name, its plain words, whether none may be left out, its options, its flags
 abbrev pub row_for : CommandName → Named
-row_for command.Assemble = row "assemble" ("SOURCE" ∷ "IMAGE" ∷ []) true [] []
+row_for command.Assemble = row "assemble" ("FILE" ∷ "TARGET" ∷ []) true [] []
 row_for command.List = row "list" ("FILE" ∷ []) true ("map" ∷ []) []
 row_for command.Verify = row "verify" ("FILE" ∷ []) true ("map" ∷ []) []
 row_for command.Run = row "run" ("FILE" ∷ []) true ("machine" ∷ "bound" ∷ "micro" ∷ "map" ∷ []) []
@@ -29,13 +29,13 @@ row_for command.Trace = row "trace" ("FILE" ∷ []) true ("machine" ∷ "bound" 
 row_for command.Profile = row "profile" ("FILE" ∷ []) true ("machine" ∷ "bound" ∷ "micro" ∷ "map" ∷ []) []
 row_for command.Debug = row "debug" ("FILE" ∷ []) true ("machine" ∷ "bound" ∷ "micro" ∷ "input" ∷ "map" ∷ []) []
 row_for command.Reference = row "reference" ("FILE" ∷ []) true ("machine" ∷ "bound" ∷ "map" ∷ []) []
-row_for command.Micro = row "micro" ("MAL" ∷ "STORE" ∷ []) true ("machine" ∷ []) []
-row_for command.PrintMicro = row "print-micro" ("FILE" ∷ []) false ("machine" ∷ []) []
+row_for command.Micro = row "micro" ("FILE" ∷ "TARGET" ∷ []) true ("machine" ∷ []) []
+row_for command.PrintMicro = row "print-micro" ("micro" ∷ []) false ("machine" ∷ []) []
 row_for command.Soak = row "soak" ("SEED" ∷ "SIZE" ∷ []) true ("machine" ∷ []) []
 row_for command.Cache = row "cache" ("FILE" ∷ "LINES" ∷ []) true ("bound" ∷ "map" ∷ []) []
 row_for command.Rewind = row "rewind" ("FILE" ∷ []) true ("machine" ∷ "input" ∷ "depth" ∷ "map" ∷ []) []
-row_for command.Compile = row "compile" ("TINY" ∷ "IMAGE" ∷ []) true [] []
-row_for command.Tiny = row "tiny" ("TINY" ∷ []) true ("machine" ∷ "bound" ∷ []) []
+row_for command.Compile = row "compile" ("FILE" ∷ "TARGET" ∷ []) true [] []
+row_for command.Tiny = row "tiny" ("FILE" ∷ []) true ("machine" ∷ "bound" ∷ []) []
 
 abbrev pub all_commands : List CommandName
 all_commands = command.Assemble ∷ command.List ∷ command.Verify ∷ command.Run ∷ command.Trace ∷ command.Profile ∷ command.Debug

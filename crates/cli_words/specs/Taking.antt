@@ -1,5 +1,5 @@
 -- The command that the parser of the command line is given for a row of the table, and what the parser returns.
-use Rattle.std.specs.Prelude.{◌≡◌, true, List, [], map, Option, Some, None, Result}
+use Rattle.std.specs.Prelude.{◌≡◌, true, false, List, [], map, Option, Some, None, Result}
 use Rattle.std.specs.Prelude.{Ok, Err, String, string_bytes, fold, unwrap_or, codes}
 use Rattle.std.specs.Borrow.{Bor}
 use Rattle.clap.specs.Walk.{Rule}
@@ -50,8 +50,7 @@ app_for name f = with_rules (with_rules (with_rules (bare name) (rules_in (kind.
 
 -- each name reads as the text that the words gave it, and a flag that they do not give as `false`
 pub record HoldsGiven (f : Form) (given : List Entry) (m : ArgMatches) : Type 0 where
-  pub plain : (name : Text) → is_in name f.plain ≡ true → first_value (found_of m) name ≡ text_in name given
-  pub options : (name : Text) → is_in name f.options ≡ true → first_value (found_of m) name ≡ text_in name given
+  pub texts : (name : Text) → is_in name f.flags ≡ false → first_value (found_of m) name ≡ text_in name given
   pub flags : (name : Text) → is_in name f.flags ≡ true → first_value (found_of m) name ≡ Some (unwrap_or (text_in name given) (codes "false"))
 
 -- the words are taken with the values that their reading gives, or refused where it gives none

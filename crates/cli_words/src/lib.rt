@@ -15,4 +15,5 @@ pub use options::{
     DEFAULT_BOUND, DEFAULT_DEPTH, MOST_BLOCKS, MOST_CYCLES, MOST_DEPTH, MOST_LINES, MOST_SEED,
 };
 pub use read::read_words;
-pub use request::{Job, Mode, Request};
+pub use request::{Processor, Request};
+pub use table::CommandName;

@@ -1,10 +1,12 @@
 //! The values of the options, and what holds where one is not given; the numbers among the plain words.
 
-ghost use Rattle.std.specs.Prelude.{◌≡◌, ◌≤◌, IfSome};
+ghost use Rattle.std.specs.Prelude.{◌≡◌, ◌≤◌, [], IfSome, true, unwrap_or};
 ghost use Rattle.std.specs.Option.{option_map};
 ghost use Rattle.mic_base.specs.Number.{number_of};
-ghost use Rattle.cli_words.specs.Words.{HasMap, IsDepth, IsLineCount, bound_in, depth_in, is_pipeline, is_true, lines_in, machine_in, map_in, most_blocks, most_cycles, number_within, seed_in, size_in};
+ghost use Rattle.cli_words.specs.Words.{HasMap, is_true, map_in, number_in, number_within, processor_in};
+ghost use Rattle.cli_words.specs.declared.request.Processor.TheVariants.{Mic3};
 
+use crate::request::Processor;
 use console_port::MemoryMap;
 use mic_base::Number;
 use mic_words::Machine;
@@ -16,39 +18,41 @@ pub const DEFAULT_BOUND: u64 = 10_000_000;
 pub const MOST_CYCLES: u64 = 1_000_000_000;
 
 /// The greatest seed of a generated program.
-pub const MOST_SEED: u32 = 4_294_967_295;
+pub const MOST_SEED: u64 = 4_294_967_295;
 
 /// The greatest number of blocks of a generated program.
-pub const MOST_BLOCKS: u16 = 9_000;
+pub const MOST_BLOCKS: u64 = 9_000;
 
 /// The most lines of a cache.
-pub const MOST_LINES: u16 = 4_096;
+pub const MOST_LINES: u64 = 4_096;
 
 /// The cycles that a session can go back where no depth is given.
-pub const DEFAULT_DEPTH: u32 = 4_096;
+pub const DEFAULT_DEPTH: u64 = 4_096;
 
 /// The greatest depth that can be given.
-pub const MOST_DEPTH: u32 = 65_536;
+pub const MOST_DEPTH: u64 = 65_536;
 
-/// The machine that is named; Mic-1 where none is.
-pub(crate) fn machine_in(value: Option<&str>) -> Option<Machine>
-    ensures { result ≡ machine_in (option_map (λ value. value.now) value.entry) }
+/// The text of a plain word; empty where the command has no such word.
+pub(crate) fn word_in<'a>(value: Option<&'a str>) -> &'a str
+    ensures { result.now ≡ unwrap_or (option_map (λ value. value.now) value.entry) [] }
 {
     match value {
-        None => Some(Machine::Mic1),
-        Some("mic1") => Some(Machine::Mic1),
-        Some("mic2") => Some(Machine::Mic2),
-        Some(_) => None,
+        Some(word) => word,
+        None => "",
     }
 }
 
-/// Whether Mic-3 is named, which `run` alone takes.
-pub(crate) fn is_pipeline(value: Option<&str>) -> bool
-    ensures { result ≡ is_pipeline (option_map (λ value. value.now) value.entry) }
+/// What is named to clock a program; Mic-1 where nothing is. Mic-3 is named only where it is taken.
+pub(crate) fn processor_in(takes_mic3: bool, value: Option<&str>) -> Option<Processor>
+    ensures value { result ≡ processor_in takes_mic3 (option_map (λ value. value.now) value.entry) }
+    ensures taken { IfSome result (λ processor. processor ≡ Mic3 → takes_mic3 ≡ true) }
 {
     match value {
-        Some("mic3") => true,
-        _ => false,
+        None => Some(Processor::Datapath(Machine::Mic1)),
+        Some("mic1") => Some(Processor::Datapath(Machine::Mic1)),
+        Some("mic2") => Some(Processor::Datapath(Machine::Mic2)),
+        Some("mic3") if takes_mic3 => Some(Processor::Mic3),
+        Some(_) => None,
     }
 }
 
@@ -64,48 +68,16 @@ fn number_within(word: &str, least: u64, greatest: u64) -> Option<u64>
     }
 }
 
-pub(crate) fn bound_in(value: Option<&str>) -> Option<u64>
-    ensures value { result ≡ bound_in (option_map (λ value. value.now) value.entry) }
-    ensures small { IfSome result (λ n. n ≤ most_cycles) }
+/// The number that is given, from the least to the greatest; the default where none is.
+pub(crate) fn number_in(value: Option<&str>, default: u64, least: u64, greatest: u64) -> Option<u64>
+    requires { (least ≤ default) × (default ≤ greatest) }
+    ensures value { result ≡ number_in default least greatest (option_map (λ value. value.now) value.entry) }
+    ensures within { IfSome result (λ n. (least ≤ n) × (n ≤ greatest)) }
 {
-    let Some(word) = value else {
-        return Some(DEFAULT_BOUND);
-    };
-    number_within(word, 0, MOST_CYCLES)
-}
-
-pub(crate) fn depth_in(value: Option<&str>) -> Option<u32>
-    ensures value { result ≡ depth_in (option_map (λ value. value.now) value.entry) }
-    ensures within { IfSome result IsDepth }
-{
-    let Some(word) = value else {
-        return Some(DEFAULT_DEPTH);
-    };
-    let depth = number_within(word, 1, u64::from(MOST_DEPTH))?;
-    Some(depth as u32)
-}
-
-pub(crate) fn seed_in(word: &str) -> Option<u32>
-    ensures { result ≡ seed_in word.now }
-{
-    let seed = number_within(word, 0, u64::from(MOST_SEED))?;
-    Some(seed as u32)
-}
-
-pub(crate) fn size_in(word: &str) -> Option<u16>
-    ensures value { result ≡ size_in word.now }
-    ensures small { IfSome result (λ n. n ≤ most_blocks) }
-{
-    let size = number_within(word, 1, u64::from(MOST_BLOCKS))?;
-    Some(size as u16)
-}
-
-pub(crate) fn lines_in(word: &str) -> Option<u16>
-    ensures value { result ≡ lines_in word.now }
-    ensures within { IfSome result IsLineCount }
-{
-    let lines = number_within(word, 1, u64::from(MOST_LINES))?;
-    Some(lines as u16)
+    match value {
+        None => Some(default),
+        Some(word) => number_within(word, least, greatest),
+    }
 }
 
 /// The map that is named; the standard map where none is.

@@ -1,109 +1,56 @@
 //! What a command line can ask for.
 
+ghost use Rattle.std.specs.Prelude.{◌≡◌};
+ghost use Rattle.cli_words.specs.Words.{machine_of};
+
+use crate::table::CommandName;
 use console_port::MemoryMap;
 use mic_words::Machine;
 
-/// A program that is to be run: on which machine, to which bound, and with which map.
+/// What clocks a program: one of the two datapaths, or Mic-3, which clocks the microprogram that ships for Mic-2.
 #[derive(Clone, Copy, Debug, PartialEq, Eq)]
-pub struct Job<'a> {
-    pub file: &'a str,
-    pub machine: Machine,
+pub enum Processor {
+    Datapath(Machine),
+    Mic3,
+}
+
+impl Processor {
+    /// The datapath whose microprograms are clocked.
+    pub fn machine(self) -> Machine
+        ensures { result ≡ machine_of self }
+    {
+        match self {
+            Processor::Datapath(machine) => machine,
+            Processor::Mic3 => Machine::Mic2,
+        }
+    }
+}
+
+/// What a command line asks for: a command, and a value for each name of the table. Where the words give none, an option
+/// has its default. What a command does not take is empty, none, or the least number.
+#[derive(Clone, Copy, Debug, PartialEq, Eq)]
+pub struct Request<T> {
+    pub command: CommandName,
+    /// The file that is read: a program, a source, or a microprogram to be placed.
+    pub file: T,
+    /// The file that is written.
+    pub target: T,
+    /// The seed of a generated program.
+    pub seed: u32,
+    /// The blocks of a generated program, 1 to 9,000.
+    pub size: u16,
+    /// The lines of a cache, 1 to 4,096.
+    pub lines: u16,
+    pub processor: Processor,
+    /// The most cycles of a run, up to 1,000,000,000.
     pub bound: u64,
+    /// A person's own microprogram; where none is named, the one that ships is clocked or printed.
+    pub micro: Option<T>,
+    /// The file of the program's input, in a session; its lines come from the console.
+    pub input: Option<T>,
+    /// The most cycles that a session goes back, 1 to 65,536.
+    pub depth: u32,
     pub map: MemoryMap,
-}
-
-/// How a program is run.
-#[derive(Clone, Copy, Debug, PartialEq, Eq)]
-pub enum Mode<'a> {
-    /// By the microprogram that ships.
-    Shipped,
-    /// By a person's own microprogram.
-    Own {
-        micro: &'a str,
-    },
-    /// A trace; it clocks the microprogram that ships where no file is named.
-    Trace {
-        micro: Option<&'a str>,
-        buses: bool,
-    },
-    Profile {
-        micro: Option<&'a str>,
-    },
-    /// The lines of the session come from the console. The program's input comes from a file, or there is none.
-    Debug {
-        micro: Option<&'a str>,
-        input: Option<&'a str>,
-    },
-    /// By the definition.
-    Reference,
-}
-
-/// What a command line asks for.
-#[derive(Clone, Copy, Debug, PartialEq, Eq)]
-pub enum Request<'a> {
-    Assemble {
-        source: &'a str,
-        image: &'a str,
-    },
-    List {
-        file: &'a str,
-        map: MemoryMap,
-    },
-    Verify {
-        file: &'a str,
-        map: MemoryMap,
-    },
-    Run {
-        job: Job<'a>,
-        mode: Mode<'a>,
-    },
-    /// A run on Mic-3, by the microprogram that ships for it.
-    RunPipeline {
-        file: &'a str,
-        bound: u64,
-        map: MemoryMap,
-    },
-    Micro {
-        mal: &'a str,
-        store: &'a str,
-        machine: Machine,
-    },
-    /// The canonical text of a file's microprogram, or of the one that ships where no file is named.
-    PrintMicro {
-        file: Option<&'a str>,
-        machine: Machine,
-    },
-    /// A generated program of this many blocks.
-    Soak {
-        seed: u32,
-        size: u16,
-        machine: Machine,
-    },
-    /// A run on Mic-1 whose accesses of memory a cache of this many lines repeats.
-    Cache {
-        file: &'a str,
-        lines: u16,
-        bound: u64,
-        map: MemoryMap,
-    },
-    /// A session that goes back by at most this many cycles.
-    /// Its lines come from the console. The program's input comes from a file, or there is none.
-    Rewind {
-        file: &'a str,
-        machine: Machine,
-        input: Option<&'a str>,
-        depth: u32,
-        map: MemoryMap,
-    },
-    /// The image of a Tiny program.
-    Compile {
-        tiny: &'a str,
-        image: &'a str,
-    },
-    /// A run of a Tiny program, compiled for the standard map.
-    Tiny {
-        tiny: &'a str,
-        machine: Machine,
-        bound: u64,
-    },
+    /// Whether a trace prints the buses of each cycle.
+    pub buses: bool,
 }

@@ -51,7 +51,7 @@ macro_rules! rows {
 
 const COMMANDS: [Row; 15] = rows! {
     // command  name           plain words          whole  options                                           flags
-    Assemble    "assemble"     ["SOURCE", "IMAGE"]  true   []                                                []
+    Assemble    "assemble"     ["FILE", "TARGET"]   true   []                                                []
     List        "list"         ["FILE"]             true   ["map"]                                           []
     Verify      "verify"       ["FILE"]             true   ["map"]                                           []
     Run         "run"          ["FILE"]             true   ["machine", "bound", "micro", "map"]              []
@@ -59,13 +59,13 @@ const COMMANDS: [Row; 15] = rows! {
     Profile     "profile"      ["FILE"]             true   ["machine", "bound", "micro", "map"]              []
     Debug       "debug"        ["FILE"]             true   ["machine", "bound", "micro", "input", "map"]     []
     Reference   "reference"    ["FILE"]             true   ["machine", "bound", "map"]                       []
-    Micro       "micro"        ["MAL", "STORE"]     true   ["machine"]                                       []
-    PrintMicro  "print-micro"  ["FILE"]             false  ["machine"]                                       []
+    Micro       "micro"        ["FILE", "TARGET"]   true   ["machine"]                                       []
+    PrintMicro  "print-micro"  ["micro"]            false  ["machine"]                                       []
     Soak        "soak"         ["SEED", "SIZE"]     true   ["machine"]                                       []
     Cache       "cache"        ["FILE", "LINES"]    true   ["bound", "map"]                                  []
     Rewind      "rewind"       ["FILE"]             true   ["machine", "input", "depth", "map"]              []
-    Compile     "compile"      ["TINY", "IMAGE"]    true   []                                                []
-    Tiny        "tiny"         ["TINY"]             true   ["machine", "bound"]                              []
+    Compile     "compile"      ["FILE", "TARGET"]   true   []                                                []
+    Tiny        "tiny"         ["FILE"]             true   ["machine", "bound"]                              []
 };
 
 fn first_named(rows: &[Row], word: &str) -> Option<Row>

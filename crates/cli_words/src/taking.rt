@@ -4,7 +4,7 @@ ghost use Rattle.std.specs.Prelude.{◌≡◌, ◌<◌, IfOk, codes, length, str
 ghost use Rattle.std.specs.List.{All};
 ghost use Rattle.std.specs.Str.{IsUtf8};
 ghost use Rattle.clap.specs.Words.{app_of, rule_of};
-ghost use Rattle.cli_words.specs.Reading.{is_distinct, names_of, reads};
+ghost use Rattle.cli_words.specs.Reading.{reads};
 ghost use Rattle.cli_words.specs.Table.{IsTableRow, form_for};
 ghost use Rattle.cli_words.specs.Taking.{TakesAs, app_for, bytes_of, form_of, rule_in, rules_in, texts_of, with_rules};
 
@@ -90,8 +90,7 @@ fn take_words<'a>(
     row: &Row,
     words: &'a [String],
 ) -> Result<ArgMatches<'a>, WordsError>
-    requires distinct { is_distinct (names_of (form_of row.now)) ≡ true }
-    requires few { length (form_of row.now).plain < 100 }
+    requires { length (form_of row.now).plain < 100 }
     ensures { TakesAs (form_of row.now) (reads (form_of row.now) (bytes_of words.entry.now)) result }
 {
     note_texts(words);

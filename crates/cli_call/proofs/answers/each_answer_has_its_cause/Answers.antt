@@ -7,5 +7,6 @@ returns c =
       listed = record { words = c.loaded_programs_are_shipped.ensures.words; entry = c.loaded_programs_are_shipped.ensures.entry };
       mic1 = c.shipped_runs_end_as_defined.ensures;
       mic2 = c.shipped_runs_end_as_defined-2.ensures;
+      mic3 = c.shipped_runs_end_as_defined-3.ensures;
     } in
     λ asks old new status. answered shipped old new status asks

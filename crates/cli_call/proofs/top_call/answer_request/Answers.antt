@@ -1,37 +1,14 @@
+use Rattle.std.proofs.Common.{◌∙◌, ap}
+use Rattle.mic_words.specs.declared.machine.Machine.TheVariants.{Mic1, Mic2}
+use Rattle.cli_words.specs.declared.request.Processor.TheVariants.{Datapath}
+use Rattle.cli_call.proofs.Asking.{on_machine, run_ends}
 use Rattle.cli_call.proofs.top_call.answer_request.Goals as goal
 
-pub returns-in-Assemble : goal.returns-in-Assemble
-returns-in-Assemble g c = rw c.in-Assemble.is c.assemble_file.ensures
+pub returns-in-Datapath-Mic1 : goal.returns-in-Datapath-Mic1
+returns-in-Datapath-Mic1 g c = on_machine c.args.request (Datapath Mic1) (c.in-Datapath-Mic1.is ∙ ap Datapath (rw c.in-Datapath-Mic1.is at c.in-Datapath-Mic1.field-0-is)) c.answer_on.ensures
 
-pub returns-in-List : goal.returns-in-List
-returns-in-List g c = rw c.in-List.is c.list_file.ensures
+pub returns-in-Datapath-Mic2 : goal.returns-in-Datapath-Mic2
+returns-in-Datapath-Mic2 g c = on_machine c.args.request (Datapath Mic2) (c.in-Datapath-Mic2.is ∙ ap Datapath (rw c.in-Datapath-Mic2.is at c.in-Datapath-Mic2.field-0-is)) c.answer_on-in-Datapath-Mic2.ensures
 
-pub returns-in-Verify : goal.returns-in-Verify
-returns-in-Verify g c = rw c.in-Verify.is c.verify_file.ensures
-
-pub returns-in-Run : goal.returns-in-Run
-returns-in-Run g c = rw c.in-Run.is c.run_job.ensures
-
-pub returns-in-RunPipeline : goal.returns-in-RunPipeline
-returns-in-RunPipeline g c = rw c.in-RunPipeline.is c.run_file.ensures
-
-pub returns-in-Micro : goal.returns-in-Micro
-returns-in-Micro g c = rw c.in-Micro.is c.micro.ensures
-
-pub returns-in-PrintMicro : goal.returns-in-PrintMicro
-returns-in-PrintMicro g c = rw c.in-PrintMicro.is c.print_asked.ensures
-
-pub returns-in-Soak : goal.returns-in-Soak
-returns-in-Soak g c = rw c.in-Soak.is c.soak_on.ensures
-
-pub returns-in-Cache : goal.returns-in-Cache
-returns-in-Cache g c = rw c.in-Cache.is c.run_cached.ensures
-
-pub returns-in-Rewind : goal.returns-in-Rewind
-returns-in-Rewind g c = rw c.in-Rewind.is c.rewind_on.ensures
-
-pub returns-in-Compile : goal.returns-in-Compile
-returns-in-Compile g c = rw c.in-Compile.is c.compile_file.ensures
-
-pub returns-in-Tiny : goal.returns-in-Tiny
-returns-in-Tiny g c = rw c.in-Tiny.is c.tiny_on.ensures
+pub returns-in-Mic3 : goal.returns-in-Mic3
+returns-in-Mic3 g c = run_ends c.args.request c.requires c.in-Mic3.is c.run_file.ensures

@@ -9,7 +9,7 @@ use Rattle.clap.specs.Faults.{fault_of, is_simple_and_free}
 use Rattle.clap.specs.declared.error.Error.{Error}
 use Rattle.clap.specs.declared.error.kind.ErrorKind.TheVariants.{OutOfMemory}
 use Rattle.clap.specs.declared.parser.matches.ArgMatches.{ArgMatches}
-use Rattle.cli_words.specs.Reading.{Entry, Form, Text, is_distinct, names_of, reads}
+use Rattle.cli_words.specs.Reading.{Entry, Form, Text, reads}
 use Rattle.cli_words.specs.Taking.{HoldsGiven, app_for, bytes_of, form_of}
 use Rattle.cli_words.proofs.Rules.{app_is, free_for}
 use Rattle.cli_words.proofs.Ends.{Agrees, agrees_with}
@@ -27,10 +27,10 @@ first_true : (b d : Bool) → (b && d) ≡ true → b ≡ true
 first_true true d h = refl
 first_true false d h = cc
 
-taken : (f : Form) (a : App) (words : List Text) (m : ArgMatches) → is_distinct (names_of f) ≡ true → is_simple_and_free a ≡ true → Agrees a f words → fault_of a words ≡ [] → HasMatchesOf a words m
+taken : (f : Form) (a : App) (words : List Text) (m : ArgMatches) → is_simple_and_free a ≡ true → Agrees a f words → fault_of a words ≡ [] → HasMatchesOf a words m
     → (g : List Entry) × (reads f words ≡ Some g) × HoldsGiven f g m
-taken f a words m distinct free (inl h) passes matches = (h.0, h.1, holds f h.0 m distinct ((matches (first_true _ _ free)).0 ∙ h.3))
-taken f a words m distinct free (inr h) passes matches = let bad : [] ≡ h.1.0 ∷ h.1.1 = sym passes ∙ h.1.2 in cc
+taken f a words m free (inl h) passes matches = (h.0, h.1, holds f h.0 m ((matches (first_true _ _ free)).0 ∙ h.3))
+taken f a words m free (inr h) passes matches = let bad : [] ≡ h.1.0 ∷ h.1.1 = sym passes ∙ h.1.2 in cc
 
 refused : (f : Form) (a : App) (words : List Text) (e : Error) → Agrees a f words → HasKind (fault_of a words) e → (kind_of e ≡ OutOfMemory → ⊥) → reads f words ≡ None
 refused f a words e (inr h) k other = h.0
@@ -43,8 +43,8 @@ returns-in-Ok-try_get_matches_from c =
     let utf8 : All IsUtf8 (bytes_of c.args.words.now) = All-map IsUtf8 string_bytes c.args.words.now c.note_texts.ensures in
     let a = app_of c.in-Ok.command in
     let free = is_free (codes "mic") f a c.in-Ok.ensures in
-    taken f a (bytes_of c.args.words.now) c.in-Ok-try_get_matches_from.matches c.requires.distinct free
-    (agrees (codes "mic") f (bytes_of c.args.words.now) a c.in-Ok.ensures c.requires.few utf8)
+    taken f a (bytes_of c.args.words.now) c.in-Ok-try_get_matches_from.matches free
+    (agrees (codes "mic") f (bytes_of c.args.words.now) a c.in-Ok.ensures c.requires utf8)
     (c.in-Ok-try_get_matches_from.ensures.kinds free) c.in-Ok-try_get_matches_from.ensures.matches
 
 pub returns : goal.returns
@@ -53,6 +53,6 @@ returns c =
     let utf8 : All IsUtf8 (bytes_of c.args.words.now) = All-map IsUtf8 string_bytes c.args.words.now c.note_texts.ensures in
     let a = app_of c.in-Ok.command in
     refused f a (bytes_of c.args.words.now) c.in-Err-try_get_matches_from.error
-    (agrees (codes "mic") f (bytes_of c.args.words.now) a c.in-Ok.ensures c.requires.few utf8)
+    (agrees (codes "mic") f (bytes_of c.args.words.now) a c.in-Ok.ensures c.requires utf8)
     (c.in-Err-try_get_matches_from.ensures.kinds (is_free (codes "mic") f a c.in-Ok.ensures))
     (λ memory. c.in_default.not-OutOfMemory (c.kind.ensures ∙ memory))
