@@ -32,19 +32,19 @@ either e answers so not_so a P all so_is not_is if_so if_not =
       | inr t0 ↦ if_not (subst (λ (xs : List Answer). AreAnswered e xs) (sym not_is) (All-push IsTrueAnswer answers (record a { is = false }) all t0))
     ]
 
-module _ (e : Environment) (s s' : Symbols) (store store' : List ℕ) (entry entry' : ℕ) where
-  pub more : (xs ys : List Counts) → ((c : Counts) → Contains xs c → Contains ys c) → CarriesOver e s s' store store' entry entry' xs → CarriesOver e s s' store store' entry entry' ys
+module _ (e : Environment) (s s' : Symbols) (store store' : List ℕ) (entry entry' row : ℕ) where
+  pub more : (xs ys : List Counts) → ((c : Counts) → Contains xs c → Contains ys c) → CarriesOver e s s' store store' entry entry' row xs → CarriesOver e s s' store store' entry entry' row ys
   more xs ys kept h =
       record {
         moves = λ before o stalls spent to m.
-            let by : CarriedBy xs store' before o entry' spent (start_moment e stalls entry' s') to = h.moves before o stalls spent to m in
-            record { counts = by.counts; is_leaf = kept by.counts by.is_leaf; carries = by.carries };
+            let by : CarriedBy xs row store' before o entry' spent (start_moment e stalls entry' s') to = h.moves before o stalls spent to m in
+            record { counts = by.counts; is_leaf = kept by.counts by.is_leaf; its_row = by.its_row; carries = by.carries };
         limits = h.limits;
       }
 
   module _ (one : OneEnd) (first last : Path) (from : (stalls : ℕ) → moment e stalls entry first ≡ start_moment e stalls entry s) where
     -- the first store is refused otherwise
-    pub refused : (n : ℕ) → ((stalls : ℕ) → StopsAt e store stalls entry n OutOfMap first last) → CarriesOver e s s' store store' entry entry' []
+    pub refused : (n : ℕ) → ((stalls : ℕ) → StopsAt e store stalls entry n OutOfMap first last) → CarriesOver e s s' store store' entry entry' row []
     refused n stops =
         record {
           moves = λ before o stalls spent to m.
@@ -58,9 +58,9 @@ module _ (e : Environment) (s s' : Symbols) (store store' : List ℕ) (entry ent
         }
 
     module _ (first' last' : Path) (from' : (stalls : ℕ) → moment e stalls entry' first' ≡ start_moment e stalls entry' s') where
-      pub alike : Transfers → (c : Counts) → ((stalls : ℕ) → LeadAlike store store' stalls entry entry' c.first c.second e first first' last last') →
-          CarriesOver e s s' store store' entry entry' (c ∷ [])
-      alike transfers c leads =
+      pub alike : Transfers → (c : Counts) → c.row ≡ row → ((stalls : ℕ) → LeadAlike store store' stalls entry entry' c.first c.second e first first' last last') →
+          CarriesOver e s s' store store' entry entry' row (c ∷ [])
+      alike transfers c its leads =
           record {
             moves = λ before o stalls spent to m.
                 let h : Moves mic1_meaning store (IsAt mic1_meaning IsReady entry o) before (moment e stalls entry first) spent to =
@@ -70,6 +70,7 @@ module _ (e : Environment) (s s' : Symbols) (store store' : List ℕ) (entry ent
                 record {
                   counts = c;
                   is_leaf = Contains-push [] c;
+                  its_row = its;
                   carries = subst (λ (q : Moment Micro). Carries store' before o entry' c.first c.second spent q to) (from' stalls) carried;
                 };
             limits = λ before o stalls left m.
@@ -79,7 +80,7 @@ module _ (e : Environment) (s s' : Symbols) (store store' : List ℕ) (entry ent
           }
 
       pub limited : TransfersLimits → (n n' : ℕ) → ((stalls : ℕ) → LimitAlike store store' stalls entry entry' n n' e first first' last last') →
-          CarriesOver e s s' store store' entry entry' []
+          CarriesOver e s s' store store' entry entry' row []
       limited transfers n n' leads =
           record {
             moves = λ before o stalls spent to m.

@@ -7,6 +7,9 @@ pub mod Knowledge
 pub mod Leaves
 pub mod Passes
 pub mod Reset
+pub mod Seconds
 pub mod Shapes
+pub mod Shown
 pub mod Starts
+pub mod Timed
 pub mod Transfers

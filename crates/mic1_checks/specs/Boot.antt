@@ -28,9 +28,13 @@ pub record IsReset (e : Environment) (s : Symbols) : Type 0 where
   pub word : s.word ≡ None
   pub byte : s.byte ≡ None
 
+-- the row of the boot's leaves, after those of the instructions
+abbrev pub BOOT : ℕ
+BOOT = 24
+
 -- If the first store comes from its reset to a boundary, the second comes there from its own, over memory that holds words.
 abbrev pub CarriesBoot : List ℕ → List ℕ → ℕ → ℕ → List Counts → Type 0
 CarriesBoot store store' entry entry' leaves =
     (timing : Timing) (v : VerifiedView) (o : Origin) (input : List ℕ) (first : State) → Loads v o → ((k : ℕ) → slice_index o.words k < 4294967296) →
     Boots mic1_meaning store (IsAt mic1_meaning IsReady entry o) o.given timing (reset_moment mic1_meaning entry v.main_locals o input) first →
-    CarriedBy leaves store' o.given o entry' timing.boot (reset_moment mic1_meaning entry' v.main_locals o input) first
+    CarriedBy leaves BOOT store' o.given o entry' timing.boot (reset_moment mic1_meaning entry' v.main_locals o input) first

@@ -25,7 +25,8 @@ use Rattle.mic1_checks.specs.Start.{start_moment}
 use Rattle.mic1_checks.specs.Transfer.{AreAlike, Carries}
 
 -- the first path is at a boundary after n + 1 cycles, and the second at one alike
-pub record AreAtBoundary (entry entry' n : ℕ) (b : Followed) (c : Counts) (p q : Path) : Type 0 where
+pub record AreAtBoundary (entry entry' row n : ℕ) (b : Followed) (c : Counts) (p q : Path) : Type 0 where
+  pub its_row : c.row ≡ row
   pub first : n ≡ c.first
   pub second : b ≡ ends.Boundary c.second
   pub alike : AreAlike entry entry' p q
@@ -39,25 +40,26 @@ pub record AreAtLimit (b : Followed) (p q : Path) : Type 0 where
   pub given : p.given.items ≡ q.given.items
   pub short : n < 1023
 
--- the second store moves too, with the counts of one of the leaves
-pub record CarriedBy (leaves : List Counts) (store' before : List ℕ) (o : Origin) (entry' spent : ℕ) (q' : Moment Micro) (to : State) : Type 0 where
+-- the second store moves too, with the counts of one of the leaves of this row
+pub record CarriedBy (leaves : List Counts) (row : ℕ) (store' before : List ℕ) (o : Origin) (entry' spent : ℕ) (q' : Moment Micro) (to : State) : Type 0 where
   pub counts : Counts
   pub is_leaf : Contains leaves counts
+  pub its_row : counts.row ≡ row
   pub carries : Carries store' before o entry' counts.first counts.second spent q' to
 
 -- where the first store moves from its start, the second does from its own, and where the first meets the stack's end, the second does
-pub record CarriesOver (e : Environment) (s s' : Symbols) (store store' : List ℕ) (entry entry' : ℕ) (leaves : List Counts) : Type 0 where
+pub record CarriesOver (e : Environment) (s s' : Symbols) (store store' : List ℕ) (entry entry' row : ℕ) (leaves : List Counts) : Type 0 where
   pub moves : (before : List ℕ) (o : Origin) (stalls spent : ℕ) (to : State) →
       Moves mic1_meaning store (IsAt mic1_meaning IsReady entry o) before (start_moment e stalls entry s) spent to →
-      CarriedBy leaves store' before o entry' spent (start_moment e stalls entry' s') to
+      CarriedBy leaves row store' before o entry' spent (start_moment e stalls entry' s') to
   pub limits : (before : List ℕ) (o : Origin) (stalls : ℕ) (left : State) →
       Overruns mic1_meaning store (IsAt mic1_meaning IsReady entry o) before (start_moment e stalls entry s) left →
       Overruns mic1_meaning store' (IsAt mic1_meaning IsReadyOrArriving entry' o) before (start_moment e stalls entry' s') left
 
 -- both ends of an instruction in the second store: the next boundary of the definition, or the stack's end
-pub record Onward (leaves : List Counts) (store' : List ℕ) (entry' : ℕ) (before : List ℕ) (timing : Timing) (v : VerifiedView) (o : Origin)
+pub record Onward (leaves : List Counts) (row : ℕ) (store' : List ℕ) (entry' : ℕ) (before : List ℕ) (timing : Timing) (v : VerifiedView) (o : Origin)
     (s : State) (q : Moment Micro) (i : Instr) : Type 0 where
-  pub goes : (to : State) → Went v.image v.map.stack_end s to i → CarriedBy leaves store' before o entry' (cost v.image timing i s) q to
+  pub goes : (to : State) → Went v.image v.map.stack_end s to i → CarriedBy leaves row store' before o entry' (cost v.image timing i s) q to
   pub limits : (left : State) → Overran v.image v.map.stack_end s left i →
       Overruns mic1_meaning store' (IsAt mic1_meaning IsReadyOrArriving entry' o) before q left
 
@@ -67,4 +69,4 @@ abbrev pub CarriesInstruction : Instruction → Shape → List ℕ → List ℕ 
 CarriesInstruction n shape store store' entry entry' leaves =
     (before : List ℕ) (timing : Timing) (v : VerifiedView) (o : Origin) (s : State) (q : Moment Micro) (i : Instr) →
     Takes mic1_meaning store (IsAt mic1_meaning IsReady entry o) before timing v o (λ i. Unit {0}) →
-    StandsBefore entry' v o s q i → Suits n o s → shape_of q.state ≡ shape → Onward leaves store' entry' before timing v o s q i
+    StandsBefore entry' v o s q i → Suits n o s → shape_of q.state ≡ shape → Onward leaves n.row store' entry' before timing v o s q i

@@ -4,6 +4,7 @@ pub mod Ends
 pub mod Listed
 pub mod Ready
 pub mod Situation
+pub mod Spent
 pub mod Start
 pub mod Transfer
 pub mod Words

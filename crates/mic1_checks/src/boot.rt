@@ -44,6 +44,9 @@ fn reset(nodes: &mut Nodes, alloc: Global) -> Result<Symbols, AllocError>
     })
 }
 
+/// The row of the boot's leaves.
+const BOOT: u32 = 24;
+
 fn nothing_known(alloc: Global) -> Known
     ensures ranges { result.ranges.items ≡ [] }
     ensures bytes { result.bytes.items ≡ [] }
@@ -75,6 +78,7 @@ pub fn boot_alike(
     let mut leaves = Vec::new(alloc);
     let answers = Vec::new(alloc);
     if !explore(
+        BOOT,
         &s,
         &s,
         store,

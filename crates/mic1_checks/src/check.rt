@@ -42,6 +42,7 @@ pub fn instruction_alike(
     let mut leaves = Vec::new(alloc);
     let answers = Vec::new(alloc);
     if !explore(
+        n.row,
         &s,
         &t,
         store,

@@ -51,6 +51,7 @@ fn end_of(
         return Ok(None);
     }
     let n = Instruction {
+        row: 25,
         opcode,
         second: None,
     };

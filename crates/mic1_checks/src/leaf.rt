@@ -19,6 +19,8 @@ use std::alloc::{AllocError, Global};
 /// The cycles of both stores from one boundary to the next, each without the first cycle.
 #[derive(Clone, Copy, Debug, PartialEq, Eq)]
 pub struct Counts {
+    /// The number of the instruction in IJVM's table, or 24 for the boot.
+    pub row: u32,
     pub first: u32,
     pub second: u32,
 }
@@ -73,8 +75,16 @@ fn are_alike(p: &Path, q: &Path, entry: u16, other_entry: u16) -> bool
 }
 
 /// The second path's end beside the first one's boundary after so many cycles.
-fn at_boundary(n: u32, b: Followed, p: &Path, q: &Path, entry: u16, other_entry: u16) -> Tried
-    ensures alike { (c : Counts) → result ≡ Tried.Alike c → AreAtBoundary entry other_entry n b c p.now q.now }
+fn at_boundary(
+    row: u32,
+    n: u32,
+    b: Followed,
+    p: &Path,
+    q: &Path,
+    entry: u16,
+    other_entry: u16,
+) -> Tried
+    ensures alike { (c : Counts) → result ≡ Tried.Alike c → AreAtBoundary entry other_entry row n b c p.now q.now }
     ensures stopped { result ≡ Tried.Stopped → ⊥ }
 {
     let Followed::Boundary(k) = b else {
@@ -84,6 +94,7 @@ fn at_boundary(n: u32, b: Followed, p: &Path, q: &Path, entry: u16, other_entry:
         return Tried::Unlike;
     }
     Tried::Alike(Counts {
+        row,
         first: n,
         second: k,
     })
@@ -111,7 +122,9 @@ pub fn is_no_end(entry: u16) -> bool
 }
 
 /// Follows both stores under these answers, the first from `s` and the second from `t`, and compares where they come.
+/// What they spend is counted in this row.
 pub fn attempt(
+    row: u32,
     s: &Symbols,
     t: &Symbols,
     store: &Store,
@@ -127,10 +140,10 @@ pub fn attempt(
     requires other { other.now.machine ≡ Mic1 }
     ensures alike { (c : Counts) → result ≡ Ok (Tried.Alike c) →
         Holds nodes.new (λ e. IsKnown e known.now → HasSigns e.word s.now → HasSigns e.word t.now → AreAnswered e answers.now →
-        CarriesOver e s.now t.now store.now.words other.now.words entry other_entry (c ∷ [])) }
+        CarriesOver e s.now t.now store.now.words other.now.words entry other_entry row (c ∷ [])) }
     ensures stopped { result ≡ Ok Tried.Stopped →
         Holds nodes.new (λ e. IsKnown e known.now → HasSigns e.word s.now → HasSigns e.word t.now → AreAnswered e answers.now →
-        CarriesOver e s.now t.now store.now.words other.now.words entry other_entry []) }
+        CarriesOver e s.now t.now store.now.words other.now.words entry other_entry row []) }
     ensures grows { Grows nodes.old nodes.new }
 {
     transfer_law();
@@ -151,7 +164,7 @@ pub fn attempt(
         return Ok(Tried::Asks(answer));
     }
     match a {
-        Followed::Boundary(n) => Ok(at_boundary(n, b, &first, &second, entry, other_entry)),
+        Followed::Boundary(n) => Ok(at_boundary(row, n, b, &first, &second, entry, other_entry)),
         Followed::Limit(_) => Ok(at_limit(b, &first, &second)),
         _ => Ok(Tried::Unlike),
     }

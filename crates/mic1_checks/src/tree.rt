@@ -23,8 +23,9 @@ fn with(answers: &[Answer], more: Answer, alloc: Global) -> Result<Vec<Answer>, 
 }
 
 /// Whether what the first store takes carries over to the second, under all answers that go on from these, with at most
-/// `depth` more. The counts of each leaf where both come to a boundary are added to `leaves`.
+/// `depth` more. The counts of each leaf where both come to a boundary are added to `leaves`, in this row.
 pub fn explore(
+    row: u32,
     s: &Symbols,
     t: &Symbols,
     store: &Store,
@@ -42,11 +43,12 @@ pub fn explore(
     requires other { other.now.machine ≡ Mic1 }
     ensures carries { result ≡ Ok true →
         Holds nodes.new (λ e. IsKnown e known.now → HasSigns e.word s.now → HasSigns e.word t.now → AreAnswered e answers.now →
-        CarriesOver e s.now t.now store.now.words other.now.words entry other_entry leaves.new.items) }
+        CarriesOver e s.now t.now store.now.words other.now.words entry other_entry row leaves.new.items) }
     ensures grows { Grows nodes.old nodes.new }
     ensures kept { (c : Counts) → Contains leaves.old.items c → Contains leaves.new.items c }
 {
     match attempt(
+        row,
         s,
         t,
         store,
@@ -69,6 +71,7 @@ pub fn explore(
             }
             let yes = with(answers, Answer { is: true, ..answer }, alloc)?;
             if !explore(
+                row,
                 s,
                 t,
                 store,
@@ -93,6 +96,7 @@ pub fn explore(
                 alloc,
             )?;
             explore(
+                row,
                 s,
                 t,
                 store,

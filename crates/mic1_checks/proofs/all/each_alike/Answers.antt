@@ -24,15 +24,15 @@ loop-n-preserved c =
     let found = rw c.in-Some.is at c.in_ok-more.ensures in
     record {
       each = λ k small.
-          let n = slice_index_or c.args.all.now k (plain 0) in
+          let n = slice_index_or c.args.all.now k (plain 0 0) in
           elim (cases_lt k c.loop-n.n-index) [
             | inl past ↦ more n shape store other entry entry' old new before (c.loop-n.invariant.each k past)
             | inr next ↦
                 let here : k ≡ c.loop-n.n-index = omega (arith, small, next) in
-                let now : CarriesInstruction (slice_index_or c.args.all.now c.loop-n.n-index (plain 0)) shape store other entry entry' c.in-Some.more.items = found in
+                let now : CarriesInstruction (slice_index_or c.args.all.now c.loop-n.n-index (plain 0 0)) shape store other entry entry' c.in-Some.more.items = found in
                 more n shape store other entry entry' c.in-Some.more.items new
                 (λ x h. subst (λ (xs : List Counts). Contains xs x) (sym is) (Contains-append_right old c.in-Some.more.items x h))
-                (subst (λ (j : ℕ). CarriesInstruction (slice_index_or c.args.all.now j (plain 0)) shape store other entry entry' c.in-Some.more.items) (sym here) now)
+                (subst (λ (j : ℕ). CarriesInstruction (slice_index_or c.args.all.now j (plain 0 0)) shape store other entry entry' c.in-Some.more.items) (sym here) now)
           ];
       kept = λ x h. before x (c.loop-n.invariant.kept x h);
     }

@@ -10,6 +10,6 @@ abbrev pub invariant-loop-n : goal.invariant-loop-n
 invariant-loop-n l =
     record {
       each : (k : ℕ) → k < l.n-index →
-          CarriesInstruction (slice_index_or l.all k (plain 0)) l.shape l.store.words l.other.words l.entry l.other_entry l.leaves.items;
+          CarriesInstruction (slice_index_or l.all k (plain 0 0)) l.shape l.store.words l.other.words l.entry l.other_entry l.leaves.items;
       kept : (c : Counts) → Contains l.fn.leaves.items c → Contains l.leaves.items c;
     }

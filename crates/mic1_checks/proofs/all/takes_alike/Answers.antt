@@ -1,8 +1,9 @@
-use Rattle.std.proofs.Common.{List, Ok, inl, inr, refl, ◌∙◌, subst}
+use Rattle.std.proofs.Common.{ℕ, List, Ok, inl, inr, refl, ◌∙◌, subst}
 use Rattle.mic1_checks.specs.declared.instruction.Instruction.{Instruction}
 use Rattle.mic1_checks.specs.declared.leaf.Counts.{Counts}
 use Rattle.mic1_checks.specs.declared.shape.Shape.{Shape}
 use Rattle.mic1_checks.specs.Listed.{CarriesEach, instructions}
+use Rattle.mic1_checks.specs.Carried.{Onward}
 use Rattle.mic1_checks.specs.Ready.{shape_of}
 use Rattle.mic1_checks.proofs.Instructions.{each_more, listed}
 use Rattle.mic1_checks.proofs.Shapes.{SETTLED, WITH_BOTH, WITH_BYTE, WITH_WORD, any_shape}
@@ -40,6 +41,8 @@ returns c before timing v o s q i takes stands =
       | inl halt ↦ inl halt
       | inr rest ↦ elim rest [
         | inl err ↦ inr (inl err)
-        | inr there ↦ inr (inr (each there.k there.inside before timing v o s q i takes stands there.suits refl))
+        | inr there ↦
+            inr (inr (subst (λ (row : ℕ). Onward leaves row other entry' before timing v o s q i) there.its_row
+            (each there.k there.inside before timing v o s q i takes stands there.suits refl)))
       ]
     ]

@@ -43,7 +43,7 @@ returns c before timing v o s q i takes b suits formed =
     let none : AreAnswered e c.deref.result.now =
     All-same (λ (a : Answer). truth e a.question (e.word a.number) ≡ a.is) _ _ (c.deref.ensures.value ∙ c.new-answers.ensures.items)
     (All-nil (λ (a : Answer). truth e a.question (e.word a.number) ≡ a.is)) in
-    let over : CarriesOver e x y store other entry entry' leaves =
+    let over : CarriesOver e x y store other entry entry' n.row leaves =
     c.in_ok-explore.ensures.carries (λ j. Ok (c.if-not-branch.false j)) e t.fits known t.signs (subst (HasSigns e.word) (sym shaped) t.signs_shaped) none in
     let own : start_moment e q.stalls entry' y ≡ q = ap (λ (z : Symbols). start_moment e q.stalls entry' z) shaped ∙ t.own in
     let from : Moment Micro = record { state = twin entry q.state; world = q.world; stalls = q.stalls } in
@@ -53,7 +53,7 @@ returns c before timing v o s q i takes b suits formed =
           let moves : Moves mic1_meaning store (IsAt mic1_meaning IsReady entry o) before (start_moment e q.stalls entry x) spent to =
           subst (λ (p : Moment Micro). Moves mic1_meaning store (IsAt mic1_meaning IsReady entry o) before p spent to) (sym (t.from entry))
           (takes.goes s to from i tt b.fine b.next at_first went) in
-          subst (λ (p : Moment Micro). CarriedBy leaves other before o entry' spent p to) own (over.moves before o q.stalls spent to moves);
+          subst (λ (p : Moment Micro). CarriedBy leaves n.row other before o entry' spent p to) own (over.moves before o q.stalls spent to moves);
       limits = λ left overran.
           let runs : Overruns mic1_meaning store (IsAt mic1_meaning IsReady entry o) before (start_moment e q.stalls entry x) left =
           subst (λ (p : Moment Micro). Overruns mic1_meaning store (IsAt mic1_meaning IsReady entry o) before p left) (sym (t.from entry))

@@ -22,7 +22,7 @@ use Rattle.mic1_checks.proofs.ends.end_of.Goals as goal
 
 pub returns : goal.returns
 returns c before v o s q i b code formed =
-    let n : Instruction = record { opcode = c.args.opcode; second = None } in
+    let n : Instruction = record { row = 25; opcode = c.args.opcode; second = None } in
     let entry = c.args.entry in
     let mpc = c.args.mpc in
     let table : List Node = c.follow.new.nodes.nodes.items in

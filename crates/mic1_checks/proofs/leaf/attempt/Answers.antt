@@ -28,12 +28,12 @@ returns-in-Boundary-clause-alike c k is e fits known signs signs' answered =
     let last = c.follow.new.path in
     let last' = c.follow-2.new.path in
     let mid : Fits e c.follow.new.nodes.nodes.items = c.in_ok-b.ensures.grows e fits in
-    let ends : AreAtBoundary entry entry' c.in-Boundary.n c.in_ok-b.b k last last' = c.at_boundary.ensures.alike k (ap tried_in is) in
+    let ends : AreAtBoundary entry entry' c.args.row c.in-Boundary.n c.in_ok-b.b k last last' = c.at_boundary.ensures.alike k (ap tried_in is) in
     let path = c.in_ok-first.ensures.path e signs answered in
     let path' = c.in_ok-second.ensures.path e signs' answered in
     let begins : IsNoEnd second.symbols.mpc = subst IsNoEnd (sym c.in_ok-second.ensures.mpc) (c.if-not-is_no_end.ensures refl) in
-    alike e s t store other entry entry' c.transfer_law.ensures.one first last (c.in_ok-first.ensures.moment e) second last' (c.in_ok-second.ensures.moment e)
-    c.transfer_law.ensures.moves k (λ stalls.
+    alike e s t store other entry entry' c.args.row c.transfer_law.ensures.one first last (c.in_ok-first.ensures.moment e) second last' (c.in_ok-second.ensures.moment e)
+    c.transfer_law.ensures.moves k ends.its_row (λ stalls.
     let p1 = c.in_ok-a.ensures.boundary k.first stalls (λ i. Ok ((c.in-Boundary.is ∙ ap followed.Boundary ends.first) i)) e mid known.knows path in
     let p2 = c.in_ok-b.ensures.boundary k.second stalls (λ i. Ok (ends.second i)) e fits known.knows path' in
     record {
@@ -63,7 +63,7 @@ returns-in-Limit-clause-stopped c is e fits known signs signs' answered =
     let path = c.in_ok-first.ensures.path e signs answered in
     let path' = c.in_ok-second.ensures.path e signs' answered in
     let begins : IsNoEnd second.symbols.mpc = subst IsNoEnd (sym c.in_ok-second.ensures.mpc) (c.if-not-is_no_end.ensures refl) in
-    limited e s t store other entry entry' c.transfer_law.ensures.one first last (c.in_ok-first.ensures.moment e) second last' (c.in_ok-second.ensures.moment e)
+    limited e s t store other entry entry' c.args.row c.transfer_law.ensures.one first last (c.in_ok-first.ensures.moment e) second last' (c.in_ok-second.ensures.moment e)
     c.transfer_law.ensures.limits c.in-Limit.field-0 ends.n (λ stalls.
     record {
       begins = begins;
@@ -78,5 +78,5 @@ pub returns-in-OutOfMap-clause-stopped : goal.returns-in-OutOfMap-clause-stopped
 returns-in-OutOfMap-clause-stopped c is e fits known signs signs' answered =
     let s = c.args.s.now in
     let first = c.in_ok-first.first in
-    refused e s c.args.t.now c.args.store.now.words c.args.other.now.words c.args.entry c.args.other_entry c.transfer_law.ensures.one first c.follow.new.path (c.in_ok-first.ensures.moment e)
+    refused e s c.args.t.now c.args.store.now.words c.args.other.now.words c.args.entry c.args.other_entry c.args.row c.transfer_law.ensures.one first c.follow.new.path (c.in_ok-first.ensures.moment e)
     c.in-OutOfMap.field-0 (λ stalls. c.in_ok-a.ensures.out c.in-OutOfMap.field-0 stalls (λ i. Ok (c.in-OutOfMap.is i)) e fits known.knows (c.in_ok-first.ensures.path e signs answered))
