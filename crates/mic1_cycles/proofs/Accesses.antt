@@ -80,8 +80,8 @@ module _ (word : ℕ → ℕ) (start : World) where
   takes : (p : Ports) (t : Trail) (read : ℕ) → p.mar ≡ console_at → n ≤ p.mar →
       word read ≡ next_byte (drop t.taken start.untaken) → IsTransferred word start mems.Read p t (Some read) (record t { taken = t.taken + 1 })
   unfolding read_refusal read_value untaken_after
-  takes p t read is_console behind is =
-      let lt = not_lt p.mar n behind in
+  takes p t read is_console past is =
+      let lt = not_lt p.mar n past in
       let there : (p.mar == console_at) ≡ true = grind (arith, is_console) in
       record {
         clear = if_false _ _ _ lt ∙ if_true _ _ _ there;
@@ -96,11 +96,11 @@ module _ (word : ℕ → ℕ) (start : World) where
   gives : (p : Ports) (t : Trail) (value : ℕ) → p.mar ≡ console_at → p.mdr ≡ word value → n ≤ p.mar →
       IsTransferred word start mems.Write p t None (record t { given = t.given ++ value ∷ [] })
   unfolding write_refusal given_after
-  gives p t value is_console mdr behind =
-      let lt = not_lt p.mar n behind in
+  gives p t value is_console mdr past =
+      let lt = not_lt p.mar n past in
       let there : (p.mar == console_at) ≡ true = grind (arith, is_console) in
       let size = size_kept word t.writes start.words in
-      let same : slice_set (written_by word t.writes start.words) p.mar p.mdr ≡ written_by word t.writes start.words = set_past (written_by word t.writes start.words) p.mar p.mdr (omega (arith, size, behind)) in
+      let same : slice_set (written_by word t.writes start.words) p.mar p.mdr ≡ written_by word t.writes start.words = set_past (written_by word t.writes start.words) p.mar p.mdr (omega (arith, size, past)) in
       let more : (if nat_lt p.mar n then start.given ++ given_by word t.given else (start.given ++ given_by word t.given) ++ (p.mdr % 256) ∷ []) ≡ start.given ++ given_by word (t.given ++ value ∷ []) =
       if_false _ _ _ lt
       ∙ (append_assoc start.given (given_by word t.given) ((p.mdr % 256) ∷ [])

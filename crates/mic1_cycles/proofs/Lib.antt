@@ -4,6 +4,4 @@ pub mod Loads
 pub mod ReadAccesses
 pub mod Refusals
 pub mod Settled
-pub mod Tests
 pub mod Trails
-pub mod Writes

@@ -1,8 +1,8 @@
 -- Memory after writes.
-use Rattle.std.proofs.Common.{◌≡◌, ◌≢◌, ℕ, ◌<◌, ◌≤◌, ◌%◌, ◌/◌, List, [], ◌∷◌, ◌++◌, length, refl, ap, ◌∙◌, arith}
+use Rattle.std.proofs.Common.{◌≡◌, ◌≢◌, ℕ, ◌+◌, ◌<◌, ◌≤◌, ◌%◌, ◌/◌, List, [], ◌∷◌, ◌++◌, length, take, get_or, refl, ap, ◌∙◌, arith}
 use Rattle.std.specs.Prelude.{slice_index, slice_set}
 use Rattle.std.specs.List.{All}
-use Rattle.std.proofs.lemmas.List.{length-set, get_or-set_other}
+use Rattle.std.proofs.lemmas.List.{take_more, length-set, get_or-set_other}
 use Rattle.std.proofs.lemmas.List.Elements.{All-head, All-tail}
 use Rattle.console_port.specs.World.{byte_in, byte_of}
 use Rattle.mic1_cycles.specs.declared.symbols.Write.{Write}
@@ -39,3 +39,9 @@ module _ (word : ℕ → ℕ) where
   pub given_push : (vs : List ℕ) (v : ℕ) → given_by word (vs ++ v ∷ []) ≡ given_by word vs ++ (word v % 256) ∷ []
   given_push [] v = refl
   given_push (x ∷ vs) v = ap (λ (rest : List ℕ). word x % 256 ∷ rest) (given_push vs v)
+
+  -- the words after one more write
+  pub one_more : (ws : List Write) (words : List ℕ) (i : ℕ) (d : Write) → i < length ws →
+      written_by word (take (i + 1) ws) words ≡ slice_set (written_by word (take i ws) words) (word (get_or ws i d).at) (word (get_or ws i d).value)
+  one_more ws words i d h =
+      ap (λ (xs : List Write). written_by word xs words) (take_more ws i d h) ∙ written_push (take i ws) (get_or ws i d) words

@@ -13,11 +13,6 @@ pub cut_second : (k a : ℕ) → wrap (k * wrap a) ≡ wrap (k * a)
 unfolding wrap
 cut_second k a = mul-mod_second k a 4294967296
 
--- a summand may be cut to a word
-pub cut_sum : (a b : ℕ) → wrap (a + wrap b) ≡ wrap (a + b)
-unfolding wrap
-cut_sum a b = omega arith
-
 -- sums of what is one modulo 2^32
 pub sums : (a b c d : ℕ) → wrap a ≡ wrap b → wrap c ≡ wrap d → wrap (a + c) ≡ wrap (b + d)
 unfolding wrap
@@ -53,10 +48,10 @@ pub wrap_lt : (a : ℕ) → wrap a < 4294967296
 unfolding wrap
 wrap_lt a = omega arith
 
--- a constant before a list that has grown by x
-pub behind : (c a b x : ℕ) → wrap a ≡ wrap (b + x) → wrap (c + a) ≡ wrap (wrap (c + b) + x)
+-- a constant before a weight that has grown by x
+pub grown : (c a b x : ℕ) → wrap a ≡ wrap (b + x) → wrap (c + a) ≡ wrap (wrap (c + b) + x)
 unfolding wrap
-behind c a b x e = omega arith
+grown c a b x e = omega arith
 
 pub plus_constant : (c w a : ℕ) → wrap (wrap (c + w) + a) ≡ wrap (wrap (c + a) + w)
 unfolding wrap

@@ -3,8 +3,7 @@ use Rattle.std.specs.Prelude.{slice_index}
 use Rattle.micro_terms.specs.Meaning.{Fits}
 use Rattle.mic1_cycles.specs.declared.symbols.Write.{Write}
 use Rattle.mic1_cycles.specs.Trail.{written_by}
-use Rattle.mic1_cycles.proofs.Trails.{size_kept}
-use Rattle.mic1_cycles.proofs.Writes.{one_more}
+use Rattle.mic1_cycles.proofs.Trails.{one_more, size_kept}
 use Rattle.mic1_cycles.proofs.access.word_at.Goals as goal
 
 pub loop-write-preserved : goal.loop-write-preserved

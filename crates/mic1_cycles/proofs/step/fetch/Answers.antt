@@ -1,12 +1,14 @@
-use Rattle.std.proofs.Common.{◌≡◌, ◌<◌, ◌/◌, ℕ, Bool, true, Some, List, length, sym, ◌∙◌, subst}
+use Rattle.std.proofs.Common.{◌≡◌, ◌<◌, ◌/◌, nat_lt, ℕ, Bool, true, Some, List, length, sym, ◌∙◌, subst, arith}
 use Rattle.console_port.specs.World.{byte_in}
 use Rattle.mic_datapath.specs.Memory.{ports_with}
 use Rattle.mic1_cycles.specs.declared.symbols.Write.{Write}
 use Rattle.mic1_cycles.specs.Access.{IsFetched}
 use Rattle.mic1_cycles.specs.Trail.{written_by}
 use Rattle.mic1_cycles.specs.Sites.{IsByteIn}
-use Rattle.mic1_cycles.proofs.Tests.{is_below}
 use Rattle.mic1_cycles.proofs.step.fetch.Goals as goal
+
+is_below : (a b : ℕ) → nat_lt a b ≡ true → a < b
+is_below a b h = grind (arith, h)
 
 pub returns-clause-value : goal.returns-clause-value
 returns-clause-value c s t pc writes e fits knows answered =

@@ -3,7 +3,7 @@ use Rattle.std.proofs.lemmas.List.{get_or_read}
 use Rattle.mic_words.specs.Arithmetic.{wrap}
 use Rattle.micro_terms.specs.Value.{value, weight}
 use Rattle.micro_terms.specs.declared.part.Part.{Part}
-use Rattle.micro_terms.proofs.Modular.{is_wrap, behind}
+use Rattle.micro_terms.proofs.Modular.{is_wrap, grown}
 use Rattle.micro_terms.proofs.Weights.{part_weight, after_set, after_remove, after_insert}
 use Rattle.micro_terms.proofs.term.Term.add_part.Goals as goal
 use Rattle.micro_terms.proofs.term.Term.add_part.Goals.{then-coefficient-eq0, else-coefficient-eq0}
@@ -25,9 +25,9 @@ returns-then-index-part-clause-ok c env =
           ap (λ p. wrap (p.coefficient + c.args.part.coefficient)) (sym second) ∙ (sym (is_wrap _) ∙ w.if-coefficient-eq0.true) in
           ap (value env) w.self-is
           ∙ (ap (λ qs. wrap (t.constant + weight env qs)) w.remove.ensures.items
-          ∙ behind t.constant _ (weight env ps) (part_weight env c.args.part) (after_remove env ps i none c.args.part within same gone))
+          ∙ grown t.constant _ (weight env ps) (part_weight env c.args.part) (after_remove env ps i none c.args.part within same gone))
       | else-coefficient-eq0 w ↦
-          ap (value env) w.self-is ∙ behind t.constant _ (weight env ps) (part_weight env c.args.part)
+          ap (value env) w.self-is ∙ grown t.constant _ (weight env ps) (part_weight env c.args.part)
           (after_set env ps i none c.args.part _ within same (is_wrap _ ∙ ap (λ p. wrap (p.coefficient + c.args.part.coefficient)) second) refl)
     ]
 
@@ -43,4 +43,4 @@ unfolding value
 returns-clause-ok c env =
     let t = c.args.self.now in
     ap (λ qs. wrap (t.constant + weight env qs)) c.in_ok-insert.ensures.items
-    ∙ behind t.constant _ (weight env t.parts.items) (part_weight env c.args.part) (after_insert env t.parts.items c.place_of-place.result c.args.part)
+    ∙ grown t.constant _ (weight env t.parts.items) (part_weight env c.args.part) (after_insert env t.parts.items c.place_of-place.result c.args.part)
