@@ -1,0 +1,22 @@
+use Rattle.std.proofs.Common.{ℕ, subst}
+use Rattle.mic_words.specs.declared.machine.Machine.TheVariants.{Mic1}
+use Rattle.ijvm_meaning.specs.Cost.{timing_of}
+use Rattle.mal_shipped.specs.Shipped.{HasShipped}
+use Rattle.mic1_checks.specs.Spent.{CarriesAll}
+use Rattle.mic1_checker.proofs.Promised.{promised}
+use Rattle.mic1_checker.proofs.checked.check.Goals as goal
+
+pub new-requires : goal.new-requires
+new-requires c =
+    let shipped = c.in_ok-shipped.shipped.words in
+    let store = c.args.store.words in
+    let judged = rw c.in-Some.is at c.in_ok-costs.ensures in
+    let all : CarriesAll shipped store 2 c.args.entry c.in-Some.costs =
+    subst (λ (n : ℕ). CarriesAll shipped store n c.args.entry c.in-Some.costs) c.entry.ensures.value judged in
+    record {
+      machine = c.requires.machine;
+      inside = c.requires.entry;
+      interprets =
+          promised shipped store 2 c.args.entry c.in-Some.costs (timing_of Mic1) (HasShipped Mic1) c.in_ok-shipped.ensures.shipped
+          (record { law = c.law.ensures.law; boots = c.law.ensures.boots; grows = c.law.ensures.grows }) all;
+    }

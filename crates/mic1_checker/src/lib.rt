@@ -1,0 +1,9 @@
+//! Control stores of Mic-1 that were shown to interpret IJVM, and their runs of verified images.
+#![tactic(auto)]
+
+pub mod checked;
+pub mod ready;
+
+pub use checked::{Checked, check, run_checked};
+pub use mic1_checks::Costs;
+pub use ready::InWords;
