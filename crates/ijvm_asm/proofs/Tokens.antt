@@ -10,6 +10,7 @@ use Rattle.ijvm_instr.specs.Instructions.{mnemonic_of, row_of, size_of}
 use Rattle.ijvm_tokens.specs.Signs.{sign_text}
 use Rattle.ijvm_tokens.specs.declared.token.Token.{Token}
 use Rattle.ijvm_tokens.specs.declared.token.Token.TheVariants as tokens
+use Rattle.ijvm_tokens.specs.Spelled.{spelled_as}
 use Rattle.ijvm_tokens.specs.Tokens as spelling
 use Rattle.ijvm_line.specs.declared.mnemonic.Kind.{Kind}
 use Rattle.ijvm_line.specs.declared.mnemonic.Kind.TheVariants as kinds
@@ -32,10 +33,10 @@ tokens_size [] = 0
 tokens_size (t ∷ ts) = token_size t + tokens_size ts
 
 lexeme_size : (t : Token) (text : List ℕ) → spelling.IsLexeme t text → token_size t ≤ length text
-lexeme_size (tokens.Sign s) text h = let e = ap length h in omega (arith, e)
-lexeme_size (tokens.Name []) text h = absurd (let e = h.1 in cc)
-lexeme_size (tokens.Name (b ∷ name)) text h = let e = ap length h.0 in omega (arith, e)
-lexeme_size (tokens.Number v) [] h = absurd h.0
+lexeme_size (tokens.Sign s) text h = let e = ap length (spelled_as (tokens.Sign s) text h) in omega (arith, e)
+lexeme_size (tokens.Name []) text h = absurd (let e = (spelled_as (tokens.Name []) text h).1 in cc)
+lexeme_size (tokens.Name (b ∷ name)) text h = let e = ap length (spelled_as (tokens.Name (b ∷ name)) text h).0 in omega (arith, e)
+lexeme_size (tokens.Number v) [] h = absurd h
 lexeme_size (tokens.Number v) (b ∷ text) h = omega arith
 
 pub spelled_size : (ts : List Token) (line : List ℕ) → spelling.SpellsTokens line ts → tokens_size ts ≤ length line

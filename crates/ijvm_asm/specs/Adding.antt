@@ -7,7 +7,7 @@ use Rattle.source_text.specs.Parsing.{add_said, Parser}
 use Rattle.source_text.specs.Walk.{Leads, Step}
 use Rattle.ijvm_program.specs.Program.{most_names, ProgramView}
 use Rattle.ijvm_tokens.specs.declared.token.Token.{Token}
-use Rattle.ijvm_tokens.specs.Reading.{read}
+use Rattle.ijvm_tokens.specs.Tokens.{read}
 use Rattle.ijvm_tokens.specs.Tokens as tokens
 use Rattle.ijvm_line.specs.declared.place.Place.TheVariants as places
 use Rattle.ijvm_line.specs.declared.place.Mark.{Mark}

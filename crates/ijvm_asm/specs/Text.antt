@@ -34,7 +34,7 @@ AreRefused lines _ = ⊥
 
 abbrev pub grammar : Grammar Token LineFault Said ProgramView AsmError
 grammar = record {
-  lexicon = ijvm;
+  table = ijvm;
   refusals = refusals;
   Says = Says;
   HasFault = HasFault;

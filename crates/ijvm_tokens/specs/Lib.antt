@@ -1,3 +1,3 @@
 pub mod Signs
 pub mod Tokens
-pub mod Reading
+pub mod Spelled

@@ -1,15 +1,12 @@
-//! The tokens of a line.
+//! The tokens of a line, and the table of IJVM sources.
 
-ghost use Rattle.std.specs.Prelude.{◌≡◌, ◌+◌, ◌<◌, ◌≤◌, ◌↔◌, Some, length, IfOk, IsErrOf, List, ℕ};
-ghost use Rattle.std.specs.List.{prefix_len};
-ghost use Rattle.source_text.specs.Runs.{quote_len};
+ghost use Rattle.std.specs.Prelude.{◌≡◌, ◌↔◌, Some, IfOk, IsErrOf, List, ℕ};
 ghost use Rattle.ijvm_tokens.specs.declared.token.Token.{Token};
-ghost use Rattle.ijvm_tokens.specs.Tokens.{begins_number, is_word_byte, number_value, SpellsTokens};
-ghost use Rattle.ijvm_tokens.specs.Reading.{name_token, read};
+ghost use Rattle.ijvm_tokens.specs.Tokens.{SpellsTokens, read};
 
 use crate::sign::Sign;
 use mic_base::{Name, Number};
-use source_text::{Language, TokenError, is_name_byte, name_len};
+use source_text::{Language, TokenError, is_name_byte};
 use std::alloc::Global;
 
 /// A token of a line.
@@ -27,89 +24,43 @@ pub struct Ijvm;
 impl Language for Ijvm {
     type Token = Token;
 
-    ghost use Rattle.ijvm_tokens.specs.Reading.{lexer};
     ghost use Rattle.ijvm_tokens.specs.Tokens.{ijvm};
 
-    ghost lexicon = { ijvm };
+    ghost table = { ijvm };
 
-    ghost lexer = { lexer };
-
-    fn extent(first: u8, rest: &[u8]) -> usize {
-        if is_name_byte(first) || first == b'-' {
-            return name_len(rest) + 1;
-        }
-        if first == b'.' {
-            return word_len(rest) + 1;
-        }
-        if first == b'\'' {
-            return quote_len(rest);
-        }
-        1
-    }
-
-    fn token(text: &[u8]) -> Option<Token> {
-        if begins_number(text) {
-            return Some(Token::Number(number_value(text)));
-        }
+    fn sign(text: &[u8]) -> Option<Token> {
         match Sign::find(text) {
             Some(sign) => Some(Token::Sign(sign)),
-            None => name_token(text),
+            None => None,
         }
     }
-}
 
-fn is_word_byte(byte: u8) -> bool
-    ensures { result ≡ is_word_byte byte }
-{
-    is_name_byte(byte) || byte == b'-'
-}
-
-/// How many letters, digits, `_` and `-` stand at the front.
-fn word_len(text: &[u8]) -> usize
-    ensures value { result ≡ prefix_len is_word_byte text.now }
-    ensures small { result ≤ length text.now }
-{
-    text.iter().take_while(|byte| is_word_byte(**byte)).count()
-}
-
-fn quote_len(rest: &[u8]) -> usize
-    ensures value { result ≡ quote_len rest.now }
-    ensures some { 0 < result }
-    ensures small { result ≤ length rest.now + 1 }
-{
-    match rest {
-        [] => 1,
-        [_] => 2,
-        [_, _, ..] => 3,
+    fn number(text: &[u8]) -> Option<Token> {
+        Some(Token::Number(Number::read(text).ok()))
     }
-}
 
-fn begins_number(text: &[u8]) -> bool
-    ensures { result ≡ begins_number text.now }
-{
-    match text {
-        [] => false,
-        [first, ..] => first.is_ascii_digit() || *first == b'-' || *first == b'\'',
+    fn name(name: Name) -> Token {
+        Token::Name(name)
     }
-}
 
-fn number_value(text: &[u8]) -> Option<i64>
-    ensures { result ≡ number_value text.now }
-{
-    Number::read(text).ok()
-}
+    fn other() -> Option<Token> {
+        None
+    }
 
-fn name_token(text: &[u8]) -> Option<Token>
-    ensures { result ≡ name_token text.now }
-{
-    match Name::new(text) {
-        Some(name) => Some(Token::Name(name)),
-        None => None,
+    fn has_minus() -> bool {
+        true
+    }
+
+    fn has_quotes() -> bool {
+        true
+    }
+
+    fn is_dotted(byte: u8) -> bool {
+        is_name_byte(byte) || byte == b'-'
     }
 }
 
 /// The tokens that a line without its comment spells; BadToken where it spells none.
-#[tactic(auto, using(crate::proofs::Lexemes::agrees))]
 pub fn tokens_of(alloc: Global, line: &[u8]) -> Result<Vec<Token>, TokenError>
     ensures ok { IfOk result (λ tokens. SpellsTokens line.now tokens.items) }
     ensures bad { IsErrOf result TokenError.BadToken → (tokens : List Token) → SpellsTokens line.now tokens → ⊥ }
@@ -118,7 +69,6 @@ pub fn tokens_of(alloc: Global, line: &[u8]) -> Result<Vec<Token>, TokenError>
 }
 
 /// What is read from a line is what it spells: so it spells at most one list of tokens.
-#[tactic(auto, using(crate::proofs::Lexemes::agrees), unfolding(crate::specs::Reading::read))]
 pub fn reads_what_is_spelled()
     ensures { (line : List ℕ) (tokens : List Token) → (read line ≡ Some tokens) ↔ SpellsTokens line tokens }
 {

@@ -8,6 +8,7 @@ use Rattle.mal_tokens.specs.declared.token.Token.{Token}
 use Rattle.mal_tokens.specs.declared.token.Token.TheVariants as tokens
 use Rattle.mal_tokens.specs.declared.sign.Sign.TheVariants as signs
 use Rattle.mal_tokens.specs.Tokens as tokens_spelled
+use Rattle.mal_tokens.specs.Spelled.{spelled_as}
 use Rattle.mal_tokens.specs.Words.{IsLabelText}
 use Rattle.mal_line.specs.declared.content.Content.TheVariants as said
 use Rattle.mal_line.specs.declared.content.Parts.{Parts}
@@ -20,7 +21,7 @@ name_free : (line : List ℕ) (ts rest : List Token) (l : List ℕ) → ts ≡ t
 name_free line ts rest l e s = go (subst (λ ts. tokens_spelled.SpellsTokens line ts) e s)
   where
     go : tokens_spelled.SpellsTokens line (tokens.Name l ∷ rest) → IsLabelText l
-    go (gap, lexeme, after, split, blank, is, ends, more) = is.1
+    go (gap, lexeme, after, split, blank, is, ends, more) = (spelled_as (tokens.Name l) lexeme is).1
 
 pub free_label : (m : Machine) (line : List ℕ) (label : Option (List ℕ)) (parts : Parts) → SaysLine (grammar m) line (said.Statement label parts) → IfSome label IsLabelText
 free_label m line label parts s = go s.means.form s.means.has s.means.says

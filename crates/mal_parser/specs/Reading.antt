@@ -11,7 +11,7 @@ use Rattle.source_text.specs.Parsing.{add_said, Parser}
 use Rattle.source_text.specs.Walk.{Step}
 use Rattle.micro_word.specs.Words.{is_part}
 use Rattle.mal_tokens.specs.declared.token.Token.{Token}
-use Rattle.mal_tokens.specs.Reading.{read}
+use Rattle.mal_tokens.specs.Tokens.{read}
 use Rattle.mal_tokens.specs.Tokens as tokens
 use Rattle.mal_tokens.specs.Words.{IsLabelText}
 use Rattle.mal_line.specs.declared.content.Content.{Content}

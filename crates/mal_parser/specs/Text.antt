@@ -186,7 +186,7 @@ AreRefused cs _ = ⊥
 
 abbrev pub grammar : Machine → Grammar Token LineFault Content MalView MalError
 grammar machine = record {
-  lexicon = mal;
+  table = mal;
   refusals = refusals;
   Says = lines.SpellsLine machine;
   HasFault = λ _ ts fault. lines.IsRefused machine ts fault;

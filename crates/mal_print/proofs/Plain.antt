@@ -13,6 +13,7 @@ use Rattle.mal_tokens.specs.declared.sign.Sign.TheVariants as signs
 use Rattle.mal_tokens.specs.declared.token.Token.{Token}
 use Rattle.mal_tokens.specs.declared.token.Token.TheVariants as tokens
 use Rattle.mal_tokens.specs.Words.{sign_text, word_text}
+use Rattle.mal_tokens.specs.Spelled.{IsTextOf, spelled_as}
 use Rattle.mal_tokens.specs.Tokens.{IsLexeme}
 use Rattle.mal_print.specs.Printed.{is_spaced, is_spacing, printed_after, token_text}
 use Rattle.mal_print.specs.StatementText.{is_plain}
@@ -38,10 +39,13 @@ plain_sign signs.Equals = refl
 plain_sign _ = refl
 
 plain_lexeme : (t : Token) (text : List ℕ) → IsLexeme t text → list_all is_plain text ≡ true
-plain_lexeme (tokens.Word w) text l = ap (list_all is_plain) l ∙ plain_word w
-plain_lexeme (tokens.Sign s) text l = ap (list_all is_plain) l ∙ plain_sign s
-plain_lexeme (tokens.Name n) text l = ap (list_all is_plain) l.0 ∙ plain_bytes n (named n l.1.0).all
-plain_lexeme (tokens.Number v) text l = plain_bytes text l.1
+plain_lexeme t text l = go t (spelled_as t text l)
+  where
+    go : (t : Token) → IsTextOf t text → list_all is_plain text ≡ true
+    go (tokens.Word w) is = ap (list_all is_plain) is ∙ plain_word w
+    go (tokens.Sign s) is = ap (list_all is_plain) is ∙ plain_sign s
+    go (tokens.Name n) is = ap (list_all is_plain) is.0 ∙ plain_bytes n (named n is.1.0).all
+    go (tokens.Number v) is = plain_bytes text is
 
 pub plain_printed : (spacing : Bool) (ts : List Token) → AreLexemes spacing ts → list_all is_plain (printed_after spacing ts) ≡ true
 plain_printed spacing [] l = refl

@@ -9,6 +9,7 @@ use Rattle.mal_tokens.specs.declared.token.Token.TheVariants as tokens
 use Rattle.mal_tokens.specs.declared.sign.Sign.{Sign}
 use Rattle.mal_tokens.specs.declared.sign.Sign.TheVariants as signs
 use Rattle.mal_tokens.specs.Words.{sign_text}
+use Rattle.mal_tokens.specs.Spelled.{may_end, spelled_as}
 use Rattle.mal_tokens.specs.Tokens.{IsLexeme, SpellsTokens}
 use Rattle.mal_print.specs.Printed.{is_open, is_spaced, is_spacing, is_wordy, printed_after, token_text}
 use Rattle.mal_print.proofs.Each.{Each}
@@ -38,11 +39,11 @@ sign_ends signs.Default h = absurd (cc)
 sign_ends _ h = refl
 
 bare_begins : (t : Token) (text rest : List ℕ) → is_wordy t ≡ false → IsLexeme t text → begins_with is_name_byte (text ++ rest) ≡ false
-bare_begins (tokens.Sign s) text rest h is = ap (λ x. begins_with is_name_byte (x ++ rest)) is ∙ sign_begins s rest h
+bare_begins (tokens.Sign s) text rest h is = ap (λ x. begins_with is_name_byte (x ++ rest)) (spelled_as (tokens.Sign s) text is) ∙ sign_begins s rest h
 bare_begins _ text rest h is = absurd (cc)
 
 bare_ends : (t : Token) (text : List ℕ) → is_wordy t ≡ false → IsLexeme t text → ends_with is_name_byte text ≡ false
-bare_ends (tokens.Sign s) text h is = ap (ends_with is_name_byte) is ∙ sign_ends s h
+bare_ends (tokens.Sign s) text h is = ap (ends_with is_name_byte) (spelled_as (tokens.Sign s) text is) ∙ sign_ends s h
 bare_ends _ text h is = absurd (cc)
 
 -- ---- what is printed spells its tokens
@@ -70,7 +71,7 @@ begins_fine (t ∷ ts) l = go (is_spaced true t) refl
 pub prints : (spacing : Bool) (ts : List Token) → AreLexemes spacing ts → SpellsTokens (printed_after spacing ts) ts
 prints spacing [] l = refl
 prints spacing (t ∷ ts) l =
-    (cond (is_spaced spacing t) (codes " ") [], token_text (is_spaced spacing t) t, printed_after (is_spacing t) ts, refl, blank (is_spaced spacing t), l.0, ends (is_wordy t) refl, prints (is_spacing t) ts l.1)
+    (cond (is_spaced spacing t) (codes " ") [], token_text (is_spaced spacing t) t, printed_after (is_spacing t) ts, refl, blank (is_spaced spacing t), l.0, may_end t (token_text (is_spaced spacing t) t) (printed_after (is_spacing t) ts) l.0 (ends (is_wordy t) refl), prints (is_spacing t) ts l.1)
   where
     blank : (s : Bool) → AreBlank (cond s (codes " ") [])
     blank true = refl

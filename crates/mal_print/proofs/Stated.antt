@@ -1,5 +1,5 @@
 -- The canonical text of a statement spells that statement.
-use Rattle.std.proofs.Common.{◌≡◌, ℕ, zero, suc, ◌+◌, ◌<◌, ◌≤◌, ◌/◌, ◌%◌, Bool, true, false, List, [], ◌∷◌, ◌++◌, Option, Some, None, refl, ap, ◌∙◌, inl, arith, cond}
+use Rattle.std.proofs.Common.{◌≡◌, ℕ, zero, suc, ◌<◌, ◌≤◌, ◌/◌, ◌%◌, Bool, true, false, List, [], ◌∷◌, ◌++◌, Option, Some, None, refl, ap, ◌∙◌, inl, arith, cond}
 use Rattle.std.specs.Prelude.{◌&&◌, ◌||◌, ◌^◌, IfSome, Ok, codes, nat_lt, option_map, pos}
 use Rattle.std.specs.Fmt.{digits}
 use Rattle.std.specs.Char.{digit_char}
@@ -15,6 +15,7 @@ use Rattle.mal_tokens.specs.declared.sign.Sign.TheVariants as signs
 use Rattle.mal_tokens.specs.declared.token.Token.{Token}
 use Rattle.mal_tokens.specs.declared.token.Token.TheVariants as tokens
 use Rattle.mal_tokens.specs.Words.{IsLabelText}
+use Rattle.mal_tokens.specs.Spelled.{label_lexeme, number_lexeme, sign_lexeme, word_lexeme}
 use Rattle.mal_tokens.specs.Tokens.{IsLexeme}
 use Rattle.mal_line.specs.declared.content.Parts.{Parts}
 use Rattle.mal_line.specs.declared.content.Content.{Content}
@@ -77,25 +78,25 @@ shown_number v h g false = g
 
 shown_targets : (next : Next (List ℕ)) → HasLabels next → EachTarget IsShown (labelled next)
 shown_targets nexts.Following h = tt
-shown_targets (nexts.Goto label) h = λ b. (refl, h)
+shown_targets (nexts.Goto label) h = λ b. label_lexeme label h
 shown_targets (nexts.Dispatch high) h = tt
-shown_targets (nexts.Branch test high low) h = (λ b. (refl, h.0), λ b. (refl, h.1))
+shown_targets (nexts.Branch test high low) h = (λ b. label_lexeme high h.0, λ b. label_lexeme low h.1)
 
 shown_parts : (m : Machine) (part : Part) (next : Next (List ℕ)) → Fits m part → HasLabels next → Each IsShown (parts m part (labelled next))
 unfolding number_of hex_text digits
 shown_parts m part next f h =
     let of : Stands IsShown m = record {
-      word = λ w h b. refl;
-      sign = λ s h b. refl;
+      word = λ w h b. word_lexeme w;
+      sign = λ s h b. sign_lexeme s;
       zero = shown_number 0 (refl, refl, refl) (refl, refl, refl);
       one = shown_number 1 (refl, refl, refl) (refl, refl, refl);
       eight = shown_number 8 (refl, refl, refl) (refl, refl, refl);
       offset = shown_number 256 (refl, refl, refl) (refl, refl, refl);
     } in
-    each_parts IsShown m of (λ b. refl) part (labelled next) f (shown_targets next h)
+    each_parts IsShown m of (λ b. sign_lexeme signs.Semicolon) part (labelled next) f (shown_targets next h)
 
 shown_label : (label : List ℕ) → IsLabelText label → IsShown (tokens.Name label)
-shown_label label h = λ b. (refl, h)
+shown_label label h = λ b. label_lexeme label h
 
 -- ---- lines
 
@@ -108,7 +109,7 @@ statement_said m None p h l n =
     let f = part_fits m p.part h in
     let ts = parts m p.part (labelled p.next) in
     line_of m (or_semicolon ts) (contents.Statement None p)
-    (shown_lexemes false (or_semicolon ts) (each_lone IsShown (λ b. refl) ts (shown_parts m p.part p.next f n)))
+    (shown_lexemes false (or_semicolon ts) (each_lone IsShown (λ b. sign_lexeme signs.Semicolon) ts (shown_parts m p.part p.next f n)))
     (record {
       form = forms.Statement None (tree_for p.part p.next);
       has = (or_semicolon_some ts, or_semicolon_is m p.part p.next f);
@@ -132,7 +133,7 @@ fallback_said m p h n =
     let f = part_fits m p.part h in
     let ts = parts m p.part (labelled p.next) in
     line_of m (tokens.Sign signs.Default ∷ ts) (contents.Fallback p)
-    (shown_lexemes false (tokens.Sign signs.Default ∷ ts) ((λ b. refl), shown_parts m p.part p.next f n))
+    (shown_lexemes false (tokens.Sign signs.Default ∷ ts) ((λ b. sign_lexeme signs.Default), shown_parts m p.part p.next f n))
     (record {
       form = forms.Fallback (tree_for p.part p.next);
       has = (ts, refl, tree_is m p.part p.next f);
@@ -158,10 +159,10 @@ shown_address : ReadsHex → (address : ℕ) → address < 512 → IsLexeme (tok
 shown_address hex address lt = go (nat_lt address 4096) (grind (arith, nat_tests))
   where
     go : (b : Bool) → b ≡ true → IsLexeme (tokens.Number (pos address)) (number_text true (cond b (Some address) None) (pos address))
-    go true e = (refl, hex_name 3 address, hex 3 address (omega arith) (omega (arith, lt)) (omega (arith, lt)))
+    go true e = number_lexeme (codes "0x" ++ hex_text 3 address) (pos address) refl (hex_name 3 address) (hex 3 address (omega arith) (omega (arith, lt)) (omega (arith, lt)))
     go false e = absurd (cc)
 
 pub fix_said : ReadsHex → (m : Machine) (label : List ℕ) (address : ℕ) → IsLabelText label → address < 512 → IsLineOf m (printed (fix label address)) (contents.Fix label (pos address))
 fix_said hex m label address l lt =
-    line_of m (fix label address) (contents.Fix label (pos address)) (refl, ((refl, l), (shown_address hex address lt, tt)))
+    line_of m (fix label address) (contents.Fix label (pos address)) (sign_lexeme signs.Label, (label_lexeme label l, (shown_address hex address lt, tt)))
     (record { form = forms.Fix label (pos address); has = refl; own = own_all m (fix label address) (refl, (refl, (refl, tt))); says = refl })

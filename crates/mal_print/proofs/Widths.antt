@@ -29,7 +29,7 @@ use Rattle.mal_line.specs.declared.next.Next.TheVariants as nexts
 use Rattle.mal_line.specs.Expressions.{minus, one_token, plus, side, source_word, spelling, tail_with}
 use Rattle.mal_line.specs.Chains.{dest_tokens, tail_tokens}
 use Rattle.mal_print.specs.Printed.{address_of, number_width, token_width, width}
-use Rattle.mal_print.specs.StatementText.{all_dests, assignment, beside, chain, dests_of, fetches, has_dest, heads, is_absent, leads, memory, or_semicolon, parts, statement, tested, value}
+use Rattle.mal_print.specs.StatementText.{all_dests, assignment, beside, chain, dests_of, fetches, has_dest, heads, is_absent, leads, memory, or_semicolon, parts, tested, value}
 
 -- ---- numbers and other tokens
 

@@ -70,7 +70,3 @@ is_reserved text = is_some (find_word text)
 -- a label is a name that is not reserved
 abbrev pub IsLabelText : List ℕ → Type 0
 IsLabelText label = (is_name label ≡ true) × (is_reserved label ≡ false)
-
--- the one of these words with this spelling
-abbrev pub find_among : List Word → List ℕ → Option Word
-find_among ws text = find (λ w. bytes_eq (word_text w) text) ws

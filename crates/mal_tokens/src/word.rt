@@ -1,7 +1,7 @@
 //! The reserved words of the microassembly language, each with its spelling.
 
 ghost use Rattle.std.specs.Prelude.{◌≡◌};
-ghost use Rattle.mal_tokens.specs.Words.{find_among, find_word, word_text};
+ghost use Rattle.mal_tokens.specs.Words.{find_word, word_text};
 
 /// A reserved word of the microassembly language, which cannot be a label.
 #[derive(Clone, Copy, Debug, PartialEq, Eq)]
@@ -34,33 +34,34 @@ pub enum Word {
     Else,
 }
 
-// The reserved words of each length.
-const OF_1: [Word; 3] = [Word::H, Word::N, Word::Z];
-
-const OF_2: [Word; 7] = [
+const WORDS: [Word; 26] = [
+    Word::Mar,
+    Word::Mdr,
     Word::Pc,
     Word::Sp,
     Word::Lv,
-    Word::Or,
-    Word::Rd,
-    Word::Wr,
-    Word::If,
-];
-
-const OF_3: [Word; 8] = [
-    Word::Mar,
-    Word::Mdr,
     Word::Cpp,
     Word::Tos,
     Word::Opc,
+    Word::H,
     Word::Mbr,
+    Word::Mbru,
+    Word::Mbr1,
+    Word::Mbr1u,
+    Word::Mbr2,
+    Word::Mbr2u,
+    Word::N,
+    Word::Z,
     Word::And,
+    Word::Or,
     Word::Not,
+    Word::Rd,
+    Word::Wr,
+    Word::Fetch,
+    Word::Goto,
+    Word::If,
+    Word::Else,
 ];
-
-const OF_4: [Word; 5] = [Word::Mbru, Word::Mbr1, Word::Mbr2, Word::Goto, Word::Else];
-
-const OF_5: [Word; 3] = [Word::Mbr1u, Word::Mbr2u, Word::Fetch];
 
 impl Word {
     pub fn text(self) -> &'static str
@@ -100,22 +101,9 @@ impl Word {
     pub fn find(text: &[u8]) -> Option<Word>
         ensures { result ≡ find_word text.now }
     {
-        match text.len() {
-            1 => find_among(&OF_1, text),
-            2 => find_among(&OF_2, text),
-            3 => find_among(&OF_3, text),
-            4 => find_among(&OF_4, text),
-            5 => find_among(&OF_5, text),
-            _ => None,
-        }
+        WORDS
+            .iter()
+            .copied()
+            .find(|word| word.text().as_bytes() == text)
     }
-}
-
-fn find_among(words: &[Word], text: &[u8]) -> Option<Word>
-    ensures { result ≡ find_among words.now text.now }
-{
-    words
-        .iter()
-        .copied()
-        .find(|word| word.text().as_bytes() == text)
 }

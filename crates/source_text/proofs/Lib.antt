@@ -1,3 +1,4 @@
+pub mod Shapes
 pub mod Lexing
 pub mod Walking
 pub mod Cutting

@@ -14,7 +14,7 @@ module _ {T F C P E S : Type 0} (G : Grammar T F C P E) (X : Parser T F C P E S)
 
   -- ---- one line after others
 
-  unspelled : (k : ℕ) (s : S) (line : List ℕ) → ((ts : List T) → Spells G.lexicon line ts → ⊥) → next k s line ≡ Err (G.refusals.bad_token k)
+  unspelled : (k : ℕ) (s : S) (line : List ℕ) → ((ts : List T) → Spells G.table line ts → ⊥) → next k s line ≡ Err (G.refusals.bad_token k)
   unspelled k s line none = by_tokens (X.tokens line) refl
     where
       by_tokens : (o : Option (List T)) → X.tokens line ≡ o → add_read G.refusals X k s o ≡ Err (G.refusals.bad_token k)
@@ -37,7 +37,7 @@ module _ {T F C P E S : Type 0} (G : Grammar T F C P E) (X : Parser T F C P E S)
         by_tokens None e h = absurd (cc)
         by_tokens (Some ts) e h = by_said ts (X.said s ts) e refl h
 
-    said_line : (k : ℕ) (ts : List T) (c : C) (r : Result S E) → Spells G.lexicon line ts → G.Says ts c → X.Stands s c → X.add k s c ≡ r → next k s line ≡ r
+    said_line : (k : ℕ) (ts : List T) (c : C) (r : Result S E) → Spells G.table line ts → G.Says ts c → X.Stands s c → X.add k s c ≡ r → next k s line ≡ r
     said_line k ts c r w means at h =
         ap (add_read G.refusals X k s) ((a.tokens line ts).1 w) ∙ (ap (add_said G.refusals X k s) ((a.said cs s m ts c).1 (means, at)) ∙ h)
 

@@ -1,7 +1,9 @@
 pub mod Content
 pub mod Parts
+pub mod Table
 pub mod Tokens
 pub mod Reading
+pub mod Lexed
 pub mod Walk
 pub mod Text
 pub mod Parsing

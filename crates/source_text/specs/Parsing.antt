@@ -37,7 +37,7 @@ Makes {T} {F} {C} {P} {E} {S} X k s (c ∷ cs) t = (u : S) × X.Stands s c × (X
 
 -- what is spelled is read, and what is read is spelled
 pub record Agrees {T F C P E S : Type 0} (G : Grammar T F C P E) (X : Parser T F C P E S) (start : S) : Type 0 where
-  pub tokens : (line : List ℕ) (ts : List T) → (X.tokens line ≡ Some ts) ↔ Spells G.lexicon line ts
+  pub tokens : (line : List ℕ) (ts : List T) → (X.tokens line ≡ Some ts) ↔ Spells G.table line ts
   pub fit : (cs : List C) (s : S) → Makes X 1 start cs s → G.Fit cs
   pub made : (cs : List C) → G.Fit cs → (s : S) × Makes X 1 start cs s
   pub said : (cs : List C) (s : S) → Makes X 1 start cs s → (ts : List T) (c : C) → (X.said s ts ≡ Ok c) ↔ (G.Says ts c × X.Stands s c)
@@ -53,8 +53,8 @@ pub record IsReadAsSpelled {T F C P E S : Type 0} (G : Grammar T F C P E) (X : P
   pub one_refusal : AtMostOneRefusal G
   pub not_both : NeverBoth G
   -- a line is read as the tokens that it spells, and refused where it spells none
-  pub read : (line : List ℕ) (ts : List T) → Spells G.lexicon line ts → X.tokens line ≡ Some ts
-  pub unspelled : (k : ℕ) (s : S) (line : List ℕ) → ((ts : List T) → Spells G.lexicon line ts → ⊥) →
+  pub read : (line : List ℕ) (ts : List T) → Spells G.table line ts → X.tokens line ≡ Some ts
+  pub unspelled : (k : ℕ) (s : S) (line : List ℕ) → ((ts : List T) → Spells G.table line ts → ⊥) →
       step G.refusals X k s line ≡ Err (G.refusals.bad_token k)
   -- what the lines say, where none is refused
   pub says : (text : List ℕ) (s : S) → Leads (step G.refusals X) 1 start (contents text) s →

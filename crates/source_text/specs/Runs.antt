@@ -16,8 +16,8 @@ ends_with passes (b ∷ c ∷ rest) = ends_with passes (c ∷ rest)
 abbrev pub name_len : List ℕ → ℕ
 name_len = prefix_len is_name_byte
 
--- a single quote and up to two bytes after it
+-- how many bytes stand after a single quote: two, if the line has them
 abbrev pub quote_len : List ℕ → ℕ
-quote_len [] = 1
-quote_len (b ∷ []) = 2
-quote_len (b ∷ c ∷ rest) = 3
+quote_len [] = 0
+quote_len (b ∷ []) = 1
+quote_len (b ∷ c ∷ rest) = 2

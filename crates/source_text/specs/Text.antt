@@ -1,7 +1,8 @@
 -- What a text says, in a language whose lines each say something: the program that its lines spell together, or the first refusal.
 use Rattle.std.specs.Prelude.{◌≡◌, ◌⊎◌, ℕ, ◌+◌, List, [], ◌∷◌, ◌++◌, length, ⊤}
 use Rattle.source_text.specs.Content.{contents}
-use Rattle.source_text.specs.Tokens.{Lexicon, Spells}
+use Rattle.source_text.specs.Table.{Table}
+use Rattle.source_text.specs.Tokens.{Spells}
 
 -- the refusals of a line on its own
 pub record LineRefusals (F E : Type 0) : Type 0 where
@@ -12,7 +13,7 @@ pub record LineRefusals (F E : Type 0) : Type 0 where
 
 -- a language: its tokens, the faults of a line, what a line says, programs and refusals
 pub record Grammar (T F C P E : Type 0) : Type 1 where
-  pub lexicon : Lexicon T
+  pub table : Table T
   pub refusals : LineRefusals F E
   -- the tokens of a line say this
   pub Says : List T → C → Type 0
@@ -33,7 +34,7 @@ module _ {T F C P E : Type 0} (G : Grammar T F C P E) where
   -- a line says this, by its tokens
   pub record SaysLine (line : List ℕ) (content : C) : Type 0 where
     pub sequence : List T
-    pub spelled : Spells G.lexicon line sequence
+    pub spelled : Spells G.table line sequence
     pub means : G.Says sequence content
 
   -- the lines say these, one each
@@ -54,8 +55,8 @@ module _ {T F C P E : Type 0} (G : Grammar T F C P E) where
 
   -- after lines that say this, line `k` spells no tokens, its tokens have a fault, or what they say does not fit
   abbrev pub IsRefusedBehind : ℕ → List C → List ℕ → E → Type 0
-  IsRefusedBehind k before line e = (((ts : List T) → Spells G.lexicon line ts → ⊥) × (e ≡ G.refusals.bad_token k))
-      ⊎ ((ts : List T) × Spells G.lexicon line ts × (((fault : F) × G.HasFault before ts fault × (e ≡ G.refusals.at_line k fault))
+  IsRefusedBehind k before line e = (((ts : List T) → Spells G.table line ts → ⊥) × (e ≡ G.refusals.bad_token k))
+      ⊎ ((ts : List T) × Spells G.table line ts × (((fault : F) × G.HasFault before ts fault × (e ≡ G.refusals.at_line k fault))
       ⊎ ((c : C) × G.Says ts c × G.IsMisfit k before c e)))
 
   -- a line is refused, and none before it is

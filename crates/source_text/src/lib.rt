@@ -4,6 +4,7 @@
 mod content;
 mod names;
 mod runs;
+mod table;
 mod text;
 mod tokens;
 mod walk;
@@ -11,6 +12,7 @@ mod walk;
 pub use content::{first_line, without_comment};
 pub use names::NameList;
 pub use runs::{is_name_byte, name_len};
+pub use table::{Front, Language, extent, token};
 pub use text::{LineLanguage, a_text_says_one_thing};
-pub use tokens::{Language, TokenError, reads_what_is_spelled, tokens_of};
+pub use tokens::{TokenError, reads_what_is_spelled, tokens_of};
 pub use walk::{Reader, read_lines};

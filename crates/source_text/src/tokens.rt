@@ -1,9 +1,10 @@
 //! The tokens of a line, in any language.
 
-ghost use Rattle.std.specs.Prelude.{◌≡◌, ◌+◌, ◌≤◌, ◌<◌, ◌∷◌, ◌↔◌, ℕ, List, length, IfOk, IsErrOf, Some};
-ghost use Rattle.source_text.specs.Reading.{Agrees, lex};
+ghost use Rattle.std.specs.Prelude.{◌≡◌, ◌↔◌, ℕ, List, IfOk, IsErrOf, Some};
+ghost use Rattle.source_text.specs.Reading.{read};
 ghost use Rattle.source_text.specs.Tokens.{Spells, is_blank};
 
+use crate::table::{Language, extent, token};
 use std::alloc::{AllocFailed, Global};
 
 /// Most lines have at most this many tokens.
@@ -16,35 +17,10 @@ pub enum TokenError {
     OutOfMemory,
 }
 
-/// A language whose lines are read token by token.
-pub trait Language {
-    type Token: Drop;
-
-    ghost use Rattle.source_text.specs.Tokens.{Lexicon};
-    ghost use Rattle.source_text.specs.Reading.{Lexer};
-
-    /// How the tokens are spelled.
-    ghost lexicon: { Lexicon Self.Token };
-
-    /// How the tokens are read.
-    ghost lexer: { Lexer Self.Token };
-
-    /// How far the first token of a line reaches.
-    fn extent(first: u8, rest: &[u8]) -> usize
-        ensures value { result ≡ lexer.extent (first ∷ rest.now) }
-        ensures some { 0 < result }
-        ensures small { result ≤ length rest.now + 1 };
-
-    /// The token with this spelling.
-    fn token(text: &[u8]) -> Option<Self::Token>
-        ensures { result ≡ lexer.token text.now };
-}
-
 /// The tokens that a line without its comment spells; BadToken if it does not spell tokens.
 pub fn tokens_of<L: Language>(alloc: Global, line: &[u8]) -> Result<Vec<L::Token>, TokenError>
-    requires { Agrees L.lexicon L.lexer }
-    ensures ok { IfOk result (λ tokens. Spells L.lexicon line.now tokens.items) }
-    ensures bad { IsErrOf result TokenError.BadToken → (tokens : List L.Token) → Spells L.lexicon line.now tokens → ⊥ }
+    ensures ok { IfOk result (λ tokens. Spells L.table line.now tokens.items) }
+    ensures bad { IsErrOf result TokenError.BadToken → (tokens : List L.Token) → Spells L.table line.now tokens → ⊥ }
 {
     let mut tokens = Vec::with_capacity(alloc, ROOM).map_err(|_| TokenError::OutOfMemory)?;
     let mut rest = line;
@@ -53,20 +29,19 @@ pub fn tokens_of<L: Language>(alloc: Global, line: &[u8]) -> Result<Vec<L::Token
             rest = after;
             continue;
         }
-        let (text, behind) = rest.split_at(L::extent(*first, after));
-        let Some(token) = L::token(text) else {
+        let (text, left) = rest.split_at(extent::<L>(*first, after));
+        let Some(token) = token::<L>(text) else {
             return Err(TokenError::BadToken);
         };
         tokens.push(token)?;
-        rest = behind;
+        rest = left;
     }
     Ok(tokens)
 }
 
 /// What is read from a line, token by token, is what it spells: so it spells at most one list of tokens.
 pub fn reads_what_is_spelled<L: Language>()
-    requires { Agrees L.lexicon L.lexer }
-    ensures { (line : List ℕ) (tokens : List L.Token) → (lex L.lexer 0 line ≡ Some tokens) ↔ Spells L.lexicon line tokens }
+    ensures { (line : List ℕ) (tokens : List L.Token) → (read L.table line ≡ Some tokens) ↔ Spells L.table line tokens }
 {}
 
 fn is_blank(byte: u8) -> bool

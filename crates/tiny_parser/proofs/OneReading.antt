@@ -5,8 +5,7 @@ use Rattle.source_text.specs.Content.{contents}
 use Rattle.tiny_draft.specs.Tree as draft
 use Rattle.tiny_draft.specs.declared.token.Token.{Token}
 use Rattle.tiny_lexemes.specs.declared.lexeme.Lexeme.{Lexeme}
-use Rattle.tiny_lexemes.specs.Lexemes.{SpellsLexemes}
-use Rattle.tiny_lexemes.specs.Reading.{read}
+use Rattle.tiny_lexemes.specs.Lexemes.{SpellsLexemes, read}
 use Rattle.tiny_tokens.specs.Tokens.{HasTokens, SpellsLines, main_only, number_all}
 use Rattle.tiny_tree.specs.Tree.{Program}
 use Rattle.tiny_grammar.specs.declared.refusal.Refusal.{Refusal}

@@ -7,6 +7,7 @@ use Rattle.source_text.specs.Content.{contents}
 use Rattle.tiny_lexemes.specs.declared.lexeme.Lexeme.{Lexeme}
 use Rattle.tiny_lexemes.specs.declared.lexeme.Lexeme.TheVariants as lexemes
 use Rattle.tiny_lexemes.specs.Lexemes.{IsLexeme, SpellsLexemes, value_by}
+use Rattle.tiny_lexemes.specs.Spelled.{number_value}
 use Rattle.tiny_tokens.specs.Tokens.{HasTokens, SpellsLines, kind_of, main_only, number_all}
 use Rattle.tiny_draft.specs.declared.token.Kind.{Kind}
 use Rattle.tiny_draft.specs.declared.token.Kind.TheVariants as kinds
@@ -96,7 +97,7 @@ value_word (Ok (negsuc n)) v h = absurd (cc)
 value_word (Err e) v h = absurd (cc)
 
 lexeme_word : (x : Lexeme) (text : List ℕ) → IsLexeme x text → IsWordLexeme x
-lexeme_word (lexemes.Number v) text h = value_word (number_of text) v h.1
+lexeme_word (lexemes.Number v) text h = value_word (number_of text) v (number_value v text h)
 lexeme_word _ text h = tt
 
 line_words : (k : ℕ) (line : List ℕ) (here : List Lexeme) (later : List (Lexeme × ℕ)) → SpellsLexemes line here → AreWordLexemes later

@@ -1,15 +1,17 @@
 -- Tokens that are read one after the other are those that the lines spell.
-use Rattle.std.proofs.Common.{◌≡◌, ℕ, zero, suc, ◌+◌, ◌-◌, ◌<◌, true, false, List, [], ◌∷◌, ◌++◌, Option, Some, None, Ok, drop, take, length, map, refl, sym, ap, ◌∙◌, append_assoc, arith}
+use Rattle.std.proofs.Common.{◌≡◌, ℕ, ◌+◌, true, false, List, [], ◌∷◌, ◌++◌, Option, Some, None, Ok, drop, take, length, map, refl, subst, sym, ap, ◌∙◌, append_assoc, arith}
 use Rattle.std.specs.Prelude.{option_map, option_and_then, ◌↔◌}
 use Rattle.std.proofs.lemmas.List.{append-nil}
+use Rattle.source_text.specs.Reading as reading
 use Rattle.source_text.specs.Reading.{lex}
+use Rattle.source_text.specs.Lexed.{cut_at, lex_blank, lex_token}
+use Rattle.source_text.specs.Table.{extent, token_of}
 use Rattle.source_text.specs.Tokens.{is_blank}
 use Rattle.source_text.specs.Walk.{Leads}
 use Rattle.source_text.specs.Content.{contents}
 use Rattle.tiny_draft.specs.declared.token.Token.{Token}
 use Rattle.tiny_lexemes.specs.declared.lexeme.Lexeme.{Lexeme}
-use Rattle.tiny_lexemes.specs.Lexemes.{SpellsLexemes}
-use Rattle.tiny_lexemes.specs.Reading.{extent, lexer, read, token_of}
+use Rattle.tiny_lexemes.specs.Lexemes.{SpellsLexemes, read, tiny}
 use Rattle.tiny_tokens.specs.Tokens.{HasTokens, SpellsLines, kind_of, main_only, number_all}
 use Rattle.tiny_tokens.specs.Reading.{HeldView, add_all, add_one, add_read, step}
 
@@ -18,66 +20,42 @@ ReadsSome = (line : List ℕ) → (ls : List Lexeme) × (read line ≡ Some ls)
 
 -- ---- a line, token by token
 
-lex_skip : (n : ℕ) (bytes : List ℕ) → lex lexer n bytes ≡ lex lexer 0 (drop n bytes)
-unfolding lex
-lex_skip zero bytes = refl
-lex_skip (suc n) [] = refl
-lex_skip (suc n) (b ∷ rest) = lex_skip n rest
-
-lex_blank : (b : ℕ) (rest : List ℕ) → is_blank b ≡ true → lex lexer 0 (b ∷ rest) ≡ lex lexer 0 rest
-unfolding lex
-lex_blank b rest h = rw h refl
-
-one_less : (b : ℕ) (rest : List ℕ) (e : ℕ) → 0 < e → drop (e - 1) rest ≡ drop e (b ∷ rest)
-one_less b rest zero h = absurd (omega arith)
-one_less b rest (suc e) h = let k : suc e - 1 ≡ e = omega arith in rw k refl
-
-lex_token : (b : ℕ) (rest : List ℕ) → 0 < extent (b ∷ rest) → is_blank b ≡ false
-    → lex lexer 0 (b ∷ rest) ≡ option_and_then (λ t. option_map (λ ts. t ∷ ts) (lex lexer 0 (drop (extent (b ∷ rest)) (b ∷ rest)))) (token_of (take (extent (b ∷ rest)) (b ∷ rest)))
-unfolding lex
-lex_token b rest some h =
-    let e : lex lexer (extent (b ∷ rest) - 1) rest ≡ lex lexer 0 (drop (extent (b ∷ rest)) (b ∷ rest)) =
-    lex_skip (extent (b ∷ rest) - 1) rest ∙ ap (lex lexer 0) (one_less b rest (extent (b ∷ rest)) some) in
-    rw h (ap (λ (r : Option (List Lexeme)). option_and_then (λ t. option_map (λ ts. t ∷ ts) r) (token_of (take (extent (b ∷ rest)) (b ∷ rest)))) e)
-
-some_lex : ReadsSome → (line : List ℕ) → (ls : List Lexeme) × (lex lexer 0 line ≡ Some ls)
-unfolding read
+some_lex : ReadsSome → (line : List ℕ) → (ls : List Lexeme) × (lex tiny 0 line ≡ Some ls)
+unfolding reading.read
 some_lex law line = law line
 
-pub line_begins : (k : ℕ) (s : HeldView) (line : List ℕ) → add_read k s (lex lexer 0 line) ≡ add_read k s (read line)
-unfolding read
+pub line_begins : (k : ℕ) (s : HeldView) (line : List ℕ) → add_read k s (lex tiny 0 line) ≡ add_read k s (read line)
+unfolding reading.read
 line_begins k s line = refl
 
-pub line_blank : (k : ℕ) (s : HeldView) (b : ℕ) (rest all : List ℕ) (total : HeldView) → all ≡ b ∷ rest → is_blank b ≡ true → add_read k s (lex lexer 0 all) ≡ total
-    → add_read k s (lex lexer 0 rest) ≡ total
-line_blank k s b rest all total e h so_far = ap (add_read k s) (sym (lex_blank b rest h)) ∙ (ap (λ x. add_read k s (lex lexer 0 x)) (sym e) ∙ so_far)
+pub line_blank : (k : ℕ) (s : HeldView) (b : ℕ) (rest all : List ℕ) (total : HeldView) → all ≡ b ∷ rest → is_blank b ≡ true → add_read k s (lex tiny 0 all) ≡ total
+    → add_read k s (lex tiny 0 rest) ≡ total
+line_blank k s b rest all total e h so_far = ap (add_read k s) (sym (lex_blank tiny b rest h)) ∙ (ap (λ x. add_read k s (lex tiny 0 x)) (sym e) ∙ so_far)
 
-pub line_end : (k : ℕ) (s : HeldView) (all : List ℕ) (total : HeldView) → length all ≡ 0 → add_read k s (lex lexer 0 all) ≡ total → total ≡ s
+pub line_end : (k : ℕ) (s : HeldView) (all : List ℕ) (total : HeldView) → length all ≡ 0 → add_read k s (lex tiny 0 all) ≡ total → total ≡ s
 unfolding lex
 line_end k s [] total e so_far = sym so_far
 line_end k s (b ∷ rest) total e so_far = absurd (omega (arith, e))
 
-pub line_token : ReadsSome → (k : ℕ) (s : HeldView) (b : ℕ) (rest all : List ℕ) (n : ℕ) (text behind : List ℕ) (t : Lexeme) (total : HeldView) → all ≡ b ∷ rest → n ≡ extent (b ∷ rest) → 0 < n
-    → text ≡ take n all → behind ≡ drop n all → is_blank b ≡ false → token_of text ≡ Some t → add_read k s (lex lexer 0 all) ≡ total → add_read k (add_one k s t) (lex lexer 0 behind) ≡ total
-line_token law k s b rest all n text behind t total e en some et eb h found so_far =
-    let whole : add_read k s (lex lexer 0 (b ∷ rest)) ≡ total = rw (← e) so_far in
-    let c : token_of (take (extent (b ∷ rest)) (b ∷ rest)) ≡ Some t = rw (← en, ← e, ← et) found in
-    let d : behind ≡ drop (extent (b ∷ rest)) (b ∷ rest) = rw (← en, ← e) eb in
-    let z : 0 < extent (b ∷ rest) = rw (← en) some in
-    let one : lex lexer 0 (b ∷ rest) ≡ option_map (λ ts. t ∷ ts) (lex lexer 0 behind) =
-    lex_token b rest z h ∙ (ap (λ (o : Option Lexeme). option_and_then (λ t. option_map (λ ts. t ∷ ts) (lex lexer 0 (drop (extent (b ∷ rest)) (b ∷ rest)))) o) c
-    ∙ ap (λ x. option_map (λ ts. t ∷ ts) (lex lexer 0 x)) (sym d)) in
+pub line_token : ReadsSome → (k : ℕ) (s : HeldView) (b : ℕ) (rest all : List ℕ) (n : ℕ) (text behind : List ℕ) (t : Lexeme) (total : HeldView) → all ≡ b ∷ rest → n ≡ extent tiny (b ∷ rest)
+    → text ≡ take n all → behind ≡ drop n all → is_blank b ≡ false → token_of tiny text ≡ Some t → add_read k s (lex tiny 0 all) ≡ total → add_read k (add_one k s t) (lex tiny 0 behind) ≡ total
+line_token law k s b rest all n text behind t total e en et eb h found so_far =
+    let whole : add_read k s (lex tiny 0 (b ∷ rest)) ≡ total = subst (λ x. add_read k s (lex tiny 0 x) ≡ total) e so_far in
+    let c = subst (λ x. token_of tiny x ≡ Some t) (cut_at tiny b rest all n text e en et) found in
+    let d : behind ≡ drop (extent tiny (b ∷ rest)) (b ∷ rest) = eb ∙ (ap (λ k. drop k all) en ∙ ap (λ x. drop (extent tiny (b ∷ rest)) x) e) in
+    let one : lex tiny 0 (b ∷ rest) ≡ option_map (λ ts. t ∷ ts) (lex tiny 0 behind) =
+    lex_token tiny b rest h ∙ (ap (λ (o : Option Lexeme). option_and_then (λ t. option_map (λ ts. t ∷ ts) (lex tiny 0 (drop (extent tiny (b ∷ rest)) (b ∷ rest)))) o) c
+    ∙ ap (λ x. option_map (λ ts. t ∷ ts) (lex tiny 0 x)) (sym d)) in
     go (some_lex law behind) (ap (add_read k s) (sym one) ∙ whole)
   where
-    go : (ls : List Lexeme) × (lex lexer 0 behind ≡ Some ls) → add_read k s (option_map (λ ts. t ∷ ts) (lex lexer 0 behind)) ≡ total → add_read k (add_one k s t) (lex lexer 0 behind) ≡ total
+    go : (ls : List Lexeme) × (lex tiny 0 behind ≡ Some ls) → add_read k s (option_map (λ ts. t ∷ ts) (lex tiny 0 behind)) ≡ total → add_read k (add_one k s t) (lex tiny 0 behind) ≡ total
     go (ls, r) x = ap (add_read k (add_one k s t)) r ∙ (ap (λ o. add_read k s (option_map (λ ts. t ∷ ts) o)) (sym r) ∙ x)
 
-pub line_none : ReadsSome → (b : ℕ) (rest all : List ℕ) (n : ℕ) (text : List ℕ) → all ≡ b ∷ rest → n ≡ extent (b ∷ rest) → 0 < n → text ≡ take n all → is_blank b ≡ false → token_of text ≡ None → ⊥
-line_none law b rest all n text e en some et h none =
-    let c : token_of (take (extent (b ∷ rest)) (b ∷ rest)) ≡ None = rw (← en, ← e, ← et) none in
-    let z : 0 < extent (b ∷ rest) = rw (← en) some in
-    let one : lex lexer 0 (b ∷ rest) ≡ None =
-    lex_token b rest z h ∙ ap (λ (o : Option Lexeme). option_and_then (λ t. option_map (λ ts. t ∷ ts) (lex lexer 0 (drop (extent (b ∷ rest)) (b ∷ rest)))) o) c in
+pub line_none : ReadsSome → (b : ℕ) (rest all : List ℕ) (n : ℕ) (text : List ℕ) → all ≡ b ∷ rest → n ≡ extent tiny (b ∷ rest) → text ≡ take n all → is_blank b ≡ false → token_of tiny text ≡ None → ⊥
+line_none law b rest all n text e en et h none =
+    let c = subst (λ x. token_of tiny x ≡ None) (cut_at tiny b rest all n text e en et) none in
+    let one : lex tiny 0 (b ∷ rest) ≡ None =
+    lex_token tiny b rest h ∙ ap (λ (o : Option Lexeme). option_and_then (λ t. option_map (λ ts. t ∷ ts) (lex tiny 0 (drop (extent tiny (b ∷ rest)) (b ∷ rest)))) o) c in
     let p = some_lex law (b ∷ rest) in
     absurd (let q = sym one ∙ p.1 in cc)
 

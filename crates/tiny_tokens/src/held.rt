@@ -1,7 +1,6 @@
 //! The tokens of the lines so far.
 
 ghost use Rattle.std.specs.Prelude.{◌≡◌, [], IfOk, OnOk};
-ghost use Rattle.tiny_lexemes.specs.Reading.{token_of};
 ghost use Rattle.tiny_tokens.specs.Tokens.{kind_of, main_only, numbered};
 ghost use Rattle.tiny_tokens.specs.Reading.{add_one};
 ghost use Rattle.source_text.specs.Places.{place_of_name};

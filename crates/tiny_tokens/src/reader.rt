@@ -4,7 +4,7 @@ ghost use Rattle.std.specs.Prelude.{◌≡◌};
 ghost use Rattle.source_text.specs.Tokens.{is_blank};
 
 use crate::held::Held;
-use source_text::{Language, Reader};
+use source_text::{Reader, extent, token};
 use std::alloc::AllocError;
 use tiny_lexemes::{Tiny, lines_have_one_reading};
 
@@ -30,11 +30,11 @@ impl Reader for Held {
                 rest = after;
                 continue;
             }
-            let (text, behind) = rest.split_at(Tiny::extent(*first, after));
-            if let Some(lexeme) = Tiny::token(text) {
+            let (text, left) = rest.split_at(extent::<Tiny>(*first, after));
+            if let Some(lexeme) = token::<Tiny>(text) {
                 self.add(number, lexeme)?;
             }
-            rest = behind;
+            rest = left;
         }
         Ok(())
     }

@@ -1,7 +1,5 @@
 use Rattle.std.proofs.Common.{◌≡◌, ◌∙◌, Bool, Some, None, ap, sym, if◌then◌else◌}
-use Rattle.std.specs.Prelude.{Option}
 use Rattle.mal_line.specs.Reading.{add_tokens}
-use Rattle.mal_line.specs.declared.gathering.Gathered.{Gathered}
 use Rattle.mal_line.proofs.Splitting.{adds_more, adds_last, adds_none}
 use Rattle.mal_line.proofs.gathering.tree_of.Goals as goal
 

@@ -1,11 +1,11 @@
 use Rattle.std.proofs.Common.{◌≡◌, length}
 use Rattle.source_text.specs.Reading.{lex}
-use Rattle.tiny_lexemes.specs.Reading.{lexer, read}
+use Rattle.tiny_lexemes.specs.Lexemes.{read, tiny}
 use Rattle.tiny_tokens.specs.Reading.{add_read}
 use Rattle.tiny_tokens.proofs.reader.HeldReader.line.Given as goal
 
 abbrev pub invariant-loop-first : goal.invariant-loop-first
-invariant-loop-first l = add_read l.number l.self (lex lexer 0 l.rest) ≡ add_read l.number l.fn.self (read l.line)
+invariant-loop-first l = add_read l.number l.self (lex tiny 0 l.rest) ≡ add_read l.number l.fn.self (read l.line)
 
 abbrev pub decreases-loop-first : goal.decreases-loop-first
 decreases-loop-first l = length l.rest
