@@ -1,17 +1,17 @@
 //! A control store that was shown to interpret IJVM, and its runs.
 
-ghost use Rattle.std.specs.Prelude.{◌≡◌, ◌<◌, ◌≤◌, ◌^◌, Some, IfOk, IfSome, OnErr, IsSome};
+ghost use Rattle.std.specs.Prelude.{◌≡◌, ◌<◌, ◌≤◌, ◌^◌, Ok, Some, IfOk, OnErr, IsSome};
 ghost use Rattle.mic_words.specs.declared.machine.Machine.TheVariants as machines;
 ghost use Rattle.console_port.specs.Streams.{SinkGoesOn};
 ghost use Rattle.ijvm_simulation.specs.Answers.{RunsAsDefined, IsCutWhereReadFails, IsCutWhereWriteFails, EndsByCause};
-ghost use Rattle.mic1_checker.specs.Checked.{IsChecked, checked as interpretation};
+ghost use Rattle.mic1_checker.specs.Checked.{CheckedView, IsChecked, checked as interpretation};
 
 use crate::ready::InWords;
 use ijvm_simulation::{Interpreter, run_with};
 use ijvm_verifier::VerifiedImage;
 use mic_base::{Sink, Source};
 use mic_clock::{Board, End};
-use mic1_checks::{Costs, judge};
+use mic1_checks::{Costs, NotShown, Stores, Verdict as Judged, judge};
 use mic1_datapath::Mic1;
 use mic1_interpreter::Mic1Interpreter;
 use micro_word::Store;
@@ -82,20 +82,34 @@ impl Checked {
     }
 }
 
-/// The store with this entry, if it is shown to interpret IJVM as the store that ships does. `None` promises nothing: a
-/// store that does the same may not be recognised.
-pub fn check(alloc: Global, store: Store, entry: u16) -> Result<Option<Checked>, AllocError>
+/// What came of a control store.
+#[derive(Drop)]
+pub enum Verdict {
+    /// It interprets IJVM.
+    Proved(Checked),
+    /// It was not shown to, which promises nothing: a store that does the same may not be recognised.
+    NotShown(NotShown),
+}
+
+/// The store with this entry, if it is shown to interpret IJVM as the store that ships does; else what is not shown.
+pub fn check(alloc: Global, store: Store, entry: u16) -> Result<Verdict, AllocError>
     requires machine { store.machine ≡ machines.Mic1 }
     requires entry { entry < 512 }
-    ensures store { IfOk result (λ found. IfSome found (λ checked. checked.store ≡ store)) }
-    ensures entry { IfOk result (λ found. IfSome found (λ checked. checked.entry ≡ entry)) }
+    ensures store { (checked : CheckedView) → result ≡ Ok (Verdict.Proved checked) → checked.store ≡ store }
+    ensures entry { (checked : CheckedView) → result ≡ Ok (Verdict.Proved checked) → checked.entry ≡ entry }
 {
     let shipped = Mic1Interpreter::store(alloc)?;
     Mic1Interpreter::law();
-    let Some(costs) = judge(&shipped, Mic1Interpreter::entry(), &store, entry, alloc)? else {
-        return Ok(None);
+    let stores = Stores {
+        store: &shipped,
+        entry: Mic1Interpreter::entry(),
+        other: &store,
+        other_entry: entry,
     };
-    Ok(Some(Checked::new(store, entry, costs)))
+    match judge(&stores, alloc)? {
+        Judged::Shown(costs) => Ok(Verdict::Proved(Checked::new(store, entry, costs))),
+        Judged::NotShown(why) => Ok(Verdict::NotShown(why)),
+    }
 }
 
 /// Runs a verified image on a Mic-1 with a checked store, from its reset to its end. Memory can run out only before the

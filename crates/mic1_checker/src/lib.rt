@@ -4,6 +4,8 @@
 pub mod checked;
 pub mod ready;
 
-pub use checked::{Checked, check, run_checked};
-pub use mic1_checks::Costs;
+pub use checked::{Checked, Verdict, check, run_checked};
+pub use mic1_checks::{
+    Asked, Costs, Counts, Difference, Finding, Instruction, NotShown, Register, Shape,
+};
 pub use ready::InWords;

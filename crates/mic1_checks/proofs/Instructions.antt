@@ -1,5 +1,5 @@
 -- Each instruction that does not end the run is in the list, and more leaves are no harm.
-use Rattle.std.proofs.Common.{◌≡◌, ◌⊎◌, inl, inr, ℕ, ◌+◌, ◌<◌, List, Some, length, refl, ◌∙◌, arith}
+use Rattle.std.proofs.Common.{◌≡◌, ◌⊎◌, inl, inr, ℕ, ◌+◌, ◌<◌, List, Some, length, refl, ◌∙◌, subst, arith}
 use Rattle.std.specs.Prelude.{slice_index_or}
 use Rattle.std.specs.List.{Contains}
 use Rattle.console_port.specs.World.{byte_in}
@@ -13,7 +13,8 @@ use Rattle.mic1_checks.specs.Situation.{Suits}
 use Rattle.mic1_checks.specs.declared.leaf.Counts.{Counts}
 use Rattle.mic1_checks.specs.declared.shape.Shape.{Shape}
 use Rattle.mic1_checks.specs.Carried.{CarriesInstruction, Onward}
-use Rattle.mic1_checks.specs.Listed.{CarriesEach, instructions, plain, row_number, wide}
+use Rattle.mic1_checks.specs.Listed.{CarriesEach, CarriesTakes, instructions, plain, row_number, wide}
+use Rattle.mic1_checks.specs.Ready.{shape_of}
 
 some_is : (a b : ℕ) → Some a ≡ Some b → a ≡ b
 some_is a b e = cc
@@ -73,7 +74,15 @@ more n shape store store' entry entry' xs ys kept h = λ before timing v o s q i
       limits = on.limits;
     }
 
--- each of some kinds, with more leaves
-pub each_more : (all : List Instruction) (shape : Shape) (store store' : List ℕ) (entry entry' : ℕ) (xs ys : List Counts) → ((c : Counts) → Contains xs c → Contains ys c) →
-    CarriesEach all shape store store' entry entry' xs → CarriesEach all shape store store' entry entry' ys
-each_more all shape store store' entry entry' xs ys kept h = λ k inside. more (slice_index_or all k (plain 0 0)) shape store store' entry entry' xs ys kept (h k inside)
+-- what holds of each in the list holds of every one that does not end the run
+pub taken : (store store' : List ℕ) (entry entry' : ℕ) (leaves : List Counts) → CarriesEach instructions store store' entry entry' leaves →
+    CarriesTakes store store' entry entry' leaves
+taken store store' entry entry' leaves each before timing v o s q i takes stands = elim (listed o s _ _ _ _ i stands.next.reads) [
+  | inl halt ↦ inl halt
+  | inr rest ↦ elim rest [
+    | inl err ↦ inr (inl err)
+    | inr there ↦
+        inr (inr (subst (λ (row : ℕ). Onward leaves row store' entry' before timing v o s q i) there.its_row
+        (each there.k there.inside (shape_of q.state) before timing v o s q i takes stands there.suits refl)))
+  ]
+]

@@ -1,5 +1,5 @@
 -- The four shapes.
-use Rattle.std.proofs.Common.{Bool, true, false}
+use Rattle.std.proofs.Common.{Bool, true, false, List, [], ◌∷◌}
 use Rattle.mic1_checks.specs.declared.shape.Shape.{Shape}
 
 abbrev pub SETTLED : Shape
@@ -13,6 +13,9 @@ WITH_BYTE = record { byte = true; word = false }
 
 abbrev pub WITH_BOTH : Shape
 WITH_BOTH = record { byte = true; word = true }
+
+abbrev pub shapes : List Shape
+shapes = SETTLED ∷ WITH_WORD ∷ WITH_BYTE ∷ WITH_BOTH ∷ []
 
 -- what holds of each of the four holds of any
 pub any_shape : (P : Shape → Type 0) → P SETTLED → P WITH_WORD → P WITH_BYTE → P WITH_BOTH → (byte word : Bool) → P (record { byte = byte; word = word })

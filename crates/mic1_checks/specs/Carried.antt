@@ -13,14 +13,18 @@ use Rattle.ijvm_simulation.specs.Law.{Moves, Overruns, Takes}
 use Rattle.ijvm_simulation.specs.Outcomes.{Went, Overran}
 use Rattle.micro_terms.specs.Environment.{Environment}
 use Rattle.mic1_cycles.specs.declared.path.Path.{Path}
+use Rattle.mic1_cycles.specs.declared.question.Answer.{Answer}
 use Rattle.mic1_cycles.specs.declared.symbols.Symbols.{Symbols}
+use Rattle.mic1_cycles.specs.Questions.{AreAnswered}
+use Rattle.mic1_cycles.specs.Symbols.{HasSigns}
 use Rattle.mic1_passes.specs.declared.run.Followed.{Followed}
 use Rattle.mic1_passes.specs.declared.run.Followed.TheVariants as ends
 use Rattle.mic1_checks.specs.declared.instruction.Instruction.{Instruction}
 use Rattle.mic1_checks.specs.declared.leaf.Counts.{Counts}
 use Rattle.mic1_checks.specs.declared.shape.Shape.{Shape}
+use Rattle.mic1_checks.specs.declared.start.Start.{Start}
 use Rattle.mic1_checks.specs.Ready.{IsReadyOrArriving, shape_of}
-use Rattle.mic1_checks.specs.Situation.{StandsBefore, Suits}
+use Rattle.mic1_checks.specs.Situation.{IsKnown, StandsBefore, Suits}
 use Rattle.mic1_checks.specs.Start.{start_moment}
 use Rattle.mic1_checks.specs.Transfer.{AreAlike, Carries}
 
@@ -55,6 +59,12 @@ pub record CarriesOver (e : Environment) (s s' : Symbols) (store store' : List �
   pub limits : (before : List ℕ) (o : Origin) (stalls : ℕ) (left : State) →
       Overruns mic1_meaning store (IsAt mic1_meaning IsReady entry o) before (start_moment e stalls entry s) left →
       Overruns mic1_meaning store' (IsAt mic1_meaning IsReadyOrArriving entry' o) before (start_moment e stalls entry' s') left
+
+-- in this environment, what the first store takes from where both start carries over, under these answers
+abbrev pub CarriesFrom : Start → List Answer → List ℕ → List ℕ → ℕ → ℕ → List Counts → Environment → Type 0
+CarriesFrom b answers store store' entry entry' leaves e =
+    IsKnown e b.known → HasSigns e.word b.first → HasSigns e.word b.second → AreAnswered e answers →
+    CarriesOver e b.first b.second store store' entry entry' b.row leaves
 
 -- both ends of an instruction in the second store: the next boundary of the definition, or the stack's end
 pub record Onward (leaves : List Counts) (row : ℕ) (store' : List ℕ) (entry' : ℕ) (before : List ℕ) (timing : Timing) (v : VerifiedView) (o : Origin)

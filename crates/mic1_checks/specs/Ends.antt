@@ -1,5 +1,5 @@
 -- Where HALT and ERR lead in a control store.
-use Rattle.std.specs.Prelude.{◌≡◌, ◌+◌, ℕ, List, length}
+use Rattle.std.specs.Prelude.{◌≡◌, ◌≢◌, ◌+◌, ◌<◌, ℕ, List, length}
 use Rattle.console_port.specs.World.{byte_in}
 use Rattle.ijvm_instr.specs.declared.instr.Instr.{Instr}
 use Rattle.ijvm_instr.specs.declared.instr.Instr.TheVariants.{Err, Halt}
@@ -11,10 +11,13 @@ use Rattle.ijvm_simulation.specs.Stands.{Origin, IsAt}
 use Rattle.ijvm_simulation.specs.Passes.{Moment}
 use Rattle.ijvm_simulation.specs.Law.{StopsBehind}
 use Rattle.mic1_cycles.specs.declared.path.Path.{Path}
+use Rattle.mic1_passes.specs.declared.run.Followed.{Followed}
+use Rattle.mic1_passes.specs.declared.run.Followed.TheVariants as ends
 use Rattle.mic1_checks.specs.declared.ends.Ends.{Ends}
 use Rattle.mic1_checks.specs.declared.shape.Shape.{Shape}
 use Rattle.mic1_checks.specs.Ready.{IsReadyOrArriving, shape_of}
 use Rattle.mic1_checks.specs.Situation.{StandsBefore}
+use Rattle.mic1_checks.specs.Transfer.{IsNoEnd}
 
 -- a path is at this address, and has neither written, taken nor given
 pub record HasEnded (p : Path) (mpc : ℕ) : Type 0 where
@@ -22,6 +25,14 @@ pub record HasEnded (p : Path) (mpc : ℕ) : Type 0 where
   pub taken : p.taken ≡ 0
   pub writes : length p.writes.items ≡ 0
   pub given : length p.given.items ≡ 0
+
+-- a path has come to this end of a run after n + 1 cycles, and its boundaries are at no end
+pub record HasEndedAfter (b : Followed) (n mpc entry : ℕ) (p : Path) : Type 0 where
+  pub end : b ≡ ends.End n
+  pub short : n < 1023
+  pub ended : HasEnded p mpc
+  pub off : mpc ≢ entry
+  pub no_end : IsNoEnd entry
 
 -- a machine of this shape comes from a boundary with this opcode to this address, after so many cycles and one
 abbrev pub EndsAfter : ℕ → ℕ → Shape → List ℕ → ℕ → ℕ → Type 0

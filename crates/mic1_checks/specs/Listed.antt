@@ -59,10 +59,10 @@ instructions =
     plain 15 0xA7 ∷ plain 16 0xAC ∷ plain 17 0xB0 ∷ plain 17 0x80 ∷ plain 18 0xB6 ∷ wide 19 0x15 ∷ wide 20 0x36 ∷
     wide 21 0x84 ∷ plain 22 0xFC ∷ plain 23 0xFD ∷ []
 
--- a machine of this shape with the second store takes of each of these kinds what the first takes
-abbrev pub CarriesEach : List Instruction → Shape → List ℕ → List ℕ → ℕ → ℕ → List Counts → Type 0
-CarriesEach all shape store store' entry entry' leaves =
-    (k : ℕ) → k < length all → CarriesInstruction (slice_index_or all k (plain 0 0)) shape store store' entry entry' leaves
+-- a machine of any shape with the second store takes of each of these kinds what the first takes
+abbrev pub CarriesEach : List Instruction → List ℕ → List ℕ → ℕ → ℕ → List Counts → Type 0
+CarriesEach all store store' entry entry' leaves =
+    (k : ℕ) → k < length all → (shape : Shape) → CarriesInstruction (slice_index_or all k (plain 0 0)) shape store store' entry entry' leaves
 
 -- If the first store takes what every instruction takes of a machine, the second takes what every one takes that does
 -- not end the run.

@@ -1,17 +1,20 @@
 //! The boot of a control store.
-ghost use Rattle.std.specs.Prelude.{◌≡◌, [], IfOk, IfSome};
+ghost use Rattle.std.specs.Prelude.{◌≡◌, [], Ok, None, IfOk};
+ghost use Rattle.std.specs.List.{Contains};
 ghost use Rattle.mic_words.specs.declared.machine.Machine.TheVariants.{Mic1};
 ghost use Rattle.micro_terms.specs.Meaning.{Grows, Holds};
 ghost use Rattle.mic1_checks.specs.Boot.{CarriesBoot, IsReset};
 
-use crate::check::MOST_ANSWERS;
+use crate::check::{MOST_ANSWERS, finding_of, work_of};
+use crate::finding::{Asked, Finding};
 use crate::leaf::Counts;
-use crate::registers::{free_registers, has_registers};
+use crate::shape::SETTLED;
+use crate::start::Start;
+use crate::stores::Stores;
 use crate::tree::explore;
 use ijvm_simulation::stack_law;
 use mic1_cycles::{Byte, Known, Symbols};
-use micro_terms::{Nodes, environments_exist, is_ordered};
-use micro_word::Store;
+use micro_terms::{Nodes, environments_exist};
 use std::alloc::{AllocError, Global};
 
 /// The symbols at a reset: SP is below main's stack, which is as far up as main has locals, and all else is known.
@@ -45,7 +48,7 @@ fn reset(nodes: &mut Nodes, alloc: Global) -> Result<Symbols, AllocError>
 }
 
 /// The row of the boot's leaves.
-const BOOT: u32 = 24;
+pub const BOOT: u32 = 24;
 
 fn nothing_known(alloc: Global) -> Known
     ensures ranges { result.ranges.items ≡ [] }
@@ -57,48 +60,41 @@ fn nothing_known(alloc: Global) -> Known
     }
 }
 
-/// What both stores spend from a reset to the first boundary, leaf by leaf, if it is shown that the second comes to the
-/// same boundary as the first; `None` if it is not shown.
+/// What is not shown of the boot: that the second store comes from its reset to the same boundary as the first. What both
+/// spend is added to `leaves`, leaf by leaf, and what following them costs is taken from the budget `left`.
 pub fn boot_alike(
-    store: &Store,
-    entry: u16,
-    other: &Store,
-    other_entry: u16,
+    stores: &Stores<'_>,
+    leaves: &mut Vec<Counts>,
+    left: &mut u64,
     alloc: Global,
-) -> Result<Option<Vec<Counts>>, AllocError>
-    requires machine { store.now.machine ≡ Mic1 }
-    requires other { other.now.machine ≡ Mic1 }
-    ensures { IfOk result (λ found. IfSome found (λ leaves. CarriesBoot store.now.words other.now.words entry other_entry leaves.items)) }
+) -> Result<Option<Finding>, AllocError>
+    requires machine { stores.now.store.now.machine ≡ Mic1 }
+    requires other { stores.now.other.now.machine ≡ Mic1 }
+    ensures carries { result ≡ Ok None → CarriesBoot
+        stores.now.store.now.words stores.now.other.now.words stores.now.entry stores.now.other_entry leaves.new.items }
+    ensures kept { (c : Counts) → Contains leaves.old.items c → Contains leaves.new.items c }
 {
     environments_exist();
     stack_law();
-    let mut nodes = free_registers(alloc)?;
-    let s = reset(&mut nodes, alloc)?;
+    let mut work = work_of(*left, alloc)?;
+    let s = reset(&mut work.nodes, alloc)?;
     let known = nothing_known(alloc);
-    let mut leaves = Vec::new(alloc);
+    let start = Start {
+        row: BOOT,
+        first: s,
+        second: s,
+        known,
+    };
     let answers = Vec::new(alloc);
-    if !explore(
-        BOOT,
-        &s,
-        &s,
-        store,
-        entry,
-        other,
-        other_entry,
+    let unlike = explore(
+        &start,
+        stores,
         &answers,
         MOST_ANSWERS,
-        &mut leaves,
-        &mut nodes,
-        &known,
+        leaves,
+        &mut work,
         alloc,
-    )? {
-        return Ok(None);
-    }
-    if !is_ordered(&nodes.nodes) {
-        return Ok(None);
-    }
-    if !has_registers(&nodes.nodes) {
-        return Ok(None);
-    }
-    Ok(Some(leaves))
+    )?;
+    *left = work.left;
+    Ok(finding_of(Asked::Boot, SETTLED, unlike, work, alloc))
 }

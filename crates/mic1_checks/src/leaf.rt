@@ -1,19 +1,17 @@
 //! Two control stores, followed from one boundary under the same answers.
-ghost use Rattle.std.specs.Prelude.{◌≡◌, ◌<◌, ◌==◌, ℕ, IsTrue, Ok, Some, [], ◌∷◌};
+ghost use Rattle.std.specs.Prelude.{◌≡◌, ◌==◌, ℕ, IsTrue, Ok, [], ◌∷◌};
 ghost use Rattle.mic_words.specs.declared.machine.Machine.TheVariants.{Mic1};
 ghost use Rattle.micro_terms.specs.Meaning.{Grows, Holds};
-ghost use Rattle.mic1_cycles.specs.Symbols.{HasSigns};
-ghost use Rattle.mic1_cycles.specs.Questions.{AreAnswered};
-ghost use Rattle.mic1_checks.specs.Transfer.{AreAlike, IsNoEnd};
-ghost use Rattle.mic1_checks.specs.Situation.{IsKnown};
-ghost use Rattle.mic1_checks.specs.Carried.{AreAtBoundary, AreAtLimit, CarriesOver};
+ghost use Rattle.mic1_checks.specs.Transfer.{IsNoEnd};
+ghost use Rattle.mic1_checks.specs.Carried.{AreAtBoundary, AreAtLimit, CarriesFrom};
 
+use crate::difference::{ends_unlike, given_unlike, unlike};
+use crate::finding::Difference;
 use crate::laws::transfer_law;
-use crate::start::path_from;
-use mic1_cycles::{Answer, Known, Path, Symbols, Write};
-use mic1_passes::{Followed, follow};
-use micro_terms::Nodes;
-use micro_word::Store;
+use crate::start::{Start, path_from};
+use crate::stores::Stores;
+use mic1_cycles::{Answer, Path};
+use mic1_passes::{Followed, Work, follow};
 use std::alloc::{AllocError, Global};
 
 /// The cycles of both stores from one boundary to the next, each without the first cycle.
@@ -35,83 +33,51 @@ pub enum Tried {
     Stopped,
     /// A path has to answer the question first.
     Asks(Answer),
-    Unlike,
-}
-
-fn have_written(a: &[Write], b: &[Write]) -> bool
-    ensures { IsTrue result → a.now ≡ b.now }
-{
-    a == b
-}
-
-fn have_given(a: &[u32], b: &[u32]) -> bool
-    ensures { IsTrue result → a.now ≡ b.now }
-{
-    a == b
-}
-
-/// Whether two paths are at boundaries with the same numbers in SP, LV, CPP, TOS and PC, the same opcode in MBR, or of
-/// the second on the way there, and the same writes and console. The other registers are free at a boundary.
-fn are_alike(p: &Path, q: &Path, entry: u16, other_entry: u16) -> bool
-    ensures { IsTrue result → AreAlike entry other_entry p.now q.now }
-{
-    if p.symbols.sp != q.symbols.sp
-        || p.symbols.lv != q.symbols.lv
-        || p.symbols.cpp != q.symbols.cpp
-    {
-        return false;
-    }
-    let opcode = q.symbols.byte.unwrap_or(q.symbols.mbr);
-    if p.symbols.tos != q.symbols.tos
-        || p.symbols.pc != q.symbols.pc
-        || p.symbols.mbr.plain != opcode.plain
-    {
-        return false;
-    }
-    if p.symbols.mpc != entry || q.symbols.mpc != other_entry || p.taken != q.taken {
-        return false;
-    }
-    have_written(&p.writes, &q.writes) && have_given(&p.given, &q.given)
+    Unlike(Difference),
 }
 
 /// The second path's end beside the first one's boundary after so many cycles.
-fn at_boundary(
-    row: u32,
-    n: u32,
-    b: Followed,
-    p: &Path,
-    q: &Path,
-    entry: u16,
-    other_entry: u16,
-) -> Tried
-    ensures alike { (c : Counts) → result ≡ Tried.Alike c → AreAtBoundary entry other_entry row n b c p.now q.now }
+fn at_boundary(row: u32, n: u32, b: Followed, p: &Path, q: &Path, stores: &Stores<'_>) -> Tried
+    ensures alike { (c : Counts) → result ≡ Tried.Alike c → AreAtBoundary stores.now.entry stores.now.other_entry row n b c p.now q.now }
     ensures stopped { result ≡ Tried.Stopped → ⊥ }
 {
     let Followed::Boundary(k) = b else {
-        return Tried::Unlike;
+        return Tried::Unlike(ends_unlike(b, Followed::Boundary(n)));
     };
-    if k >= 1024 || !are_alike(p, q, entry, other_entry) {
-        return Tried::Unlike;
+    if k >= 1024 {
+        return Tried::Unlike(Difference::TooMuch);
     }
-    Tried::Alike(Counts {
-        row,
-        first: n,
-        second: k,
-    })
+    match unlike(p, q, stores) {
+        Some(difference) => Tried::Unlike(difference),
+        None => Tried::Alike(Counts {
+            row,
+            first: n,
+            second: k,
+        }),
+    }
 }
 
-/// The second path's end where the first one has met the stack's end.
-fn at_limit(b: Followed, p: &Path, q: &Path) -> Tried
+/// The second path's end where the first one has met the stack's end after so many cycles.
+fn at_limit(n: u32, b: Followed, p: &Path, q: &Path) -> Tried
     ensures alike { (c : Counts) → result ≡ Tried.Alike c → ⊥ }
     ensures stopped { result ≡ Tried.Stopped → AreAtLimit b p.now q.now }
 {
     let Followed::Limit(k) = b else {
-        return Tried::Unlike;
+        return Tried::Unlike(ends_unlike(b, Followed::Limit(n)));
     };
-    if k >= 1023 || p.taken != q.taken || !have_given(&p.given, &q.given) {
-        return Tried::Unlike;
+    if k >= 1023 {
+        return Tried::Unlike(Difference::TooMuch);
     }
-    Tried::Stopped
+    if p.taken != q.taken {
+        return Tried::Unlike(Difference::Taken {
+            is: q.taken,
+            wanted: p.taken,
+        });
+    }
+    match given_unlike(&q.given, &p.given) {
+        Some(difference) => Tried::Unlike(difference),
+        None => Tried::Stopped,
+    }
 }
 
 /// Whether the address is no end of a run.
@@ -121,51 +87,58 @@ pub fn is_no_end(entry: u16) -> bool
     entry != 0x0FF && entry != 0x0FE
 }
 
-/// Follows both stores under these answers, the first from `s` and the second from `t`, and compares where they come.
-/// What they spend is counted in this row.
+/// Follows both stores from this start under these answers, and compares where they come. What the second store clocks is
+/// noted.
 pub fn attempt(
-    row: u32,
-    s: &Symbols,
-    t: &Symbols,
-    store: &Store,
-    entry: u16,
-    other: &Store,
-    other_entry: u16,
+    start: &Start,
+    stores: &Stores<'_>,
     answers: &[Answer],
-    nodes: &mut Nodes,
-    known: &Known,
+    work: &mut Work,
     alloc: Global,
 ) -> Result<Tried, AllocError>
-    requires machine { store.now.machine ≡ Mic1 }
-    requires other { other.now.machine ≡ Mic1 }
-    ensures alike { (c : Counts) → result ≡ Ok (Tried.Alike c) →
-        Holds nodes.new (λ e. IsKnown e known.now → HasSigns e.word s.now → HasSigns e.word t.now → AreAnswered e answers.now →
-        CarriesOver e s.now t.now store.now.words other.now.words entry other_entry row (c ∷ [])) }
-    ensures stopped { result ≡ Ok Tried.Stopped →
-        Holds nodes.new (λ e. IsKnown e known.now → HasSigns e.word s.now → HasSigns e.word t.now → AreAnswered e answers.now →
-        CarriesOver e s.now t.now store.now.words other.now.words entry other_entry row []) }
-    ensures grows { Grows nodes.old nodes.new }
+    requires machine { stores.now.store.now.machine ≡ Mic1 }
+    requires other { stores.now.other.now.machine ≡ Mic1 }
+    ensures alike { (c : Counts) → result ≡ Ok (Tried.Alike c) → Holds work.new.nodes
+        (CarriesFrom start.now answers.now stores.now.store.now.words stores.now.other.now.words stores.now.entry stores.now.other_entry (c ∷ [])) }
+    ensures stopped { result ≡ Ok Tried.Stopped → Holds work.new.nodes
+        (CarriesFrom start.now answers.now stores.now.store.now.words stores.now.other.now.words stores.now.entry stores.now.other_entry []) }
+    ensures grows { Grows work.old.nodes work.new.nodes }
 {
     transfer_law();
-    if !is_no_end(other_entry) {
-        return Ok(Tried::Unlike);
+    if !is_no_end(stores.other_entry) {
+        return Ok(Tried::Unlike(Difference::EntryIsEnd));
     }
-    let mut first = path_from(s, entry, answers, alloc)?;
-    let mut second = path_from(t, other_entry, answers, alloc)?;
-    let a = follow(&mut first, store, entry, nodes, known, alloc)?;
+    let mut first = path_from(&start.first, stores.entry, answers, alloc)?;
+    let mut second = path_from(&start.second, stores.other_entry, answers, alloc)?;
+    let a = follow(
+        &mut first,
+        stores.store,
+        stores.entry,
+        &start.known,
+        work,
+        alloc,
+    )?;
+    work.clocked.clear();
     if let Followed::Asks(answer) = a {
         return Ok(Tried::Asks(answer));
     }
     if let Followed::OutOfMap(_) = a {
         return Ok(Tried::Stopped);
     }
-    let b = follow(&mut second, other, other_entry, nodes, known, alloc)?;
+    let b = follow(
+        &mut second,
+        stores.other,
+        stores.other_entry,
+        &start.known,
+        work,
+        alloc,
+    )?;
     if let Followed::Asks(answer) = b {
         return Ok(Tried::Asks(answer));
     }
     match a {
-        Followed::Boundary(n) => Ok(at_boundary(row, n, b, &first, &second, entry, other_entry)),
-        Followed::Limit(_) => Ok(at_limit(b, &first, &second)),
-        _ => Ok(Tried::Unlike),
+        Followed::Boundary(n) => Ok(at_boundary(start.row, n, b, &first, &second, stores)),
+        Followed::Limit(n) => Ok(at_limit(n, b, &first, &second)),
+        _ => Ok(Tried::Unlike(ends_unlike(b, a))),
     }
 }

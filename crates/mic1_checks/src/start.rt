@@ -9,9 +9,21 @@ ghost use Rattle.mic1_passes.specs.Moments.{moment};
 ghost use Rattle.mic1_checks.specs.Start.{IsStart, start_moment};
 
 use mic_datapath::sign_extended;
-use mic1_cycles::{Answer, Byte, Path, Symbols};
+use mic1_cycles::{Answer, Byte, Known, Path, Symbols};
 use micro_terms::Nodes;
 use std::alloc::{AllocError, Global};
+
+/// Where two stores are followed from.
+#[derive(Drop)]
+pub struct Start {
+    /// The row in which what both spend is counted.
+    pub row: u32,
+    /// The symbols of the first store's path.
+    pub first: Symbols,
+    /// Those of the second one's.
+    pub second: Symbols,
+    pub known: Known,
+}
 
 /// The symbols at a boundary where this opcode is in MBR. CPP is that of every run, and nothing is under way.
 pub fn begin(opcode: u8, nodes: &mut Nodes, alloc: Global) -> Result<Symbols, AllocError>

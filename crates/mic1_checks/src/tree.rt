@@ -1,18 +1,20 @@
 //! All answers to what two paths ask.
-ghost use Rattle.std.specs.Prelude.{◌≡◌, ◌++◌, Ok, true, IfOk, [], ◌∷◌};
+ghost use Rattle.std.specs.Prelude.{◌≡◌, ◌++◌, Ok, None, IfOk, [], ◌∷◌};
 ghost use Rattle.std.specs.List.{Contains};
 ghost use Rattle.mic_words.specs.declared.machine.Machine.TheVariants.{Mic1};
 ghost use Rattle.micro_terms.specs.Meaning.{Grows, Holds};
-ghost use Rattle.mic1_cycles.specs.Symbols.{HasSigns};
-ghost use Rattle.mic1_cycles.specs.Questions.{AreAnswered};
-ghost use Rattle.mic1_checks.specs.Situation.{IsKnown};
-ghost use Rattle.mic1_checks.specs.Carried.{CarriesOver};
+ghost use Rattle.mic1_checks.specs.Carried.{CarriesFrom};
 
+use crate::finding::{Difference, Unlike};
 use crate::leaf::{Counts, Tried, attempt};
-use mic1_cycles::{Answer, Known, Symbols};
-use micro_terms::Nodes;
-use micro_word::Store;
+use crate::start::Start;
+use crate::stores::Stores;
+use mic1_cycles::Answer;
+use mic1_passes::Work;
 use std::alloc::{AllocError, Global};
+
+/// What it costs that a leaf is compared with another one in the end, in the unit of the budget.
+const LEAF: u64 = 4;
 
 fn with(answers: &[Answer], more: Answer, alloc: Global) -> Result<Vec<Answer>, AllocError>
     ensures { IfOk result (λ all. all.items ≡ answers.now ++ more ∷ []) }
@@ -22,70 +24,56 @@ fn with(answers: &[Answer], more: Answer, alloc: Global) -> Result<Vec<Answer>, 
     Ok(all)
 }
 
+fn not_shown(
+    answers: &[Answer],
+    difference: Difference,
+    alloc: Global,
+) -> Result<Option<Unlike>, AllocError>
+    ensures { result ≡ Ok None → ⊥ }
+{
+    let answers = Vec::from_slice(alloc, answers)?;
+    Ok(Some(Unlike {
+        answers,
+        difference,
+    }))
+}
+
 /// Whether what the first store takes carries over to the second, under all answers that go on from these, with at most
-/// `depth` more. The counts of each leaf where both come to a boundary are added to `leaves`, in this row.
+/// `depth` more; if not, the first path that is not shown. The counts of each leaf where both come to a boundary are added
+/// to `leaves`.
 pub fn explore(
-    row: u32,
-    s: &Symbols,
-    t: &Symbols,
-    store: &Store,
-    entry: u16,
-    other: &Store,
-    other_entry: u16,
+    start: &Start,
+    stores: &Stores<'_>,
     answers: &[Answer],
     depth: u32,
     leaves: &mut Vec<Counts>,
-    nodes: &mut Nodes,
-    known: &Known,
+    work: &mut Work,
     alloc: Global,
-) -> Result<bool, AllocError>
-    requires machine { store.now.machine ≡ Mic1 }
-    requires other { other.now.machine ≡ Mic1 }
-    ensures carries { result ≡ Ok true →
-        Holds nodes.new (λ e. IsKnown e known.now → HasSigns e.word s.now → HasSigns e.word t.now → AreAnswered e answers.now →
-        CarriesOver e s.now t.now store.now.words other.now.words entry other_entry row leaves.new.items) }
-    ensures grows { Grows nodes.old nodes.new }
+) -> Result<Option<Unlike>, AllocError>
+    requires machine { stores.now.store.now.machine ≡ Mic1 }
+    requires other { stores.now.other.now.machine ≡ Mic1 }
+    ensures carries { result ≡ Ok None → Holds work.new.nodes
+        (CarriesFrom start.now answers.now stores.now.store.now.words stores.now.other.now.words stores.now.entry stores.now.other_entry leaves.new.items) }
+    ensures grows { Grows work.old.nodes work.new.nodes }
     ensures kept { (c : Counts) → Contains leaves.old.items c → Contains leaves.new.items c }
 {
-    match attempt(
-        row,
-        s,
-        t,
-        store,
-        entry,
-        other,
-        other_entry,
-        answers,
-        nodes,
-        known,
-        alloc,
-    )? {
+    match attempt(start, stores, answers, work, alloc)? {
         Tried::Alike(counts) => {
+            let cost = LEAF.saturating_mul(leaves.len() as u64);
+            work.left = work.left.saturating_sub(cost);
             leaves.push(counts)?;
-            Ok(true)
+            Ok(None)
         }
-        Tried::Stopped => Ok(true),
+        Tried::Stopped => Ok(None),
+        Tried::Unlike(difference) => not_shown(answers, difference, alloc),
         Tried::Asks(answer) => {
             if depth == 0 {
-                return Ok(false);
+                return not_shown(answers, Difference::TooMuch, alloc);
             }
             let yes = with(answers, Answer { is: true, ..answer }, alloc)?;
-            if !explore(
-                row,
-                s,
-                t,
-                store,
-                entry,
-                other,
-                other_entry,
-                &yes,
-                depth - 1,
-                leaves,
-                nodes,
-                known,
-                alloc,
-            )? {
-                return Ok(false);
+            match explore(start, stores, &yes, depth - 1, leaves, work, alloc)? {
+                Some(unlike) => return Ok(Some(unlike)),
+                None => {}
             }
             let no = with(
                 answers,
@@ -95,22 +83,7 @@ pub fn explore(
                 },
                 alloc,
             )?;
-            explore(
-                row,
-                s,
-                t,
-                store,
-                entry,
-                other,
-                other_entry,
-                &no,
-                depth - 1,
-                leaves,
-                nodes,
-                known,
-                alloc,
-            )
+            explore(start, stores, &no, depth - 1, leaves, work, alloc)
         }
-        _ => Ok(false),
     }
 }

@@ -3,5 +3,7 @@
 #![tactic(auto)]
 
 mod run;
+mod work;
 
 pub use run::{Followed, follow};
+pub use work::Work;

@@ -8,9 +8,9 @@ ghost use Rattle.mic1_cycles.specs.Known.{Knows};
 ghost use Rattle.mic1_cycles.specs.Paths.{IsPath};
 ghost use Rattle.mic1_passes.specs.Moments.{StopsAt, moment};
 
+use crate::work::{Work, cost_of};
 use mic1_cycles::{Answer, Known, Path, Stepped, Stop};
 use mic1_datapath::step_law;
-use micro_terms::Nodes;
 use micro_word::{Store, decode1};
 use std::alloc::{AllocError, Global};
 
@@ -30,9 +30,12 @@ pub enum Followed {
     End(u32),
     /// Before a question that it has not answered.
     Asks(Answer),
-    /// Where it is not known how to go on: at a word that spells no statement, after too many cycles, or refused in the
-    /// first one.
+    /// At a word that spells no statement.
+    NoStatement,
+    /// Where it is not known how to go on: before a dispatch on a byte that is not known, or refused in the first cycle.
     Unknown,
+    /// After too many cycles, or where the budget is used up.
+    TooMuch,
 }
 
 /// Where a path has come that is refused after so many cycles.
@@ -51,36 +54,42 @@ fn refused(cycles: u32, why: Stop) -> Followed
     }
 }
 
-/// Follows a path from the boundary at `entry` to the next one. An error leaves a path of which nothing is said.
+/// Follows a path from the boundary at `entry` to the next one, and notes the addresses that it clocks. An error leaves a
+/// path of which nothing is said.
 pub fn follow(
     path: &mut Path,
     store: &Store,
     entry: u16,
-    nodes: &mut Nodes,
     known: &Known,
+    work: &mut Work,
     alloc: Global,
 ) -> Result<Followed, AllocError>
     requires machine { store.now.machine ≡ Mic1 }
-    ensures boundary { (n stalls : ℕ) → result ≡ Ok (Followed.Boundary n) → Holds nodes.new (λ e. Knows e known.now → IsPath e path.old →
+    ensures boundary { (n stalls : ℕ) → result ≡ Ok (Followed.Boundary n) → Holds work.new.nodes (λ e. Knows e known.now → IsPath e path.old →
         IsPath e path.new × (pass mic1_meaning store.now.words n (moment e stalls entry path.old) ≡ Some (moment e stalls entry path.new))) }
-    ensures end { (n stalls : ℕ) → result ≡ Ok (Followed.End n) → Holds nodes.new (λ e. Knows e known.now → IsPath e path.old →
+    ensures end { (n stalls : ℕ) → result ≡ Ok (Followed.End n) → Holds work.new.nodes (λ e. Knows e known.now → IsPath e path.old →
         IsPath e path.new × (pass mic1_meaning store.now.words n (moment e stalls entry path.old) ≡ Some (moment e stalls entry path.new))) }
-    ensures limit { (n stalls : ℕ) → result ≡ Ok (Followed.Limit n) → Holds nodes.new (λ e. Knows e known.now → IsPath e path.old →
+    ensures limit { (n stalls : ℕ) → result ≡ Ok (Followed.Limit n) → Holds work.new.nodes (λ e. Knows e known.now → IsPath e path.old →
         StopsAt e store.now.words stalls entry n Stop.Limit path.old path.new) }
-    ensures out { (n stalls : ℕ) → result ≡ Ok (Followed.OutOfMap n) → Holds nodes.new (λ e. Knows e known.now → IsPath e path.old →
+    ensures out { (n stalls : ℕ) → result ≡ Ok (Followed.OutOfMap n) → Holds work.new.nodes (λ e. Knows e known.now → IsPath e path.old →
         StopsAt e store.now.words stalls entry n Stop.OutOfMap path.old path.new) }
-    ensures grows { Grows nodes.old nodes.new }
+    ensures grows { Grows work.old.nodes work.new.nodes }
 {
     step_law();
     for n in 0..MOST_CYCLES {
         let mpc = path.symbols.mpc;
         if mpc >= 512 {
-            return Ok(Followed::Unknown);
+            return Ok(Followed::NoStatement);
         }
+        work.left = work.left.saturating_sub(cost_of(path, &work.nodes));
+        if work.left == 0 {
+            return Ok(Followed::TooMuch);
+        }
+        work.clocked.push(mpc)?;
         let Some(p) = decode1(store.word(mpc)) else {
-            return Ok(Followed::Unknown);
+            return Ok(Followed::NoStatement);
         };
-        match path.step(&p, nodes, known, alloc)? {
+        match path.step(&p, &mut work.nodes, known, alloc)? {
             Stepped::Done => {}
             Stepped::Asks(answer) => return Ok(Followed::Asks(answer)),
             Stepped::Refused(why) => return Ok(refused(n, why)),
@@ -94,5 +103,5 @@ pub fn follow(
             return Ok(Followed::End(n));
         }
     }
-    Ok(Followed::Unknown)
+    Ok(Followed::TooMuch)
 }

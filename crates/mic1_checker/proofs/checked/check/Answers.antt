@@ -1,4 +1,4 @@
-use Rattle.std.proofs.Common.{ℕ, subst}
+use Rattle.std.proofs.Common.{ℕ, Ok, subst}
 use Rattle.mic_words.specs.declared.machine.Machine.TheVariants.{Mic1}
 use Rattle.ijvm_meaning.specs.Cost.{timing_of}
 use Rattle.mal_shipped.specs.Shipped.{HasShipped}
@@ -10,13 +10,14 @@ pub new-requires : goal.new-requires
 new-requires c =
     let shipped = c.in_ok-shipped.shipped.words in
     let store = c.args.store.words in
-    let judged = rw c.in-Some.is at c.in_ok-costs.ensures in
-    let all : CarriesAll shipped store 2 c.args.entry c.in-Some.costs =
-    subst (λ (n : ℕ). CarriesAll shipped store n c.args.entry c.in-Some.costs) c.entry.ensures.value judged in
+    let costs = c.in-Shown.costs in
+    let all : CarriesAll shipped store 2 c.args.entry costs =
+    subst (λ (n : ℕ). CarriesAll shipped store n c.args.entry costs) c.entry.ensures.value
+    (c.in_ok-costs.ensures costs (λ j. Ok (c.in-Shown.is j))) in
     record {
       machine = c.requires.machine;
       inside = c.requires.entry;
       interprets =
-          promised shipped store 2 c.args.entry c.in-Some.costs (timing_of Mic1) (HasShipped Mic1) c.in_ok-shipped.ensures.shipped
+          promised shipped store 2 c.args.entry costs (timing_of Mic1) (HasShipped Mic1) c.in_ok-shipped.ensures.shipped
           (record { law = c.law.ensures.law; boots = c.law.ensures.boots; grows = c.law.ensures.grows }) all;
     }

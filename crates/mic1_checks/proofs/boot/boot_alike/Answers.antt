@@ -1,4 +1,4 @@
-use Rattle.std.proofs.Common.{◌≡◌, ◌<◌, ◌+◌, ℕ, true, false, List, Ok, length, refl, sym, ap, ◌∙◌, subst, arith}
+use Rattle.std.proofs.Common.{◌≡◌, ◌<◌, ◌+◌, ℕ, true, false, List, Ok, None, length, sym, ap, ◌∙◌, subst, arith}
 use Rattle.std.specs.Prelude.{slice_index}
 use Rattle.std.proofs.lemmas.List.Elements.{All-same, All-nil}
 use Rattle.console_port.specs.World.{World, byte_in}
@@ -24,24 +24,25 @@ use Rattle.mic1_checks.proofs.Reset.{first_sp, moves_alike, reset_has_words, res
 use Rattle.mic1_checks.proofs.Starts.{Started, started}
 use Rattle.mic1_checks.proofs.boot.boot_alike.Goals as goal
 
-pub returns : goal.returns
-returns c timing v o input first loads words boots =
+pub returns-clause-carries : goal.returns-clause-carries
+returns-clause-carries c done timing v o input first loads words boots =
     let law = c.stack_law.ensures in
-    let store = c.args.store.now.words in
-    let other = c.args.other.now.words in
-    let table : List Node = c.explore.new.nodes.nodes.items in
+    let store = c.args.stores.now.store.now.words in
+    let other = c.args.stores.now.other.now.words in
+    let table : List Node = c.explore.new.work.nodes.nodes.items in
     let leaves = c.explore.new.leaves.items in
-    let entry = c.args.entry in
-    let entry' = c.args.other_entry in
+    let entry = c.args.stores.now.entry in
+    let entry' = c.args.stores.now.other_entry in
     let x : Symbols = c.in_ok-s.s in
     let q : Moment Micro = reset_moment mic1_meaning entry v.main_locals o input in
     let q' : Moment Micro = reset_moment mic1_meaning entry' v.main_locals o input in
-    let ordered : AreOrdered table = subst AreOrdered c.deref-2.ensures.value (c.if-not-is_ordered.ensures refl) in
-    let registers : HasRegisters table = subst HasRegisters c.deref-3.ensures.value (c.if-not-has_registers.ensures refl) in
+    let shown : c.finding_of.result ≡ None = cc in
+    let ordered : AreOrdered table = c.finding_of.ensures.ordered shown in
+    let registers : HasRegisters table = c.finding_of.ensures.registers shown in
     let t : Started table q.state q.world =
     started c.environments_exist.ensures table ordered registers q.state q.world (reset_has_words law v o input loads words entry) in
     let e = t.e in
-    let before : Fits e c.reset.new.nodes.nodes.items = c.in_ok-explore.ensures.grows e t.fits in
+    let before : Fits e c.reset.new.nodes.nodes.items = c.in_ok-unlike.ensures.grows e t.fits in
     let is : IsReset e x = c.in_ok-s.ensures.value e before in
     let long : length e.start.words ≡ length o.words = ap (λ (w : World). length w.words) t.starts in
     let map = law.map v o loads in
@@ -61,7 +62,7 @@ returns c timing v o input first loads words boots =
     (All-nil (λ (a : Answer). truth e a.question (e.word a.number) ≡ a.is)) in
     let signs = reset_signs e x is in
     let over : CarriesOver e x x store other entry entry' BOOT leaves =
-    c.in_ok-explore.ensures.carries (λ j. Ok (c.if-not-branch.false j)) e t.fits known signs signs none in
+    c.in_ok-unlike.ensures.carries (λ j. Ok (c.finding_of.ensures.none shown j)) e t.fits known signs signs none in
     let moment : (k : ℕ) → start_moment e 0 k x ≡ with_clocked true (reset_moment mic1_meaning k v.main_locals o input) =
     λ k j. record { state = stand_reset e x k (first_sp law v o input loads) (slice_index o.words 0) is t.sp j; world = t.starts j; stalls = 0 } in
     let moves : Moves mic1_meaning store (IsAt mic1_meaning IsReady entry o) o.given (start_moment e 0 entry x) timing.boot first =

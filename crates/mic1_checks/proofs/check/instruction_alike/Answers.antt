@@ -1,4 +1,4 @@
-use Rattle.std.proofs.Common.{◌≡◌, List, Ok, refl, sym, ap, ◌∙◌, subst}
+use Rattle.std.proofs.Common.{◌≡◌, List, Ok, None, sym, ap, ◌∙◌, subst}
 use Rattle.std.proofs.lemmas.List.Elements.{All-same, All-nil}
 use Rattle.ijvm_meaning.specs.Cost.{cost}
 use Rattle.mic1_datapath.specs.Micro.{Micro}
@@ -20,31 +20,32 @@ use Rattle.mic1_checks.proofs.Begun.{Begun, begun}
 use Rattle.mic1_checks.proofs.Starts.{twin, twin_stands}
 use Rattle.mic1_checks.proofs.check.instruction_alike.Goals as goal
 
-pub returns : goal.returns
-returns c before timing v o s q i takes b suits formed =
+pub returns-clause-carries : goal.returns-clause-carries
+returns-clause-carries c done before timing v o s q i takes b suits formed =
     let n = c.args.n in
-    let store = c.args.store.now.words in
-    let other = c.args.other.now.words in
-    let table : List Node = c.explore.new.nodes.nodes.items in
+    let store = c.args.stores.now.store.now.words in
+    let other = c.args.stores.now.other.now.words in
+    let entry = c.args.stores.now.entry in
+    let entry' = c.args.stores.now.other_entry in
+    let table : List Node = c.explore.new.work.nodes.nodes.items in
     let leaves = c.explore.new.leaves.items in
-    let entry = c.args.entry in
-    let entry' = c.args.other_entry in
     let spent = cost v.image timing i s in
     let x : Symbols = c.in_ok-s.s in
     let y : Symbols = c.shaped-t.result in
     let shaped : y ≡ shaped_symbols c.args.shape x = c.shaped-t.ensures in
-    let ordered : AreOrdered table = subst AreOrdered c.deref-2.ensures.value (c.if-not-is_ordered.ensures refl) in
-    let registers : HasRegisters table = subst HasRegisters c.deref-3.ensures.value (c.if-not-has_registers.ensures refl) in
+    let shown : c.finding_of.result ≡ None = cc in
+    let ordered : AreOrdered table = c.finding_of.ensures.ordered shown in
+    let registers : HasRegisters table = c.finding_of.ensures.registers shown in
     let t : Begun table n c.args.shape x entry' q i =
     begun c.environments_exist.ensures table ordered registers n c.args.shape x entry' v o s q i b suits formed
-    (λ e fits. c.in_ok-s.ensures.value e (c.in_ok-known.ensures.grows e (c.in_ok-explore.ensures.grows e fits))) in
+    (λ e fits. c.in_ok-s.ensures.value e (c.in_ok-known.ensures.grows e (c.in_ok-unlike.ensures.grows e fits))) in
     let e = t.e in
-    let known : IsKnown e c.in_ok-known.known = c.in_ok-known.ensures.value e (c.in_ok-explore.ensures.grows e t.fits) i t.starts in
+    let known : IsKnown e c.in_ok-known.known = c.in_ok-known.ensures.value e (c.in_ok-unlike.ensures.grows e t.fits) i t.starts in
     let none : AreAnswered e c.deref.result.now =
     All-same (λ (a : Answer). truth e a.question (e.word a.number) ≡ a.is) _ _ (c.deref.ensures.value ∙ c.new-answers.ensures.items)
     (All-nil (λ (a : Answer). truth e a.question (e.word a.number) ≡ a.is)) in
     let over : CarriesOver e x y store other entry entry' n.row leaves =
-    c.in_ok-explore.ensures.carries (λ j. Ok (c.if-not-branch.false j)) e t.fits known t.signs (subst (HasSigns e.word) (sym shaped) t.signs_shaped) none in
+    c.in_ok-unlike.ensures.carries (λ j. Ok (c.finding_of.ensures.none shown j)) e t.fits known t.signs (subst (HasSigns e.word) (sym shaped) t.signs_shaped) none in
     let own : start_moment e q.stalls entry' y ≡ q = ap (λ (z : Symbols). start_moment e q.stalls entry' z) shaped ∙ t.own in
     let from : Moment Micro = record { state = twin entry q.state; world = q.world; stalls = q.stalls } in
     let at_first : IsAt mic1_meaning IsReady entry o s from.state from.world = twin_stands o entry entry' s q.state q.world b.at in

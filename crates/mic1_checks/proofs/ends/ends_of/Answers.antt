@@ -3,10 +3,10 @@ use Rattle.ijvm_instr.specs.declared.instr.Instr.TheVariants.{Err, Halt}
 use Rattle.mic1_checks.specs.Ready.{shape_of}
 use Rattle.mic1_checks.proofs.ends.ends_of.Goals as goal
 
-pub returns : goal.returns
-returns c =
-    let halt = rw c.in-Some.is at c.in_ok-halt.ensures in
-    let err = rw c.in-Some-2.is at c.in_ok-err.ensures in
+pub returns-clause-ends : goal.returns-clause-ends
+returns-clause-ends c =
+    let halt = rw c.in-Some-halted.is at c.in_ok-halted.ensures.ends in
+    let err = rw c.in-Some.is at c.in_ok-erred.ensures.ends in
     record {
       halts = λ before v o s q b. halt (shape_of q.state) before v o s q Halt b b.next.reads refl;
       errs = λ before v o s q b. err (shape_of q.state) before v o s q Err b b.next.reads refl;

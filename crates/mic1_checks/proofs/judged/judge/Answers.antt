@@ -1,33 +1,35 @@
-use Rattle.std.proofs.Common.{◌≡◌, ◌++◌, List, refl, sym, ◌∙◌, subst}
+use Rattle.std.proofs.Common.{◌≡◌, None, List, Ok, sym, ◌∙◌, subst}
 use Rattle.std.specs.List.{Contains}
-use Rattle.std.proofs.lemmas.List.Elements.{Contains-append_left, Contains-append_right}
-use Rattle.mic1_checks.specs.declared.judged.Costs.{Costs}
 use Rattle.mic1_checks.specs.declared.leaf.Counts.{Counts}
-use Rattle.mic1_checks.specs.Boot.{BOOT}
+use Rattle.mic1_checks.specs.Boot.{BOOT, CarriesBoot}
+use Rattle.mic1_checks.specs.Ends.{TakesEnds}
+use Rattle.mic1_checks.specs.Listed.{CarriesTakes}
 use Rattle.mic1_checks.specs.Spent.{DecideSeconds}
 use Rattle.mic1_checks.proofs.Shown.{shown}
 use Rattle.mic1_checks.proofs.Timed.{goes_on, moves_on}
 use Rattle.mic1_checks.proofs.judged.judge.Goals as goal
 
 pub returns : goal.returns
-returns c =
-    let other = c.args.other.now.words in
-    let entry' = c.args.other_entry in
-    let ends = rw c.in-Some.is at c.in_ok-ends.ensures in
-    let boots = rw c.in-Some-2.is at c.in_ok-boot.ensures in
-    let takes = rw c.in-Some-3.is at c.in_ok-takes.ensures in
-    let boot = c.in-Some-2.boot.items in
-    let rest = c.in-Some-3.takes.items in
-    let leaves = c.extend_from_slice.new.self.items in
-    let costs : Costs = record { leaves = c.extend_from_slice.new.self; ends = c.in-Some.ends } in
-    let are : leaves ≡ boot ++ rest =
-    c.in_ok-extend_from_slice.ensures.items
-    ∙ (λ j. (c.in_ok-leaves.ensures.items ∙ c.deref.ensures.value) j ++ c.deref-2.ensures.value j) in
-    let decide : DecideSeconds leaves = subst DecideSeconds c.deref-3.ensures.value (c.if-not-decide_seconds.ensures refl) in
-    let first : (x : Counts) → Contains boot x → Contains leaves x =
-    λ x h. subst (λ (xs : List Counts). Contains xs x) (sym are) (Contains-append_left boot rest x h) in
+returns c costs is =
+    let store = c.args.stores.now.store.now.words in
+    let other = c.args.stores.now.other.now.words in
+    let entry = c.args.stores.now.entry in
+    let entry' = c.args.stores.now.other_entry in
+    let found = c.verdict_on.ensures in
+    let none_noted : c.note.new.self.first ≡ None = found.none costs is in
+    let none_ended : c.ends_of.new.search.first ≡ None = c.in_ok-note.ensures.first none_noted in
+    let none : c.takes_alike.new.search.first ≡ None = c.in_ok-ends.ensures.first none_ended in
+    let rest = c.takes_alike.new.search.leaves.items in
+    let boot = c.boot_alike.new.leaves.items in
+    let leaves = costs.leaves.items in
+    let takes : CarriesTakes store other entry entry' rest = c.in_ok-takes_alike.ensures.takes none in
+    let ends : TakesEnds other entry' costs.ends = rw (found.ends costs is) at c.in_ok-ends.ensures.ends in
+    let boots : CarriesBoot store other entry entry' boot = c.in_ok-boot.ensures.carries (λ j. Ok (c.in_ok-note.ensures.noted none_noted j)) in
+    let decide : DecideSeconds leaves = found.decide costs is in
+    let are : leaves ≡ boot = found.leaves costs is ∙ c.in_ok-note.ensures.leaves in
+    let first : (x : Counts) → Contains boot x → Contains leaves x = λ x h. subst (λ (xs : List Counts). Contains xs x) (sym are) h in
     let second : (x : Counts) → Contains rest x → Contains leaves x =
-    λ x h. subst (λ (xs : List Counts). Contains xs x) (sym are) (Contains-append_right boot rest x h) in
+    λ x h. first x (c.in_ok-boot.ensures.kept x (subst (λ (xs : List Counts). Contains xs x) (sym c.in_ok-ends.ensures.leaves) h)) in
     record {
       shows = shown other entry';
       boots = λ timing v o input to loads words booted.

@@ -25,7 +25,7 @@ unfolding count
 returns-then-to-entry-clause-boundary c n stalls is e fits knows path =
     let words = c.args.store.now.words in
     let p = c.in-Some.p in
-    let before : Fits e c.loop-n.nodes.nodes.items = c.in_ok-step.ensures.grows e fits in
+    let before : Fits e c.loop-n.work.nodes.nodes.items = c.in_ok-step.ensures.grows e fits in
     let walked = c.loop-n.invariant.walked e before knows path in
     let on : LeadsOn e p c.loop-n.path c.step.new.self = c.in_ok-step.ensures.done (λ i. Ok (c.in-Done.is i)) e fits knows walked.0 in
     let spelled : microword_of Mic1 p ≡ slice_index words c.loop-n.path.symbols.mpc = c.in-Some.ensures.known.1 ∙ c.word.ensures.value in
@@ -41,7 +41,7 @@ unfolding count
 returns-then-to-eq254-clause-end c n stalls is e fits knows path =
     let words = c.args.store.now.words in
     let p = c.in-Some.p in
-    let before : Fits e c.loop-n.nodes.nodes.items = c.in_ok-step.ensures.grows e fits in
+    let before : Fits e c.loop-n.work.nodes.nodes.items = c.in_ok-step.ensures.grows e fits in
     let walked = c.loop-n.invariant.walked e before knows path in
     let on : LeadsOn e p c.loop-n.path c.step.new.self = c.in_ok-step.ensures.done (λ i. Ok (c.in-Done.is i)) e fits knows walked.0 in
     let spelled : microword_of Mic1 p ≡ slice_index words c.loop-n.path.symbols.mpc = c.in-Some.ensures.known.1 ∙ c.word.ensures.value in
@@ -66,7 +66,7 @@ returns-in-Refused-clause-limit c n stalls is e fits knows path =
     let words = c.args.store.now.words in
     let p = c.in-Some.p in
     let old = c.loop-n.path in
-    let before : Fits e c.loop-n.nodes.nodes.items = c.in_ok-step.ensures.grows e fits in
+    let before : Fits e c.loop-n.work.nodes.nodes.items = c.in_ok-step.ensures.grows e fits in
     let walked = c.loop-n.invariant.walked e before knows path in
     let spelled : microword_of Mic1 p ≡ slice_index words old.symbols.mpc = c.in-Some.ensures.known.1 ∙ c.word.ensures.value in
     let here = c.refused.ensures.limit n (ap end_of is) in
@@ -82,7 +82,7 @@ returns-in-Refused-clause-out c n stalls is e fits knows path =
     let words = c.args.store.now.words in
     let p = c.in-Some.p in
     let old = c.loop-n.path in
-    let before : Fits e c.loop-n.nodes.nodes.items = c.in_ok-step.ensures.grows e fits in
+    let before : Fits e c.loop-n.work.nodes.nodes.items = c.in_ok-step.ensures.grows e fits in
     let walked = c.loop-n.invariant.walked e before knows path in
     let spelled : microword_of Mic1 p ≡ slice_index words old.symbols.mpc = c.in-Some.ensures.known.1 ∙ c.word.ensures.value in
     let here = c.refused.ensures.out n (ap end_of is) in
@@ -102,7 +102,7 @@ loop-n-preserved c =
     let inside = is_within mpc c.args.entry (is_off mpc c.args.entry c.if-to-entry.false) (is_off mpc 254 c.if-to-eq254.false) (is_off mpc 255 c.if-to-eq255.false) in
     record {
       walked = λ e fits knows path.
-          let before : Fits e c.loop-n.nodes.nodes.items = c.in_ok-step.ensures.grows e fits in
+          let before : Fits e c.loop-n.work.nodes.nodes.items = c.in_ok-step.ensures.grows e fits in
           let walked = c.loop-n.invariant.walked e before knows path in
           let on : LeadsOn e p c.loop-n.path new = c.in_ok-step.ensures.done (λ i. Ok (c.in-Done.is i)) e fits knows walked.0 in (
             on.path,
@@ -112,7 +112,7 @@ loop-n-preserved c =
                 ∙ (walked.1 stalls (suc k) ∙ goes_on c.step_law.ensures words e stalls c.args.entry p c.loop-n.path new c.in-Some.ensures.known.0 spelled on k inside),
           );
       came = λ e fits knows path stalls n is.
-          let before : Fits e c.loop-n.nodes.nodes.items = c.in_ok-step.ensures.grows e fits in
+          let before : Fits e c.loop-n.work.nodes.nodes.items = c.in_ok-step.ensures.grows e fits in
           let walked = c.loop-n.invariant.walked e before knows path in
           let on : LeadsOn e p c.loop-n.path new = c.in_ok-step.ensures.done (λ i. Ok (c.in-Done.is i)) e fits knows walked.0 in
           let whole : n ≡ c.loop-n.n + 0 = omega (arith, is) in
