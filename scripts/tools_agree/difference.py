@@ -64,8 +64,8 @@ def check_damages(check):
     damages = load("scripts/damage-exercises")
     for name, machine in (("11-branches", "mic1"), ("13-branches-on-mic2", "mic2")):
         folder = f"{EXERCISES}/{name}"
-        fixed, statements = damages.read_microprogram(f"{folder}/solution.mal", machine)
-        _, start = damages.read_microprogram(f"{folder}/start.mal", machine)
+        fixed, statements = damages.read_microprogram(damages.MIC, f"{folder}/solution.mal", machine)
+        _, start = damages.read_microprogram(damages.MIC, f"{folder}/start.mal", machine)
         flow = damages.Flow(fixed, statements, machine)
         places = flow.around([place for place, statement in enumerate(statements) if statement not in start])
         whole, found = check.file("whole.mal", "\n".join([*fixed, *map(str, statements)]) + "\n"), 0
