@@ -1,4 +1,6 @@
-"""Which program mic the checks try: the one that is named, else that of the environment's MIC, else the released one."""
+"""Which programs the checks try. Of mic it is the one that is named, else that of the environment's MIC, else the released
+one; of mic-check the one that is named, else that of the environment's MIC_CHECK, else the one beside that mic, if there is
+one."""
 import os
 import shutil
 import subprocess
@@ -36,6 +38,21 @@ def released_program():
     if asked.returncode:
         raise NoProgram(f"{asked.stderr.strip()}\n{HOW}")
     return asked.stdout.strip()
+
+
+def check_program_path(mic, named=None):
+    """Returns the absolute path of mic-check, or None where none is named and none is beside this mic."""
+    given = named or os.environ.get("MIC_CHECK")
+    if given:
+        found = shutil.which(given)
+        if found is None:
+            raise NoProgram(f"{given} is no program that can be run")
+        return os.path.abspath(found)
+    folder, name = os.path.split(mic)
+    # as installed or released, and as proved
+    beside = [f"{folder}/mic-check{name[3:]}"] if name.startswith("mic") else []
+    beside.append(f"{folder}/../../mic_check/out/mic_check")
+    return next((os.path.abspath(it) for it in beside if os.path.isfile(it) and os.access(it, os.X_OK)), None)
 
 
 def program_or_leave(named=None):
