@@ -1,4 +1,4 @@
-"""A call of mic: the command is the one that the variable MIC names, or `mic`."""
+"""A call of mic: the command is the one that the variable MIC names, or `mic`. mic-check is found in the same way."""
 import contextlib
 import io
 import os
@@ -37,6 +37,12 @@ class Settings:
         """These options as words of a command line, each as one word."""
         values = {name: getattr(self, name) for name in names}
         return [f"--{name}={value}" for name, value in values.items() if value is not None]
+
+
+def mic_check():
+    """The path of the command mic-check, or of the one that the variable MIC_CHECK names; None where there is none."""
+    found = shutil.which(os.environ.get("MIC_CHECK") or "mic-check")
+    return os.path.abspath(found) if found else None
 
 
 class Mic:

@@ -2,6 +2,7 @@
 import collections
 import html
 
+from .records import PROOF
 from .texts import plain
 
 STYLE = """
@@ -40,13 +41,14 @@ def mark(reason):
     return ("bad", f'<span title="{text(reason)}">✗</span>') if reason else ("good", "✓")
 
 
-def students(all_said, cases):
+def students(all_said, cases, has_proofs):
     rows = []
     for said in all_said:
         summary = said.summary
         rows.append([f"<code>{text(said.label)}</code>", ("number", f"{summary['points']} of {summary['of']}"),
-                     *(mark(reason) for _, reason, _ in said.results), ("number", f"{summary['cycles']:,}"), f"<code>{text(summary['first difference'])}</code>"])
-    return table(["submission", "points", *cases, "cycles", "first difference"], rows)
+                     *(mark(reason) for _, reason, _ in said.results), ("number", f"{summary['cycles']:,}"), f"<code>{text(summary['first difference'])}</code>",
+                     *([text(summary[PROOF])] if has_proofs else [])])
+    return table(["submission", "points", *cases, "cycles", "first difference", *(["mic-check"] if has_proofs else [])], rows)
 
 
 def failures(all_said, cases):
@@ -113,12 +115,15 @@ def page(exercise, all_said, groups):
     points = sum(said.summary["points"] for said in all_said)
     mean = f"{float(points) / len(all_said):.2f}" if all_said else "0"
     of = plain(sum(case.points for case in exercise.cases))
+    has_proofs = exercise.proved is not None
+    proved = sum(said.summary.get(PROOF) == "proved" for said in all_said)
+    proofs = f" {proved} are proved by mic-check." if has_proofs else ""
     return "\n".join([
         "<!doctype html>", '<html lang="en">', "<head>", '<meta charset="utf-8">', '<meta name="viewport" content="width=device-width">',
         '<meta http-equiv="Content-Security-Policy" content="default-src \'none\'; style-src \'unsafe-inline\'">',
         f"<title>{text(exercise.name)}</title>", f"<style>{STYLE}</style>", "</head>", "<body>", f"<h1>{text(exercise.name)}</h1>",
-        f"<p>{len(all_said)} submissions, {whole} with all points; {mean} of {of} points in the mean.</p>",
+        f"<p>{len(all_said)} submissions, {whole} with all points; {mean} of {of} points in the mean.{proofs}</p>",
         "<h2>Cases</h2>", failures(all_said, cases),
         "<h2>Cycles</h2>", "<p>Of the submissions that pass a case; a column is higher where more have about as many cycles.</p>", plot(all_said, cases),
         "<h2>The same program</h2>", copied(groups),
-        "<h2>Submissions</h2>", students(all_said, cases), "</body>", "</html>", ""])
+        "<h2>Submissions</h2>", students(all_said, cases, has_proofs), "</body>", "</html>", ""])

@@ -25,6 +25,7 @@ class Exercise:
     options: list
     suffix: str  # of a submission: .jas, .tiny or .mal
     lines: int  # of a cache, or None
+    proved: str = None  # what is said to a student whose microprogram is not shown; None where mic-check is not asked
 
 
 def number_in(path, kind, otherwise):
@@ -50,6 +51,17 @@ def words_in(path):
         return []
     except UnicodeDecodeError:
         raise Fault(65, f"{path}: not ASCII") from None
+
+
+def sentence_in(path):
+    """The text that a file of the exercise holds, on one line, or None where there is no such file."""
+    try:
+        with open(path, encoding="utf-8") as file:
+            return " ".join(file.read().split())
+    except FileNotFoundError:
+        return None
+    except UnicodeDecodeError:
+        raise Fault(65, f"{path}: not UTF-8") from None
 
 
 def read_case(path, shared):
@@ -90,4 +102,7 @@ def read_exercise(folder):
         raise Fault(65, f"{folder}/lines: a microprogram does not run with a cache")
     if lines is None and any(case.misses is not None for case in cases):
         raise Fault(65, f"{folder} has misses and no file lines")
-    return Exercise(folder, os.path.basename(os.path.abspath(folder)), cases, words_in(os.path.join(folder, "options")), suffix, lines)
+    proved, options = sentence_in(os.path.join(folder, "proved")), words_in(os.path.join(folder, "options"))
+    if proved is not None and (suffix != ".mal" or {"mic2", "--machine=mic2"} & {*options}):
+        raise Fault(65, f"{folder}/proved: mic-check judges microprograms of Mic-1 alone")
+    return Exercise(folder, os.path.basename(os.path.abspath(folder)), cases, options, suffix, lines, proved)

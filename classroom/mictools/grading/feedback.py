@@ -46,15 +46,29 @@ def refusal_lines(outcome, copy):
     return ["", shown(str(found).encode("utf-8", "replace")), *("  " + line for line in found.rest())]
 
 
-def feedback_of(exercise, submission, fault, outcomes, copy):
+def proof_lines(exercise, submission, proof):
+    """What mic-check says, and the command that asks it."""
+    if not proof or not proof.verdict:
+        return []
+    if proof.verdict == "proved":
+        return ["", "mic-check: proved. With this microprogram Mic-1 interprets IJVM, whatever the program and its input."]
+    if proof.verdict == "not asked":
+        return ["", f"mic-check: {proof}"]
+    file = shell_word(os.path.basename(submission.path), exercise.suffix)
+    lines = ["", "mic-check: it is not shown that Mic-1 interprets IJVM with this microprogram. It may be right: the cases decide."]
+    return [*lines, *(["  " + exercise.proved] if exercise.proved else []), f"  {'first':8} {proof.text}", f"  {'command':8} mic-check {file}"]
+
+
+def feedback_of(exercise, submission, fault, outcomes, proof, copy):
     """The text; `copy` is the file that was graded."""
-    record = summary_of(submission, fault, outcomes)
+    record = summary_of(submission, fault, outcomes, proof)
     lines = [f"{exercise.name}: {record['points']} of {record['of']} points, {record['passed']} of {record['cases']} cases passed"]
     if fault:
         return "\n".join(lines + ["", "There is nothing to grade: " + fault, ""])
     lines += ["Submission: " + shown(os.path.basename(submission.path)),
               "A command repeats its case, in the exercise's folder with your file in it."]
     lines += refusal_lines(outcomes[0], copy)
+    lines += proof_lines(exercise, submission, proof)
     for outcome in outcomes:
         case = outcome.case
         result = "passed" if not outcome.reason else "failed: " + outcome.reason

@@ -7,6 +7,7 @@ import stat
 from dataclasses import dataclass
 
 from .exercise import Case
+from .proof import MOST, Proof, missing, proof_of
 from .texts import first_difference, shown
 
 MIC_READS = 1048576  # bytes of a file; mic refuses a longer one
@@ -49,8 +50,8 @@ def kind_of_data(data):
 class Grader:
     """What a worker has: a folder of its own, with the copy of a submission, and the files that take a run's output and report."""
 
-    def __init__(self, exercise, mic, work):
-        self.exercise, self.mic = exercise, mic
+    def __init__(self, exercise, mic, work, check=None):
+        self.exercise, self.mic, self.check = exercise, mic, check
         self.copy = os.path.join(work, "submission" + exercise.suffix)
         self.image = os.path.join(work, "image")
         flags = os.O_RDWR | os.O_CREAT | os.O_TRUNC
@@ -74,13 +75,14 @@ class Grader:
             target.write(data)
         return kind_of_data(data)
 
-    def call(self, command, words, given=os.devnull):
-        """Calls mic. Returns the status and the first lines of what it reports; what it writes is in `out`."""
+    def call(self, *words, given=os.devnull, program=None):
+        """Calls mic, or another program. Returns the status and the first lines of what it reports; what it writes is in `out`."""
+        program = program or self.mic
         for file in (self.out, self.err):
             os.ftruncate(file, 0)
             os.lseek(file, 0, os.SEEK_SET)
         actions = [(os.POSIX_SPAWN_OPEN, 0, given, os.O_RDONLY, 0), (os.POSIX_SPAWN_DUP2, self.out, 1), (os.POSIX_SPAWN_DUP2, self.err, 2)]
-        child = os.posix_spawn(self.mic, [self.mic, command, *words], os.environ, file_actions=actions)
+        child = os.posix_spawn(program, [program, *words], os.environ, file_actions=actions)
         status = os.waitstatus_to_exitcode(os.waitpid(child, 0)[1])
         return status, os.pread(self.err, 4096, 0).decode("utf-8", "replace").split("\n")
 
@@ -89,9 +91,9 @@ class Grader:
         program = self.image if exercise.suffix == ".tiny" else self.copy
         words = ["--micro=" + self.copy, "--", case.program] if case.program else ["--", program]
         if exercise.lines is None:
-            status, report = self.call("run", [*exercise.options, *words], case.input)
+            status, report = self.call("run", *exercise.options, *words, given=case.input)
         else:
-            status, report = self.call("cache", [*exercise.options, *words, str(exercise.lines)], case.input)
+            status, report = self.call("cache", *exercise.options, *words, str(exercise.lines), given=case.input)
         outcome = Outcome(case, status, length=os.fstat(self.out).st_size)
         outcome.given = os.pread(self.out, len(case.wanted) + 1000, 0)
         for line in report:
@@ -119,25 +121,39 @@ class Grader:
             return f"{outcome.misses} misses, and at most {case.misses} are allowed"
         return ""
 
+    def proof(self):
+        """What mic-check says of the submission that was taken."""
+        if self.check is None:
+            return missing()
+        status, report = self.call("--", self.copy, program=self.check)
+        return proof_of(status, os.pread(self.out, MOST, 0), report[0].removeprefix("mic: ").removeprefix(f"{self.copy}: "))
+
     def grade(self, submission):
-        """Returns why there is nothing to grade, or nothing, and an outcome for each case."""
+        """Returns why there is nothing to grade, or nothing, an outcome for each case, and a proof or None where none is asked for."""
         fault, cases = submission.fault or self.take(submission), self.exercise.cases
+        is_asked = self.exercise.proved is not None
         if fault:
-            return fault, [Outcome(case, reason=fault) for case in cases]
+            return fault, [Outcome(case, reason=fault) for case in cases], Proof() if is_asked else None
+        proof = self.proof() if is_asked else None
+        return "", self.outcomes(), proof
+
+    def outcomes(self):
+        """An outcome for each case of the submission that was taken."""
+        cases = self.exercise.cases
         if self.exercise.suffix == ".tiny":
-            status, report = self.call("compile", ["--", self.copy, self.image])
+            status, report = self.call("compile", "--", self.copy, self.image)
             if status:
                 refused = [Outcome(case, status) for case in cases]
                 for outcome in refused:
                     outcome.reason = self.what_differs(outcome, report[0])
-                return "", refused
-        return "", [self.run(case) for case in cases]
+                return refused
+        return [self.run(case) for case in cases]
 
     def digest(self, fault):
         """A sum of what the submission becomes, its image or its control store; nothing where it is refused. Names, comments and spaces are not in it."""
         machine = [word for word in self.exercise.options if word.startswith("--machine=") or word in ("--machine", "mic1", "mic2")]
         command, options = {".jas": ("assemble", []), ".tiny": ("compile", []), ".mal": ("micro", machine)}[self.exercise.suffix]
-        if fault or self.call(command, [*options, "--", self.copy, self.image])[0]:
+        if fault or self.call(command, *options, "--", self.copy, self.image)[0]:
             return ""
         with open(self.image, "rb") as file:
             return hashlib.sha256(file.read()).hexdigest()

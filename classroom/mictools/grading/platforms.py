@@ -5,8 +5,15 @@ import json
 import re
 
 from ..command_line import Fault
+from .records import PROOF
 
 MOODLE = re.compile(r"_(\d+)_assignsubmission_")  # in the name of a folder or file of Moodle's export
+
+
+def comments_on(record):
+    """The first difference, and what mic-check says."""
+    proof = record.get(PROOF)
+    return "\n".join(text for text in (record["first difference"], proof and f"mic-check: {proof}") if text)
 
 
 def gradescope(record, exercise):
@@ -17,7 +24,7 @@ def gradescope(record, exercise):
         if result["result"] == "failed" and result.get("status") == 0:
             output += f"\nwanted:\n{result['wanted']}\ngiven:\n{result['given']}"
         tests.append({"name": result["case"], "score": result["points"], "max_score": result["of"], "status": result["result"], "output": output})
-    return {"score": record["points"], "output": record["first difference"], "output_format": "text", "tests": tests}
+    return {"score": record["points"], "output": comments_on(record), "output_format": "text", "tests": tests}
 
 
 def github(record, exercise):
@@ -58,7 +65,7 @@ class Worksheet:
             self.best[found[1]] = summary["points"]
             row["Grade"] = f"{float(summary['points']) / float(summary['of'] or 1) * float(row['Maximum Grade'].replace(',', '.')):.2f}"
             if "Feedback comments" in self.names:
-                row["Feedback comments"] = summary["first difference"]
+                row["Feedback comments"] = comments_on(summary)
         return True
 
     def text(self):

@@ -5,12 +5,13 @@ import json
 from .texts import json_number, plain, shown
 
 SUMMARY = ["submission", "passed", "cases", "cycles", "instructions", "first difference", "points", "of"]
+PROOF = "proof"  # the last column of the summary, where mic-check is asked
 DETAIL = ["submission", "case", "result", "cycles", "instructions", "difference", "points", "of"]
 
 
-def summary_of(submission, fault, outcomes):
+def summary_of(submission, fault, outcomes, proof):
     failed = next((o for o in outcomes if o.reason), None)
-    return {
+    record = {
         "submission": shown(submission.label),
         "passed": sum(not o.reason for o in outcomes),
         "cases": len(outcomes),
@@ -20,6 +21,13 @@ def summary_of(submission, fault, outcomes):
         "points": plain(sum(o.points for o in outcomes)),
         "of": plain(sum(o.case.points for o in outcomes)),
     }
+    return record if proof is None else {**record, PROOF: str(proof)}
+
+
+def proof_detail_of(submission, proof):
+    """What mic-check says as a row among those of the cases."""
+    values = [shown(submission.label), PROOF, proof.verdict, 0, 0, proof.text, 0, 0]
+    return dict(zip(DETAIL, values))
 
 
 def detail_of(submission, outcome):
@@ -39,8 +47,8 @@ def as_json(record):
     return {key: json_number(value) if isinstance(value, decimal.Decimal) else value for key, value in record.items()}
 
 
-def json_line(exercise, submission, fault, outcomes):
-    record = as_json(summary_of(submission, fault, outcomes))
+def json_line(exercise, submission, fault, outcomes, proof):
+    record = as_json(summary_of(submission, fault, outcomes, proof))
     record["exercise"] = exercise.name
     record["file"] = shown(submission.path) if not submission.fault else None
     record["results"] = []

@@ -8,7 +8,7 @@ from dataclasses import dataclass
 from ..command_line import Fault
 from .feedback import feedback_of
 from .grader import Grader
-from .records import detail_of, json_line, summary_of
+from .records import detail_of, json_line, proof_detail_of, summary_of
 from .texts import csv_row
 
 
@@ -34,28 +34,33 @@ class Said:
 
 
 def grade_one(grader, submission, wanted):
-    fault, outcomes = grader.grade(submission)
-    summary = summary_of(submission, fault, outcomes)
-    rows = [detail_of(submission, outcome) for outcome in outcomes] if wanted.cases else [summary]
+    fault, outcomes, proof = grader.grade(submission)
+    summary = summary_of(submission, fault, outcomes, proof)
+    rows = [summary]
+    if wanted.cases:
+        rows = [proof_detail_of(submission, proof)] if proof else []
+        rows += [detail_of(submission, outcome) for outcome in outcomes]
     if wanted.feedback is not None:
         path = os.path.join(os.fsencode(wanted.feedback), submission.feedback)
         os.makedirs(os.path.dirname(path), exist_ok=True)
         with open(path, "w", encoding="utf-8") as file:
-            file.write(feedback_of(grader.exercise, submission, fault, outcomes, grader.copy))
-    line = json_line(grader.exercise, submission, fault, outcomes) if wanted.json else ""
+            file.write(feedback_of(grader.exercise, submission, fault, outcomes, proof, grader.copy))
+    line = json_line(grader.exercise, submission, fault, outcomes, proof) if wanted.json else ""
     digest = grader.digest(fault) if wanted.digest else ""
     results = [(outcome.case.name, outcome.reason, outcome.cycles) for outcome in outcomes]
     rows = "".join(csv_row(row.values()) for row in rows)
-    return Said(summary["submission"], rows, line, summary, results, digest, sum(outcome.is_trouble for outcome in outcomes))
+    troubles = sum(outcome.is_trouble for outcome in outcomes) + bool(proof and proof.is_trouble)
+    return Said(summary["submission"], rows, line, summary, results, digest, troubles)
 
 
-def work_on(channel, others, submissions, exercise, mic, work, wanted):
+def work_on(channel, others, submissions, exercise, programs, work, wanted):
     """A worker: grades the chunks that it is sent, until the channel is closed."""
     for other in others:
         other.close()
     signal.signal(signal.SIGINT, signal.SIG_IGN)
     signal.signal(signal.SIGTERM, signal.SIG_DFL)
-    grader = Grader(exercise, mic, work)
+    mic, check = programs
+    grader = Grader(exercise, mic, work, check)
     try:
         while True:
             first, last = channel.recv()
@@ -76,13 +81,13 @@ class Workers:
         for channel in list(self.channels):
             self.hand_out(channel)
 
-    def start(self, number, submissions, exercise, mic, work, wanted):
+    def start(self, number, submissions, exercise, programs, work, wanted):
         context = multiprocessing.get_context("fork")
         ours, theirs = context.Pipe()
         folder = os.path.join(work, str(number))
         os.mkdir(folder)
         self.channels.append(ours)
-        words = (theirs, list(self.channels), submissions, exercise, mic, folder, wanted)
+        words = (theirs, list(self.channels), submissions, exercise, programs, folder, wanted)
         context.Process(target=work_on, args=words, daemon=True).start()
         theirs.close()
 
@@ -112,11 +117,11 @@ class Workers:
             child.join()
 
 
-def graded(processes, submissions, exercise, mic, work, wanted):
-    """Yields what is said of each submission, in their order."""
+def graded(processes, submissions, exercise, programs, work, wanted):
+    """Yields what is said of each submission, in their order. `programs` are mic, and mic-check or None."""
     workers, waiting, turn = None, {}, 0
     try:
-        workers = Workers(min(processes, len(submissions)), submissions, exercise, mic, work, wanted)
+        workers = Workers(min(processes, len(submissions)), submissions, exercise, programs, work, wanted)
         for place, said in workers.done():
             waiting[place] = said
             while turn in waiting:
