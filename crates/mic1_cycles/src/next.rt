@@ -35,6 +35,30 @@ fn question_of(test: Test) -> Question
     }
 }
 
+/// The number of a word with the sign of the word of `x`: that of which it is half, or of which that is half.
+fn with_its_sign(x: u32, nodes: &Nodes) -> u32
+    ensures { Holds nodes.now (λ e. flag Test.N (e.word result) ≡ flag Test.N (e.word x)) }
+{
+    let mut number = x;
+    for _ in 0..32 {
+        let Some(of) = nodes.halved(number) else {
+            return number;
+        };
+        number = of;
+    }
+    number
+}
+
+/// The number whose flag decides that of `x`.
+fn decisive(test: Test, x: u32, nodes: &Nodes) -> u32
+    ensures { Holds nodes.now (λ e. flag test (e.word result) ≡ flag test (e.word x)) }
+{
+    match test {
+        Test::N => with_its_sign(x, nodes),
+        Test::Z => x,
+    }
+}
+
 /// The flag of the ALU's result `x`, if it is known or was answered.
 fn decided(test: Test, x: u32, nodes: &Nodes, answers: &[Answer]) -> Option<bool>
     ensures { IfSome result (λ is. Holds nodes.now (λ e. AreAnswered e answers.now → flag test (e.word x) ≡ is)) }
@@ -42,7 +66,8 @@ fn decided(test: Test, x: u32, nodes: &Nodes, answers: &[Answer]) -> Option<bool
     if let Some(word) = nodes.word_of(x) {
         return Some(flag_of(test, word));
     }
-    answered(question_of(test), x, answers)
+    let number = decisive(test, x, nodes);
+    answered(question_of(test), number, answers)
 }
 
 /// The target of a branch or a dispatch.
@@ -78,7 +103,7 @@ pub fn next_of(next: PlacedNext, x: u32, mbr: u32, nodes: &Nodes, answers: &[Ans
             match decided(test, x, nodes, answers) {
                 Some(yes) => Next::To(high_or_low(no, yes)),
                 None => Next::Asks(Answer {
-                    number: x,
+                    number: decisive(test, x, nodes),
                     question: question_of(test),
                     is: true,
                 }),

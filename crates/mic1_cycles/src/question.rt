@@ -26,13 +26,29 @@ pub struct Answer {
     pub is: bool,
 }
 
-/// The answer that a path has given, if it has given one.
+/// What the answer to one question about a word says of another: what is negative is not 0.
+fn implied(question: Question, answer: Answer) -> Option<bool>
+    ensures { IfSome result (λ is. (e : Environment) (x : ℕ) → truth e answer.question x ≡ answer.is → truth e question x ≡ is) }
+{
+    if answer.question == question {
+        return Some(answer.is);
+    }
+    match (question, answer.question, answer.is) {
+        (Question::IsZero, Question::IsNegative, true) => Some(false),
+        (Question::IsNegative, Question::IsZero, true) => Some(false),
+        _ => None,
+    }
+}
+
+/// The answer that follows from those that a path has given, if one does.
 pub fn answered(question: Question, number: u32, answers: &[Answer]) -> Option<bool>
     ensures { IfSome result (λ is. (e : Environment) → AreAnswered e answers.now → truth e question (e.word number) ≡ is) }
 {
     for answer in answers {
-        if answer.number == number && answer.question == question {
-            return Some(answer.is);
+        if answer.number == number {
+            if let Some(is) = implied(question, *answer) {
+                return Some(is);
+            }
         }
     }
     None

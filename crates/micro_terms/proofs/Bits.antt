@@ -1,9 +1,9 @@
 -- The bits that two words share, and the bits that either has.
-use Rattle.std.proofs.Common.{◌≡◌, ℕ, ◌+◌, ◌-◌, ◌<◌, ◌%◌, ◌∙◌, arith}
+use Rattle.std.proofs.Common.{◌≡◌, ℕ, ◌+◌, ◌-◌, ◌<◌, ◌%◌, ◌∙◌, ap, sym, arith}
 use Rattle.std.specs.Prelude.{bit_and, bit_or}
-use Rattle.std.specs.Int.Bits.{and_self, or_add_and}
+use Rattle.std.specs.Int.Bits.{and_self, and_zero_l, or_add_and}
 use Rattle.mic_words.specs.Arithmetic.{wrap}
-use Rattle.std.proofs.lemmas.Nat.{and_comm, and_mask, and-not, and_le_l, or_of_32}
+use Rattle.std.proofs.lemmas.Nat.{and_assoc, and_comm, and_mask, and-not, and_le_l, or_of_32}
 
 pub and_all : (x : ℕ) → x < 4294967296 → bit_and 4294967295 x ≡ x
 and_all x h = and_comm 4294967295 x ∙ (and_mask x 32 ∙ (let e : x % 4294967296 ≡ x = omega arith in e))
@@ -26,3 +26,23 @@ or_is x y h k =
     let l = or_of_32 x y h k in
     let m = and_le_l x y in
     omega (arith, e, l, m)
+
+-- what y does not share with NOT x it shares with x
+pub and_rest : (x y : ℕ) → x < 4294967296 → y < 4294967296 → wrap (y + (4294967296 - bit_and (4294967295 - x) y)) ≡ bit_and x y
+unfolding wrap
+and_rest x y h k =
+    let e = and_turned x y h k in
+    let l = and_le_l x y in
+    omega (arith, e, h, k, l)
+
+pub and_rest_right : (x y : ℕ) → x < 4294967296 → y < 4294967296 → wrap (x + (4294967296 - bit_and x (4294967295 - y))) ≡ bit_and x y
+and_rest_right x y h k =
+    ap (λ w. wrap (x + (4294967296 - w))) (and_comm x (4294967295 - y)) ∙ (and_rest y x k h ∙ and_comm y x)
+
+-- a byte shares nothing with a word whose low byte is 0
+pub and_apart : (x y : ℕ) → x % 256 ≡ 0 → y < 256 → bit_and x y ≡ 0
+and_apart x y low byte =
+    let own : bit_and 255 y ≡ y = and_comm 255 y ∙ (and_mask y 8 ∙ (let e : y % 256 ≡ y = omega (arith, byte) in e)) in
+    ap (λ w. bit_and x w) (sym own)
+    ∙ (sym (and_assoc y x 255)
+    ∙ (ap (λ w. bit_and w y) (and_mask x 8 ∙ low) ∙ and_zero_l y))

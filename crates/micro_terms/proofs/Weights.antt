@@ -1,6 +1,7 @@
 -- The weight of a list of parts after each change of it.
-use Rattle.std.proofs.Common.{◌≡◌, ℕ, ◌+◌, ◌*◌, ◌<◌, ◌≤◌, List, [], ◌∷◌, ◌++◌, length, take, take_all, get_or, set, refl, sym, ap, ◌∙◌, arith}
+use Rattle.std.proofs.Common.{◌≡◌, ℕ, ◌+◌, ◌*◌, ◌%◌, ◌<◌, ◌≤◌, List, [], ◌∷◌, ◌++◌, length, take, take_all, get_or, set, refl, sym, ap, ◌∙◌, arith}
 use Rattle.std.proofs.Math.Nat.{mul-add, mul_comm, zero-mul}
+use Rattle.std.proofs.lemmas.Nat.{mul-mod_first}
 use Rattle.std.proofs.lemmas.List.Sums.{sum_by_push, sum_by_more, sum_by-set, sum_by-remove, sum_by-insert}
 use Rattle.std.specs.List.{insert, remove}
 use Rattle.mic_words.specs.Arithmetic.{wrap}
@@ -88,3 +89,19 @@ value_lt env t = wrap_lt (t.constant + weight env t.parts.items)
 pub no_parts : (ps : List Part) → length ps ≡ 0 → ps ≡ []
 no_parts [] h = refl
 no_parts (p ∷ ps) h = absurd (omega (arith, h))
+
+both_multiples : (a b : ℕ) → a % 256 ≡ 0 → b % 256 ≡ 0 → (a + b) % 256 ≡ 0
+both_multiples a b p q = omega (arith, p, q)
+
+-- one part more whose coefficient is a multiple of 256
+pub multiples_push : (env : ℕ → ℕ) (ps : List Part) (i : ℕ) (d : Part) → i < length ps
+    → weight env (take i ps) % 256 ≡ 0
+    → (get_or ps i d).coefficient % 256 ≡ 0
+    → weight env (take (i + 1) ps) % 256 ≡ 0
+multiples_push env ps i d h before m =
+    let q : Part = get_or ps i d in
+    let x = env q.number in
+    let part : (q.coefficient * x) % 256 ≡ 0 = sym (mul-mod_first q.coefficient x 256)
+    ∙ (ap (λ c. (c * x) % 256) m ∙ ap (λ n. n % 256) (zero-mul x)) in
+    ap (λ n. n % 256) (sum_by_more (part_weight env) ps i d h)
+    ∙ both_multiples (weight env (take i ps)) (q.coefficient * x) before part

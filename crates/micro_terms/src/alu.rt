@@ -47,21 +47,89 @@ fn linear(op: AluOp, a: &Term, b: &Term, alloc: Global) -> Result<Option<Term>, 
     }
 }
 
+#[tactic(auto, unfolding(mic_words::specs::Arithmetic::half))]
+fn half_of(word: u32) -> u32
+    ensures { result ≡ half word }
+{
+    if word < 0x8000_0000 {
+        word / 2
+    } else {
+        word / 2 + 0x8000_0000
+    }
+}
+
+/// Whether the first part of a term is taken away: then it is not so in the term's complement.
+fn is_turned(term: &Term) -> bool {
+    if term.parts.is_empty() {
+        return false;
+    }
+    let coefficient = term.parts[0].coefficient;
+    coefficient > 0x8000_0000 || coefficient == 0x8000_0000 && term.constant % 2 == 1
+}
+
 impl Nodes {
-    /// The bits that both words have.
-    fn and(&mut self, a: &Term, b: &Term, alloc: Global) -> Result<Term, AllocError>
+    /// The number of the bits that the words of two numbers share, whichever is named first.
+    fn shared(&mut self, left: u32, right: u32) -> Result<u32, AllocError>
+        ensures value { IfOk result (λ i. Holds self.new (λ e. e.word i ≡ bit_and (e.word left) (e.word right))) }
+        ensures grows { Grows self.old self.new }
+    {
+        if right < left {
+            let turned = self.of_kind(Kind::And {
+                left: right,
+                right: left,
+            })?;
+            return Ok(turned);
+        }
+        self.of_kind(Kind::And { left, right })
+    }
+
+    /// The bits that both words have, by a rule or as a number of their own.
+    fn and_alike(&mut self, a: &Term, b: &Term, alloc: Global) -> Result<Term, AllocError>
         ensures value { IfOk result (λ t. Holds self.new (λ e. value e.word t ≡ bit_and (value e.word a.now) (value e.word b.now))) }
         ensures grows { Grows self.old self.new }
     {
         if let Some(term) = and_by_rule(a, b, alloc)? {
             return Ok(term);
         }
+        if self.share_nothing(a, b) {
+            return Ok(Term::of_word(0, alloc));
+        }
         let first = a.copy(alloc)?;
         let left = self.of_term(first)?;
         let second = b.copy(alloc)?;
         let right = self.of_term(second)?;
-        let both = self.of_kind(Kind::And { left, right })?;
+        let both = self.shared(left, right)?;
         let term = Term::once(both, alloc)?;
+        Ok(term)
+    }
+
+    /// The same, by the complement of the right word where that is simpler: what `a` does not share with it, it shares with `b`.
+    fn and_right(&mut self, a: &Term, b: &Term, alloc: Global) -> Result<Term, AllocError>
+        ensures value { IfOk result (λ t. Holds self.new (λ e. value e.word t ≡ bit_and (value e.word a.now) (value e.word b.now))) }
+        ensures grows { Grows self.old self.new }
+    {
+        if !is_turned(b) {
+            let term = self.and_alike(a, b, alloc)?;
+            return Ok(term);
+        }
+        let inverse = b.complement(alloc)?;
+        let both = self.and_alike(a, &inverse, alloc)?;
+        let term = a.minus(&both, alloc)?;
+        Ok(term)
+    }
+
+    /// The bits that both words have, alike for all words that are written alike but for their order and complements.
+    fn and(&mut self, a: &Term, b: &Term, alloc: Global) -> Result<Term, AllocError>
+        ensures value { IfOk result (λ t. Holds self.new (λ e. value e.word t ≡ bit_and (value e.word a.now) (value e.word b.now))) }
+        ensures grows { Grows self.old self.new }
+    {
+        if !is_turned(a) {
+            let term = self.and_right(a, b, alloc)?;
+            return Ok(term);
+        }
+        let inverse = a.complement(alloc)?;
+        let both = self.and_right(&inverse, b, alloc)?;
+        let term = b.minus(&both, alloc)?;
         Ok(term)
     }
 
@@ -112,6 +180,9 @@ impl Nodes {
                 Ok(left)
             }
             Shift::Right1 => {
+                if let Some(word) = term.word() {
+                    return Ok(Term::of_word(half_of(word), alloc));
+                }
                 let copy = term.copy(alloc)?;
                 let of = self.of_term(copy)?;
                 let half = self.of_kind(Kind::Half { of })?;

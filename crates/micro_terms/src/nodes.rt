@@ -1,11 +1,12 @@
 //! The table of nodes.
-ghost use Rattle.std.specs.Prelude.{◌≡◌, ◌≢◌, ◌<◌, ◌^◌, ℕ, IfOk, IfSome, IsTrue};
+ghost use Rattle.std.specs.Prelude.{◌≡◌, ◌≢◌, ◌<◌, ◌^◌, ℕ, IfOk, IfSome, IsTrue, bit_and};
+ghost use Rattle.mic_words.specs.Arithmetic.{half};
 ghost use Rattle.micro_terms.specs.Value.{value};
 ghost use Rattle.micro_terms.specs.Ranges.{IsIn, IsWithin};
 ghost use Rattle.micro_terms.specs.Environment.{Environment};
 ghost use Rattle.micro_terms.specs.Meaning.{Grows, Holds, IsNode};
 
-use crate::node::{Kind, Node, is_same};
+use crate::node::{Kind, Node, is_byte_kind, is_same};
 use crate::range::{Range, bounds, differ, range_at};
 use crate::term::Term;
 use std::alloc::{AllocError, Global};
@@ -37,6 +38,26 @@ fn word_in(node: &Node, _number: u32) -> Option<u32>
         return term.word();
     }
     None
+}
+
+/// Whether the word of a number with this node is a byte.
+fn byte_in_node(node: &Node, _number: u32) -> bool
+    ensures { IsTrue result → (e : Environment) → IsNode e (e.word _number) node.now → e.word _number < 256 }
+{
+    match node {
+        Node::Other(kind) => is_byte_kind(*kind),
+        _ => false,
+    }
+}
+
+/// The number of the word of which a number with this node is half, if it is half of one.
+fn halved_in(node: &Node, _number: u32) -> Option<u32>
+    ensures { IfSome result (λ of. (e : Environment) → IsNode e (e.word _number) node.now → e.word _number ≡ half (e.word of)) }
+{
+    match node {
+        Node::Other(Kind::Half { of }) => Some(*of),
+        _ => None,
+    }
 }
 
 /// The range of the word of a number with this node.
@@ -138,6 +159,36 @@ impl Nodes {
             Some(node) => word_in(node, number),
             None => None,
         }
+    }
+
+    /// The number of the word of which a number's word is half, if the table says so.
+    pub fn halved(&self, number: u32) -> Option<u32>
+        ensures { IfSome result (λ of. Holds self.now (λ e. e.word number ≡ half (e.word of))) }
+    {
+        match self.nodes.get(number as usize) {
+            Some(node) => halved_in(node, number),
+            None => None,
+        }
+    }
+
+    /// Whether a number's word is a byte without a sign.
+    fn is_byte(&self, number: u32) -> bool
+        ensures { IsTrue result → Holds self.now (λ e. e.word number < 256) }
+    {
+        match self.nodes.get(number as usize) {
+            Some(node) => byte_in_node(node, number),
+            None => false,
+        }
+    }
+
+    /// Whether two words share no bit because the first one's low byte is 0 and the second one is a byte.
+    pub fn share_nothing(&self, a: &Term, b: &Term) -> bool
+        ensures { IsTrue result → Holds self.now (λ e. bit_and (value e.word a.now) (value e.word b.now) ≡ 0) }
+    {
+        let Some(number) = b.single() else {
+            return false;
+        };
+        a.has_no_low_byte() && self.is_byte(number)
     }
 
     /// The range of a number's word, by the ranges of others; `None` if that is not known.

@@ -1,5 +1,5 @@
 //! Sums of numbered words.
-ghost use Rattle.std.specs.Prelude.{◌≡◌, ℕ, ◌*◌, ◌+◌, ◌≤◌, ◌<◌, ◌^◌, IfOk, OnOk, OnErr, IsTrue, IfSome, vec_len};
+ghost use Rattle.std.specs.Prelude.{◌≡◌, ℕ, ◌*◌, ◌+◌, ◌≤◌, ◌<◌, ◌^◌, ◌%◌, IfOk, OnOk, OnErr, IsTrue, IfSome, vec_len};
 ghost use Rattle.mic_words.specs.Arithmetic.{wrap, plus, minus, negation, complement};
 ghost use Rattle.micro_terms.specs.Value.{value, weight};
 
@@ -36,6 +36,18 @@ fn single_of(constant: u32, parts: &[Part]) -> Option<u32>
     } else {
         None
     }
+}
+
+/// Whether all coefficients are multiples of 256.
+fn are_multiples(parts: &[Part]) -> bool
+    ensures { IsTrue result → (env : ℕ → ℕ) → weight env parts.now % 256 ≡ 0 }
+{
+    for part in parts {
+        if part.coefficient % 256 != 0 {
+            return false;
+        }
+    }
+    true
 }
 
 impl Term {
@@ -75,6 +87,14 @@ impl Term {
         ensures { IfSome result (λ word. (env : ℕ → ℕ) → value env self.now ≡ word) }
     {
         word_of(self.constant, &self.parts)
+    }
+
+    /// Whether the low byte is 0 because all multiples are of 256.
+    #[tactic(auto, unfolding(crate::specs::Value::value, mic_words::specs::Arithmetic::wrap))]
+    pub fn has_no_low_byte(&self) -> bool
+        ensures { IsTrue result → (env : ℕ → ℕ) → value env self.now % 256 ≡ 0 }
+    {
+        self.constant % 256 == 0 && are_multiples(&self.parts)
     }
 
     pub fn copy(&self, alloc: Global) -> Result<Term, AllocError>

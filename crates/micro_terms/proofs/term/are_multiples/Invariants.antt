@@ -1,0 +1,6 @@
+use Rattle.std.proofs.Common.{◌≡◌, ◌%◌, ℕ, take}
+use Rattle.micro_terms.specs.Value.{weight}
+use Rattle.micro_terms.proofs.term.are_multiples.Given as goal
+
+abbrev pub invariant-loop-part : goal.invariant-loop-part
+invariant-loop-part l = (env : ℕ → ℕ) → weight env (take l.part-index l.parts) % 256 ≡ 0
