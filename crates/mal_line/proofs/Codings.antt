@@ -38,28 +38,28 @@ b_is_not_h x = elim x as (λ x. may_be_b Mic1 x ≡ true → is_h x ≡ false) [
   | _ ↦ λ h. refl
 ]
 
-source : BusSource → Token
+abbrev source : BusSource → Token
 source x = tokens.Word (source_word x)
 
-form_lone : (m : Machine) (x : BusSource) → operation_in m (tokens.Word (source_word x) ∷ []) ≡ Some (from_one_source m ops.A ops.B x)
+form_lone : (m : Machine) (x : BusSource) → operation_in m (source x ∷ []) ≡ Some (from_one_source m ops.A ops.B x)
 form_lone m x = rw (source_again x) refl
 
-form_not : (m : Machine) (x : BusSource) → operation_in m (tokens.Word words.Not ∷ tokens.Word (source_word x) ∷ []) ≡ Some (from_one_source m ops.NotA ops.NotB x)
+form_not : (m : Machine) (x : BusSource) → operation_in m (tokens.Word words.Not ∷ source x ∷ []) ≡ Some (from_one_source m ops.NotA ops.NotB x)
 form_not m x = rw (source_again x) refl
 
-form_neg : (m : Machine) (x : BusSource) → operation_in m (minus ∷ tokens.Word (source_word x) ∷ []) ≡ Some (work ops.NegA (Some x) None)
+form_neg : (m : Machine) (x : BusSource) → operation_in m (minus ∷ source x ∷ []) ≡ Some (work ops.NegA (Some x) None)
 form_neg m x = rw (source_again x) refl
 
-form_inc : (m : Machine) (x : BusSource) → operation_in m (tokens.Word (source_word x) ∷ plus ∷ one_token ∷ []) ≡ Some (from_one_source m ops.IncA ops.IncB x)
+form_inc : (m : Machine) (x : BusSource) → operation_in m (source x ∷ plus ∷ one_token ∷ []) ≡ Some (from_one_source m ops.IncA ops.IncB x)
 form_inc m x = rw (source_again x) refl
 
-form_more : (m : Machine) (x : BusSource) → operation_in m (one_token ∷ plus ∷ tokens.Word (source_word x) ∷ []) ≡ Some (from_one_source m ops.IncA ops.IncB x)
+form_more : (m : Machine) (x : BusSource) → operation_in m (one_token ∷ plus ∷ source x ∷ []) ≡ Some (from_one_source m ops.IncA ops.IncB x)
 form_more m x = rw (source_again x) refl
 
-form_dec : (m : Machine) (x : BusSource) → operation_in m (tokens.Word (source_word x) ∷ minus ∷ one_token ∷ []) ≡ Some (work ops.DecB None (Some x))
+form_dec : (m : Machine) (x : BusSource) → operation_in m (source x ∷ minus ∷ one_token ∷ []) ≡ Some (work ops.DecB None (Some x))
 form_dec m x = rw (source_again x) refl
 
-form_sub : (m : Machine) (x y : BusSource) → operation_in m (tokens.Word (source_word x) ∷ minus ∷ tokens.Word (source_word y) ∷ []) ≡ Some (work ops.Sub (Some y) (Some x))
+form_sub : (m : Machine) (x y : BusSource) → operation_in m (source x ∷ minus ∷ source y ∷ []) ≡ Some (work ops.Sub (Some y) (Some x))
 form_sub m x y = rw (source_again x, source_again y) refl
 
 form_both : (m : Machine) (op : AluOp) (x y : BusSource) → Commutes op → operation_in m (spelling op (side (Some x)) (side (Some y))) ≡ Some (paired m op x y)
@@ -82,6 +82,26 @@ in_order Mic2 op x y h = refl
 out_of_order : (op : AluOp) (x y : BusSource) → may_be_b Mic1 y ≡ true → paired Mic1 op y x ≡ work op (Some x) (Some y)
 out_of_order op x y h = rw (b_is_not_h y h) refl
 
+only : {ts x : List Token} → IsOneOf ts (x ∷ []) → ts ≡ x
+only (inl e) = e
+only (inr e) = elim e [ ]
+
+-- X+1 or 1+X
+next_again : (m : Machine) (x : BusSource) (body : List Token) → IsOneOf body ((source x ∷ plus ∷ one_token ∷ []) ∷ (one_token ∷ plus ∷ source x ∷ []) ∷ [])
+    → operation_in m body ≡ Some (from_one_source m ops.IncA ops.IncB x)
+next_again m x body (inl e) = ap (operation_in m) e ∙ form_inc m x
+next_again m x body (inr s) = ap (operation_in m) (only s) ∙ form_more m x
+
+-- the sides in order, or exchanged
+first_again : (m : Machine) (op : AluOp) (x y : BusSource) (body : List Token) → Commutes op → may_be_a m x ≡ true → body ≡ spelling op (side (Some x)) (side (Some y))
+    → operation_in m body ≡ Some (work op (Some x) (Some y))
+first_again m op x y body c f e = ap (operation_in m) e ∙ (form_both m op x y c ∙ ap Some (in_order m op x y f))
+
+either_again : (op : AluOp) (x y : BusSource) (body : List Token) → Commutes op → may_be_a Mic1 x ≡ true → may_be_b Mic1 y ≡ true
+    → IsOneOf body (spelling op (side (Some x)) (side (Some y)) ∷ spelling op (side (Some y)) (side (Some x)) ∷ []) → operation_in Mic1 body ≡ Some (work op (Some x) (Some y))
+either_again op x y body c f g (inl e) = first_again Mic1 op x y body c f e
+either_again op x y body c f g (inr s) = ap (operation_in Mic1) (only s) ∙ (form_both Mic1 op y x c ∙ ap Some (out_of_order op x y g))
+
 -- the operation is looked up, where the machine has it and its sides fit
 Again : Machine → AluOp → Option BusSource → Option BusSource → Type 0
 Again m op a b = (body : List Token) → has_operation m op ≡ true → fits_side (row op).uses_a (may_be_a m) a ≡ true → fits_side (row op).uses_b (may_be_b m) b ≡ true
@@ -89,72 +109,27 @@ Again m op a b = (body : List Token) → has_operation m op ≡ true → fits_si
 
 again : (m : Machine) (op : AluOp) (a b : Option BusSource) → Again m op a b
 unfolding Again
-again Mic1 ops.A (Some x) None body h f g (inl e) = ap (operation_in Mic1) e ∙ (form_lone Mic1 x ∙ ap Some (on_a_side ops.A ops.B x f))
-again Mic1 ops.A (Some x) None body h f g (inr e) = elim e [ ]
-again Mic1 ops.NotA (Some x) None body h f g (inl e) = ap (operation_in Mic1) e ∙ (form_not Mic1 x ∙ ap Some (on_a_side ops.NotA ops.NotB x f))
-again Mic1 ops.NotA (Some x) None body h f g (inr e) = elim e [ ]
-again Mic1 ops.IncA (Some x) None body h f g (inl e) = ap (operation_in Mic1) e ∙ (form_inc Mic1 x ∙ ap Some (on_a_side ops.IncA ops.IncB x f))
-again Mic1 ops.IncA (Some x) None body h f g (inr (inl e)) = ap (operation_in Mic1) e ∙ (form_more Mic1 x ∙ ap Some (on_a_side ops.IncA ops.IncB x f))
-again Mic1 ops.IncA (Some x) None body h f g (inr (inr e)) = elim e [ ]
-again Mic1 ops.B None (Some x) body h f g (inl e) = ap (operation_in Mic1) e ∙ (form_lone Mic1 x ∙ ap Some (on_b_side Mic1 ops.A ops.B x g))
-again Mic1 ops.B None (Some x) body h f g (inr e) = elim e [ ]
-again Mic1 ops.NotB None (Some x) body h f g (inl e) = ap (operation_in Mic1) e ∙ (form_not Mic1 x ∙ ap Some (on_b_side Mic1 ops.NotA ops.NotB x g))
-again Mic1 ops.NotB None (Some x) body h f g (inr e) = elim e [ ]
-again Mic1 ops.IncB None (Some x) body h f g (inl e) = ap (operation_in Mic1) e ∙ (form_inc Mic1 x ∙ ap Some (on_b_side Mic1 ops.IncA ops.IncB x g))
-again Mic1 ops.IncB None (Some x) body h f g (inr (inl e)) = ap (operation_in Mic1) e ∙ (form_more Mic1 x ∙ ap Some (on_b_side Mic1 ops.IncA ops.IncB x g))
-again Mic1 ops.IncB None (Some x) body h f g (inr (inr e)) = elim e [ ]
-again Mic1 ops.Sum (Some x) (Some y) body h f g (inl e) = ap (operation_in Mic1) e ∙ (form_both Mic1 ops.Sum x y sum ∙ ap Some (in_order Mic1 ops.Sum x y f))
-again Mic1 ops.Sum (Some x) (Some y) body h f g (inr (inl e)) = ap (operation_in Mic1) e ∙ (form_both Mic1 ops.Sum y x sum ∙ ap Some (out_of_order ops.Sum x y g))
-again Mic1 ops.Sum (Some x) (Some y) body h f g (inr (inr e)) = elim e [ ]
-again Mic1 ops.SumInc (Some x) (Some y) body h f g (inl e) = ap (operation_in Mic1) e ∙ (form_both Mic1 ops.SumInc x y sum_inc ∙ ap Some (in_order Mic1 ops.SumInc x y f))
-again Mic1 ops.SumInc (Some x) (Some y) body h f g (inr (inl e)) = ap (operation_in Mic1) e ∙ (form_both Mic1 ops.SumInc y x sum_inc ∙ ap Some (out_of_order ops.SumInc x y g))
-again Mic1 ops.SumInc (Some x) (Some y) body h f g (inr (inr e)) = elim e [ ]
-again Mic1 ops.And (Some x) (Some y) body h f g (inl e) = ap (operation_in Mic1) e ∙ (form_both Mic1 ops.And x y and_op ∙ ap Some (in_order Mic1 ops.And x y f))
-again Mic1 ops.And (Some x) (Some y) body h f g (inr (inl e)) = ap (operation_in Mic1) e ∙ (form_both Mic1 ops.And y x and_op ∙ ap Some (out_of_order ops.And x y g))
-again Mic1 ops.And (Some x) (Some y) body h f g (inr (inr e)) = elim e [ ]
-again Mic1 ops.Or (Some x) (Some y) body h f g (inl e) = ap (operation_in Mic1) e ∙ (form_both Mic1 ops.Or x y or_op ∙ ap Some (in_order Mic1 ops.Or x y f))
-again Mic1 ops.Or (Some x) (Some y) body h f g (inr (inl e)) = ap (operation_in Mic1) e ∙ (form_both Mic1 ops.Or y x or_op ∙ ap Some (out_of_order ops.Or x y g))
-again Mic1 ops.Or (Some x) (Some y) body h f g (inr (inr e)) = elim e [ ]
-again Mic1 ops.Sub (Some x) (Some y) body h f g (inl e) = ap (operation_in Mic1) e ∙ form_sub Mic1 y x
-again Mic1 ops.Sub (Some x) (Some y) body h f g (inr e) = elim e [ ]
-again Mic1 ops.DecB None (Some x) body h f g (inl e) = ap (operation_in Mic1) e ∙ form_dec Mic1 x
-again Mic1 ops.DecB None (Some x) body h f g (inr e) = elim e [ ]
-again Mic1 ops.NegA (Some x) None body h f g (inl e) = ap (operation_in Mic1) e ∙ form_neg Mic1 x
-again Mic1 ops.NegA (Some x) None body h f g (inr e) = elim e [ ]
-again Mic1 ops.Zero None None body h f g (inl e) = ap (operation_in Mic1) e ∙ refl
-again Mic1 ops.Zero None None body h f g (inr e) = elim e [ ]
-again Mic1 ops.One None None body h f g (inl e) = ap (operation_in Mic1) e ∙ refl
-again Mic1 ops.One None None body h f g (inr e) = elim e [ ]
-again Mic1 ops.MinusOne None None body h f g (inl e) = ap (operation_in Mic1) e ∙ refl
-again Mic1 ops.MinusOne None None body h f g (inr e) = elim e [ ]
-again Mic2 ops.B None (Some x) body h f g (inl e) = ap (operation_in Mic2) e ∙ (form_lone Mic2 x ∙ ap Some (on_b_side Mic2 ops.A ops.B x g))
-again Mic2 ops.B None (Some x) body h f g (inr e) = elim e [ ]
-again Mic2 ops.NotB None (Some x) body h f g (inl e) = ap (operation_in Mic2) e ∙ (form_not Mic2 x ∙ ap Some (on_b_side Mic2 ops.NotA ops.NotB x g))
-again Mic2 ops.NotB None (Some x) body h f g (inr e) = elim e [ ]
-again Mic2 ops.IncB None (Some x) body h f g (inl e) = ap (operation_in Mic2) e ∙ (form_inc Mic2 x ∙ ap Some (on_b_side Mic2 ops.IncA ops.IncB x g))
-again Mic2 ops.IncB None (Some x) body h f g (inr (inl e)) = ap (operation_in Mic2) e ∙ (form_more Mic2 x ∙ ap Some (on_b_side Mic2 ops.IncA ops.IncB x g))
-again Mic2 ops.IncB None (Some x) body h f g (inr (inr e)) = elim e [ ]
-again Mic2 ops.Sum (Some x) (Some y) body h f g (inl e) = ap (operation_in Mic2) e ∙ (form_both Mic2 ops.Sum x y sum ∙ ap Some (in_order Mic2 ops.Sum x y f))
-again Mic2 ops.Sum (Some x) (Some y) body h f g (inr e) = elim e [ ]
-again Mic2 ops.SumInc (Some x) (Some y) body h f g (inl e) = ap (operation_in Mic2) e ∙ (form_both Mic2 ops.SumInc x y sum_inc ∙ ap Some (in_order Mic2 ops.SumInc x y f))
-again Mic2 ops.SumInc (Some x) (Some y) body h f g (inr e) = elim e [ ]
-again Mic2 ops.And (Some x) (Some y) body h f g (inl e) = ap (operation_in Mic2) e ∙ (form_both Mic2 ops.And x y and_op ∙ ap Some (in_order Mic2 ops.And x y f))
-again Mic2 ops.And (Some x) (Some y) body h f g (inr e) = elim e [ ]
-again Mic2 ops.Or (Some x) (Some y) body h f g (inl e) = ap (operation_in Mic2) e ∙ (form_both Mic2 ops.Or x y or_op ∙ ap Some (in_order Mic2 ops.Or x y f))
-again Mic2 ops.Or (Some x) (Some y) body h f g (inr e) = elim e [ ]
-again Mic2 ops.Sub (Some x) (Some y) body h f g (inl e) = ap (operation_in Mic2) e ∙ form_sub Mic2 y x
-again Mic2 ops.Sub (Some x) (Some y) body h f g (inr e) = elim e [ ]
-again Mic2 ops.DecB None (Some x) body h f g (inl e) = ap (operation_in Mic2) e ∙ form_dec Mic2 x
-again Mic2 ops.DecB None (Some x) body h f g (inr e) = elim e [ ]
-again Mic2 ops.NegA (Some x) None body h f g (inl e) = ap (operation_in Mic2) e ∙ form_neg Mic2 x
-again Mic2 ops.NegA (Some x) None body h f g (inr e) = elim e [ ]
-again Mic2 ops.Zero None None body h f g (inl e) = ap (operation_in Mic2) e ∙ refl
-again Mic2 ops.Zero None None body h f g (inr e) = elim e [ ]
-again Mic2 ops.One None None body h f g (inl e) = ap (operation_in Mic2) e ∙ refl
-again Mic2 ops.One None None body h f g (inr e) = elim e [ ]
-again Mic2 ops.MinusOne None None body h f g (inl e) = ap (operation_in Mic2) e ∙ refl
-again Mic2 ops.MinusOne None None body h f g (inr e) = elim e [ ]
-again m _ _ _ body h f g e = absurd (cc)
+again Mic1 ops.A (Some x) None body h f g s = ap (operation_in Mic1) (only s) ∙ (form_lone Mic1 x ∙ ap Some (on_a_side ops.A ops.B x f))
+again Mic1 ops.NotA (Some x) None body h f g s = ap (operation_in Mic1) (only s) ∙ (form_not Mic1 x ∙ ap Some (on_a_side ops.NotA ops.NotB x f))
+again Mic1 ops.IncA (Some x) None body h f g s = next_again Mic1 x body s ∙ ap Some (on_a_side ops.IncA ops.IncB x f)
+again m ops.B None (Some x) body h f g s = ap (operation_in m) (only s) ∙ (form_lone m x ∙ ap Some (on_b_side m ops.A ops.B x g))
+again m ops.NotB None (Some x) body h f g s = ap (operation_in m) (only s) ∙ (form_not m x ∙ ap Some (on_b_side m ops.NotA ops.NotB x g))
+again m ops.IncB None (Some x) body h f g s = next_again m x body s ∙ ap Some (on_b_side m ops.IncA ops.IncB x g)
+again Mic1 ops.Sum (Some x) (Some y) body h f g s = either_again ops.Sum x y body sum f g s
+again Mic2 ops.Sum (Some x) (Some y) body h f g s = first_again Mic2 ops.Sum x y body sum f (only s)
+again Mic1 ops.SumInc (Some x) (Some y) body h f g s = either_again ops.SumInc x y body sum_inc f g s
+again Mic2 ops.SumInc (Some x) (Some y) body h f g s = first_again Mic2 ops.SumInc x y body sum_inc f (only s)
+again Mic1 ops.And (Some x) (Some y) body h f g s = either_again ops.And x y body and_op f g s
+again Mic2 ops.And (Some x) (Some y) body h f g s = first_again Mic2 ops.And x y body and_op f (only s)
+again Mic1 ops.Or (Some x) (Some y) body h f g s = either_again ops.Or x y body or_op f g s
+again Mic2 ops.Or (Some x) (Some y) body h f g s = first_again Mic2 ops.Or x y body or_op f (only s)
+again m ops.Sub (Some x) (Some y) body h f g s = ap (operation_in m) (only s) ∙ form_sub m y x
+again m ops.DecB None (Some x) body h f g s = ap (operation_in m) (only s) ∙ form_dec m x
+again m ops.NegA (Some x) None body h f g s = ap (operation_in m) (only s) ∙ form_neg m x
+again m ops.Zero None None body h f g s = ap (operation_in m) (only s)
+again m ops.One None None body h f g s = ap (operation_in m) (only s)
+again m ops.MinusOne None None body h f g s = ap (operation_in m) (only s)
+again m _ _ _ body h f g s = absurd (cc)
 
 -- ---- the coding as a whole
 

@@ -8,4 +8,3 @@ pub mod Parting
 pub mod Lining
 pub mod Standing
 pub mod Destinations
-pub mod Rows

@@ -7,7 +7,7 @@ use Rattle.source_text.specs.Options.{mapped}
 use Rattle.mal_tokens.specs.declared.sign.Sign.TheVariants as signs
 use Rattle.mal_tokens.specs.declared.token.Token.{Token}
 use Rattle.mal_tokens.specs.declared.token.Token.TheVariants as tokens
-use Rattle.mal_line.specs.declared.piece.Head.TheVariants as heads
+use Rattle.mal_line.specs.declared.piece.Piece.TheVariants as found
 use Rattle.mal_line.specs.declared.tree.Tree.{Tree}
 use Rattle.mal_line.specs.declared.content.Content.{Content}
 use Rattle.mal_line.specs.declared.line.Form.{Form}
@@ -15,7 +15,7 @@ use Rattle.mal_line.specs.declared.line.Form.TheVariants as forms
 use Rattle.mal_line.specs.declared.line.LineFault.{LineFault}
 use Rattle.mal_line.specs.declared.line.LineFault.TheVariants as faults
 use Rattle.mal_line.specs.Statements.{is_semicolon, pieces}
-use Rattle.mal_line.specs.Reading.{add, adds, chain_at, dest_of, empty, head_of, piece_by, piece_of, tree_of}
+use Rattle.mal_line.specs.Reading.{add, adds, chain_at, dest_of, empty, piece_of, tree_of}
 use Rattle.mal_line.specs.Lines.{content_of, IsForm, IsRefused, names_foreign, SpellsLine}
 use Rattle.mal_line.specs.Reading.{behind_colon, fix_of, form_of, labelled, line_from, said, said_by}
 use Rattle.mal_line.proofs.Parting.{tree_again, tree_is}
@@ -69,26 +69,27 @@ no_chain m t [] d = refl
 no_chain m t (u ∷ rest) d = let k = d u in rw k refl
 
 -- what begins with such a token is no statement
-no_tree : (m : Machine) (t : Token) (rest : List Token) → is_semicolon t ≡ false → head_of t ≡ heads.Other → ((u : Token) → dest_of t u ≡ None) → tree_of m (t ∷ rest) ≡ None
+no_tree : (m : Machine) (t : Token) (rest : List Token) → is_semicolon t ≡ false → ((p : List Token) → piece_of m (t ∷ p) ≡ option_map (λ a. found.Assign a) (chain_at m false 0 (t ∷ p)))
+    → ((u : Token) → dest_of t u ≡ None) → tree_of m (t ∷ rest) ≡ None
 unfolding adds
 no_tree m t rest s h d = rw s (go (pieces rest))
   where
     none : (p : List Token) → piece_of m (t ∷ p) ≡ None
-    none p = ap (λ x. piece_by m x t p) h ∙ ap (option_map _) (no_chain m t p d)
+    none p = h p ∙ ap (option_map _) (no_chain m t p d)
 
     go : (ps : List (List Token)) → adds m (record { tree = empty; waiting = None }) (onto_first t ps) ≡ None
     go [] = ap (λ o. option_and_then (λ u. adds m u []) (option_and_then (add (record { tree = empty; waiting = None })) o)) (none [])
     go (p ∷ ps) = ap (λ o. option_and_then (λ u. adds m u ps) (option_and_then (add (record { tree = empty; waiting = None })) o)) (none p)
 
 no_colon : (m : Machine) (rest : List Token) (tree : Tree) → tree_of m rest ≡ Some tree → behind_colon rest ≡ rest
-no_colon m (tokens.Sign signs.Colon ∷ rest) tree h = absurd (let k = no_tree m (tokens.Sign signs.Colon) rest refl refl (λ u. refl) in cc)
+no_colon m (tokens.Sign signs.Colon ∷ rest) tree h = absurd (let k = no_tree m (tokens.Sign signs.Colon) rest refl (λ p. refl) (λ u. refl) in cc)
 no_colon m _ tree h = refl
 
 plain_again : (m : Machine) (ts : List Token) (tree : Tree) → ts ≢ [] → tree_of m ts ≡ Some tree → form_of m ts ≡ Some (forms.Statement None tree)
 plain_again m [] tree ne h = absurd (ne refl)
-plain_again m (tokens.Sign signs.Label ∷ rest) tree ne h = absurd (let k = no_tree m (tokens.Sign signs.Label) rest refl refl (λ u. refl) in cc)
-plain_again m (tokens.Sign signs.Default ∷ rest) tree ne h = absurd (let k = no_tree m (tokens.Sign signs.Default) rest refl refl (λ u. refl) in cc)
-plain_again m (tokens.Name l ∷ rest) tree ne h = absurd (let k = no_tree m (tokens.Name l) rest refl refl (λ u. refl) in cc)
+plain_again m (tokens.Sign signs.Label ∷ rest) tree ne h = absurd (let k = no_tree m (tokens.Sign signs.Label) rest refl (λ p. refl) (λ u. refl) in cc)
+plain_again m (tokens.Sign signs.Default ∷ rest) tree ne h = absurd (let k = no_tree m (tokens.Sign signs.Default) rest refl (λ p. refl) (λ u. refl) in cc)
+plain_again m (tokens.Name l ∷ rest) tree ne h = absurd (let k = no_tree m (tokens.Name l) rest refl (λ p. refl) (λ u. refl) in cc)
 plain_again m (t ∷ rest) tree ne h = ap (option_map (λ tree. forms.Statement None tree)) h
 
 label_again : (m : Machine) (ts : List Token) (l : List ℕ) (rest : List Token) (tree : Tree) → (ts ≡ tokens.Name l ∷ rest) ⊎ (ts ≡ tokens.Name l ∷ tokens.Sign signs.Colon ∷ rest) → tree_of m rest ≡ Some tree → form_of m ts ≡ Some (forms.Statement (Some l) tree)

@@ -1,5 +1,5 @@
 -- An expression has the coding that is looked up for it, and no other.
-use Rattle.std.proofs.Common.{◌≡◌, zero, suc, Bool, true, false, List, [], ◌∷◌, Option, Some, None, refl, sym, ap, subst, ◌∙◌, inl, inr, cond}
+use Rattle.std.proofs.Common.{◌≡◌, zero, suc, Bool, true, false, List, [], ◌∷◌, Option, Some, None, refl, sym, ap, subst, inl, inr, cond}
 use Rattle.std.specs.Prelude.{pos, not}
 use Rattle.mic_words.specs.declared.machine.Machine.{Machine}
 use Rattle.mic_words.specs.declared.machine.Machine.TheVariants.{Mic1, Mic2}
@@ -16,7 +16,7 @@ use Rattle.mal_line.specs.declared.operation.Operation.{Operation}
 use Rattle.mal_line.specs.declared.expression.Operand.{Operand}
 use Rattle.mal_line.specs.declared.expression.Operand.TheVariants as operands
 use Rattle.mal_line.specs.Expressions.{IsOneOf, minus, one_token, plus, side, source_word, spelling, spellings, zero_token}
-use Rattle.mal_line.specs.Lookup.{added, both, operation_in, is_plus, joined, from_one_source, negated, sum_and_one, on_a, operand_by, operand_of, opposite, paired, prefixed, single, source_of, taken, work}
+use Rattle.mal_line.specs.Lookup.{from_one_source, joined, on_a, operand_by, operand_of, operation_in, paired, prefixed, single, source_of, sum_and_one, work}
 
 -- ---- what is looked up is spelled
 
@@ -56,37 +56,15 @@ Spelled : Machine → List Token → Option Operation → Type 0
 Spelled m body None = Unit {0}
 Spelled m body (Some o) = IsOneOf body (spellings m o)
 
-lone_a : (m : Machine) (x : BusSource) → Spelled m (tokens.Word (source_word x) ∷ []) (Some (from_one_source m ops.A ops.B x))
+-- a single source stands on one side or the other
+by_side : (m : Machine) (op_a op_b : AluOp) (x : BusSource) (body : List Token) → IsOneOf body (spellings m (work op_a (Some x) None)) → IsOneOf body (spellings m (work op_b None (Some x)))
+    → Spelled m body (Some (from_one_source m op_a op_b x))
 unfolding Spelled
-lone_a m x = go (on_a m x)
+by_side m op_a op_b x body on_side_a on_side_b = go (on_a m x)
   where
-    go : (w : Bool) → IsOneOf (tokens.Word (source_word x) ∷ []) (spellings m (cond w (work ops.A (Some x) None) (work ops.B None (Some x))))
-    go true = inl refl
-    go false = inl refl
-
-lone_not : (m : Machine) (x : BusSource) → Spelled m (tokens.Word words.Not ∷ tokens.Word (source_word x) ∷ []) (Some (from_one_source m ops.NotA ops.NotB x))
-unfolding Spelled
-lone_not m x = go (on_a m x)
-  where
-    go : (w : Bool) → IsOneOf (tokens.Word words.Not ∷ tokens.Word (source_word x) ∷ []) (spellings m (cond w (work ops.NotA (Some x) None) (work ops.NotB None (Some x))))
-    go true = inl refl
-    go false = inl refl
-
-lone_inc : (m : Machine) (x : BusSource) → Spelled m (tokens.Word (source_word x) ∷ plus ∷ one_token ∷ []) (Some (from_one_source m ops.IncA ops.IncB x))
-unfolding Spelled
-lone_inc m x = go (on_a m x)
-  where
-    go : (w : Bool) → IsOneOf (tokens.Word (source_word x) ∷ plus ∷ one_token ∷ []) (spellings m (cond w (work ops.IncA (Some x) None) (work ops.IncB None (Some x))))
-    go true = inl refl
-    go false = inl refl
-
-lone_more : (m : Machine) (x : BusSource) → Spelled m (one_token ∷ plus ∷ tokens.Word (source_word x) ∷ []) (Some (from_one_source m ops.IncA ops.IncB x))
-unfolding Spelled
-lone_more m x = go (on_a m x)
-  where
-    go : (w : Bool) → IsOneOf (one_token ∷ plus ∷ tokens.Word (source_word x) ∷ []) (spellings m (cond w (work ops.IncA (Some x) None) (work ops.IncB None (Some x))))
-    go true = inr (inl refl)
-    go false = inr (inl refl)
+    go : (w : Bool) → IsOneOf body (spellings m (cond w (work op_a (Some x) None) (work op_b None (Some x))))
+    go true = on_side_a
+    go false = on_side_b
 
 -- an operation whose sides may be exchanged on Mic-1
 pub data Commutes : AluOp → Type 0 where
@@ -110,82 +88,51 @@ paired_is Mic1 op x y c = go (not (is_h x))
     go false = inl refl
 paired_is Mic2 op x y c = inl refl
 
+both_is : (m : Machine) (op : AluOp) (x y : BusSource) (t u : Token) → Commutes op → t ≡ tokens.Word (source_word x) → u ≡ tokens.Word (source_word y)
+    → Spelled m (spelling op (t ∷ []) (u ∷ [])) (Some (paired m op x y))
+both_is m op x y t u c s r =
+    subst (λ v. Spelled m (spelling op (v ∷ []) (u ∷ [])) (Some (paired m op x y))) (sym s)
+    (subst (λ v. Spelled m (spelling op (side (Some x)) (v ∷ [])) (Some (paired m op x y))) (sym r) (paired_is m op x y c))
+
 single_is : (m : Machine) (p : Operand) (t : Token) → Stands p t → Spelled m (t ∷ []) (single m p)
 unfolding Stands Spelled
-single_is m (operands.Source x) t s = subst (λ u. Spelled m (u ∷ []) (single m (operands.Source x))) (sym s) (lone_a m x)
+single_is m (operands.Source x) t s = by_side m ops.A ops.B x (t ∷ []) (inl (ap (λ u. u ∷ []) s)) (inl (ap (λ u. u ∷ []) s))
 single_is m operands.Zero t s = inl (ap (λ u. u ∷ []) s)
 single_is m operands.One t s = inl (ap (λ u. u ∷ []) s)
 single_is m operands.Other t s = tt
 
-negated_is : (m : Machine) (p : Operand) (t : Token) → Stands p t → Spelled m (tokens.Word words.Not ∷ t ∷ []) (negated m p)
-unfolding Stands Spelled
-negated_is m (operands.Source x) t s = subst (λ u. Spelled m (tokens.Word words.Not ∷ u ∷ []) (negated m (operands.Source x))) (sym s) (lone_not m x)
-negated_is m _ t s = tt
-
-opposite_is : (m : Machine) (p : Operand) (t : Token) → Stands p t → Spelled m (minus ∷ t ∷ []) (opposite p)
-unfolding Stands Spelled
-opposite_is m (operands.Source x) t s = inl (ap (λ u. minus ∷ u ∷ []) s)
-opposite_is m operands.One t s = inl (ap (λ u. minus ∷ u ∷ []) s)
-opposite_is m _ t s = tt
-
 prefixed_is : (m : Machine) (o : Token) (p : Operand) (t : Token) → Stands p t → Spelled m (o ∷ t ∷ []) (prefixed m o p)
-unfolding Spelled
-prefixed_is m (tokens.Word words.Not) p t s = negated_is m p t s
-prefixed_is m (tokens.Sign signs.Minus) p t s = opposite_is m p t s
-prefixed_is m _ p t s = tt
-
-both_is : (m : Machine) (op : AluOp) (p q : Operand) (t u : Token) → Commutes op → Stands p t → Stands q u → Spelled m (spelling op (t ∷ []) (u ∷ [])) (both m op p q)
 unfolding Stands Spelled
-both_is m op (operands.Source x) (operands.Source y) t u c s r =
-    subst (λ v. Spelled m (spelling op (v ∷ []) (u ∷ [])) (both m op (operands.Source x) (operands.Source y))) (sym s)
-    (subst (λ v. Spelled m (spelling op (side (Some x)) (v ∷ [])) (both m op (operands.Source x) (operands.Source y))) (sym r) (paired_is m op x y c))
-both_is m op _ _ t u c s r = tt
+prefixed_is m (tokens.Word words.Not) (operands.Source x) t s =
+    let e : tokens.Word words.Not ∷ t ∷ [] ≡ tokens.Word words.Not ∷ tokens.Word (source_word x) ∷ [] = ap (λ u. tokens.Word words.Not ∷ u ∷ []) s in
+    by_side m ops.NotA ops.NotB x (tokens.Word words.Not ∷ t ∷ []) (inl e) (inl e)
+prefixed_is m (tokens.Sign signs.Minus) (operands.Source x) t s = inl (ap (λ u. minus ∷ u ∷ []) s)
+prefixed_is m (tokens.Sign signs.Minus) operands.One t s = inl (ap (λ u. minus ∷ u ∷ []) s)
+prefixed_is m _ _ t s = tt
 
-added_is : (m : Machine) (p q : Operand) (t u : Token) → Stands p t → Stands q u → Spelled m (t ∷ plus ∷ u ∷ []) (added m p q)
-unfolding Stands Spelled
-added_is m (operands.Source x) operands.One t u s r =
-    subst (λ v. Spelled m (v ∷ plus ∷ u ∷ []) (added m (operands.Source x) operands.One)) (sym s)
-    (subst (λ v. Spelled m (tokens.Word (source_word x) ∷ plus ∷ v ∷ []) (added m (operands.Source x) operands.One)) (sym r) (lone_inc m x))
-added_is m operands.One (operands.Source x) t u s r =
-    subst (λ v. Spelled m (v ∷ plus ∷ u ∷ []) (added m operands.One (operands.Source x))) (sym s)
-    (subst (λ v. Spelled m (one_token ∷ plus ∷ v ∷ []) (added m operands.One (operands.Source x))) (sym r) (lone_more m x))
-added_is m (operands.Source x) (operands.Source y) t u s r = both_is m ops.Sum (operands.Source x) (operands.Source y) t u sum s r
-added_is m _ _ t u s r = tt
-
-taken_is : (m : Machine) (p q : Operand) (t u : Token) → Stands p t → Stands q u → Spelled m (t ∷ minus ∷ u ∷ []) (taken p q)
-unfolding Stands Spelled
-taken_is m (operands.Source x) (operands.Source y) t u s r = inl (ap (λ v. v ∷ minus ∷ u ∷ []) s ∙ ap (λ v. tokens.Word (source_word x) ∷ minus ∷ v ∷ []) r)
-taken_is m (operands.Source x) operands.One t u s r = inl (ap (λ v. v ∷ minus ∷ u ∷ []) s ∙ ap (λ v. tokens.Word (source_word x) ∷ minus ∷ v ∷ []) r)
-taken_is m _ _ t u s r = tt
+three : (t u a b o : Token) → t ≡ a → u ≡ b → t ∷ o ∷ u ∷ [] ≡ a ∷ o ∷ b ∷ []
+three t u a b o p q = rw (p, q) refl
 
 joined_is : (m : Machine) (p : Operand) (o : Token) (q : Operand) (t u : Token) → Stands p t → Stands q u → Spelled m (t ∷ o ∷ u ∷ []) (joined m p o q)
-unfolding Spelled
-joined_is m p (tokens.Sign signs.Plus) q t u s r = added_is m p q t u s r
-joined_is m p (tokens.Sign signs.Minus) q t u s r = taken_is m p q t u s r
-joined_is m p (tokens.Word words.And) q t u s r = both_is m ops.And p q t u and_op s r
-joined_is m p (tokens.Word words.Or) q t u s r = both_is m ops.Or p q t u or_op s r
-joined_is m p _ q t u s r = tt
+unfolding Stands Spelled
+joined_is m (operands.Source x) (tokens.Sign signs.Plus) (operands.Source y) t u s r = both_is m ops.Sum x y t u sum s r
+joined_is m (operands.Source x) (tokens.Sign signs.Plus) operands.One t u s r =
+    let e = three t u (tokens.Word (source_word x)) one_token plus s r in
+    by_side m ops.IncA ops.IncB x (t ∷ plus ∷ u ∷ []) (inl e) (inl e)
+joined_is m operands.One (tokens.Sign signs.Plus) (operands.Source y) t u s r =
+    let e = three t u one_token (tokens.Word (source_word y)) plus s r in
+    by_side m ops.IncA ops.IncB y (t ∷ plus ∷ u ∷ []) (inr (inl e)) (inr (inl e))
+joined_is m (operands.Source x) (tokens.Sign signs.Minus) (operands.Source y) t u s r = inl (three t u (tokens.Word (source_word x)) (tokens.Word (source_word y)) minus s r)
+joined_is m (operands.Source x) (tokens.Sign signs.Minus) operands.One t u s r = inl (three t u (tokens.Word (source_word x)) one_token minus s r)
+joined_is m (operands.Source x) (tokens.Word words.And) (operands.Source y) t u s r = both_is m ops.And x y t u and_op s r
+joined_is m (operands.Source x) (tokens.Word words.Or) (operands.Source y) t u s r = both_is m ops.Or x y t u or_op s r
+joined_is m _ _ _ t u s r = tt
 
-Plus : Token → Bool → Type 0
-Plus t true = t ≡ plus
-Plus t false = Unit {0}
-
-plus_is : (t : Token) → Plus t (is_plus t)
-unfolding Plus
-plus_is (tokens.Sign signs.Plus) = refl
-plus_is _ = tt
-
-next_is : (m : Machine) (p q r : Operand) (t a u b v : Token) → Stands p t → Stands q u → Stands r v → Spelled m (t ∷ a ∷ u ∷ b ∷ v ∷ []) (sum_and_one m p a q b r)
-unfolding Spelled Plus Stands
-next_is m p q operands.One t a u b v s s2 s3 = go (is_plus a) (is_plus b) (plus_is a) (plus_is b) s3
-  where
-    go : (x y : Bool) → Plus a x → Plus b y → Stands operands.One v → Spelled m (t ∷ a ∷ u ∷ b ∷ v ∷ []) (cond x (cond y (both m ops.SumInc p q) None) None)
-    go true true e f g = subst (λ c. Spelled m (t ∷ c ∷ u ∷ b ∷ v ∷ []) (both m ops.SumInc p q)) (sym e)
-        (subst (λ c. Spelled m (t ∷ plus ∷ u ∷ c ∷ v ∷ []) (both m ops.SumInc p q)) (sym f)
-        (subst (λ c. Spelled m (t ∷ plus ∷ u ∷ plus ∷ c ∷ []) (both m ops.SumInc p q)) (sym g) (both_is m ops.SumInc p q t u sum_inc s s2)))
-    go true false e f g = tt
-    go false y e f g = tt
-next_is m p q _ t a u b v s s2 s3 = tt
+next_is : (m : Machine) (p q r : Operand) (t a u b v : Token) → Stands p t → Stands q u → Stands r v → Spelled m (t ∷ a ∷ u ∷ b ∷ v ∷ []) (sum_and_one m p q r a b)
+unfolding Stands Spelled
+next_is m (operands.Source x) (operands.Source y) operands.One t (tokens.Sign signs.Plus) u (tokens.Sign signs.Plus) v s r e =
+    subst (λ c. Spelled m (t ∷ plus ∷ u ∷ plus ∷ c ∷ []) (Some (paired m ops.SumInc x y))) (sym e) (both_is m ops.SumInc x y t u sum_inc s r)
+next_is m _ _ _ t _ u _ v s r e = tt
 
 form_spelled : (m : Machine) (body : List Token) → Spelled m body (operation_in m body)
 unfolding Spelled

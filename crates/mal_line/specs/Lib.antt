@@ -1,5 +1,4 @@
 pub mod Expressions
-pub mod Table
 pub mod Chains
 pub mod Statements
 pub mod Targets

@@ -1,5 +1,5 @@
 -- The reading of an expression. It computes the coding that `Expressions` states, where there is one.
-use Rattle.std.specs.Prelude.{ℕ, ℤ, pos, negsuc, ◌==◌, zero, suc, Bool, true, false, not, List, [], ◌∷◌, Option, Some, None, if◌then◌else◌, option_and_then, option_map}
+use Rattle.std.specs.Prelude.{ℕ, ℤ, pos, negsuc, ◌==◌, zero, suc, Bool, false, not, List, [], ◌∷◌, Option, Some, None, if◌then◌else◌, option_and_then, option_map}
 use Rattle.mic_words.specs.declared.machine.Machine.{Machine}
 use Rattle.mic_words.specs.declared.machine.Machine.TheVariants.{Mic1, Mic2}
 use Rattle.micro_word.specs.declared.statement.AluOp.{AluOp}
@@ -73,55 +73,32 @@ single machine operands.Zero = Some (work ops.Zero None None)
 single machine operands.One = Some (work ops.One None None)
 single machine operands.Other = None
 
-abbrev pub negated : Machine → Operand → Option Operation
-negated machine (operands.Source x) = Some (from_one_source machine ops.NotA ops.NotB x)
-negated machine _ = None
-
-abbrev pub opposite : Operand → Option Operation
-opposite (operands.Source x) = Some (work ops.NegA (Some x) None)
-opposite operands.One = Some (work ops.MinusOne None None)
-opposite _ = None
-
 abbrev pub prefixed : Machine → Token → Operand → Option Operation
-prefixed machine (tokens.Word words.Not) x = negated machine x
-prefixed machine (tokens.Sign signs.Minus) x = opposite x
-prefixed machine _ x = None
-
-abbrev pub both : Machine → AluOp → Operand → Operand → Option Operation
-both machine op (operands.Source x) (operands.Source y) = Some (paired machine op x y)
-both machine op _ _ = None
-
-abbrev pub added : Machine → Operand → Operand → Option Operation
-added machine (operands.Source x) operands.One = Some (from_one_source machine ops.IncA ops.IncB x)
-added machine operands.One (operands.Source x) = Some (from_one_source machine ops.IncA ops.IncB x)
-added machine x y = both machine ops.Sum x y
-
-abbrev pub taken : Operand → Operand → Option Operation
-taken (operands.Source x) (operands.Source y) = Some (work ops.Sub (Some y) (Some x))
-taken (operands.Source x) operands.One = Some (work ops.DecB None (Some x))
-taken _ _ = None
+prefixed machine (tokens.Word words.Not) (operands.Source x) = Some (from_one_source machine ops.NotA ops.NotB x)
+prefixed machine (tokens.Sign signs.Minus) (operands.Source x) = Some (work ops.NegA (Some x) None)
+prefixed machine (tokens.Sign signs.Minus) operands.One = Some (work ops.MinusOne None None)
+prefixed machine _ _ = None
 
 abbrev pub joined : Machine → Operand → Token → Operand → Option Operation
-joined machine x (tokens.Sign signs.Plus) y = added machine x y
-joined machine x (tokens.Sign signs.Minus) y = taken x y
-joined machine x (tokens.Word words.And) y = both machine ops.And x y
-joined machine x (tokens.Word words.Or) y = both machine ops.Or x y
-joined machine x _ y = None
+joined machine (operands.Source x) (tokens.Sign signs.Plus) (operands.Source y) = Some (paired machine ops.Sum x y)
+joined machine (operands.Source x) (tokens.Sign signs.Plus) operands.One = Some (from_one_source machine ops.IncA ops.IncB x)
+joined machine operands.One (tokens.Sign signs.Plus) (operands.Source y) = Some (from_one_source machine ops.IncA ops.IncB y)
+joined machine (operands.Source x) (tokens.Sign signs.Minus) (operands.Source y) = Some (work ops.Sub (Some y) (Some x))
+joined machine (operands.Source x) (tokens.Sign signs.Minus) operands.One = Some (work ops.DecB None (Some x))
+joined machine (operands.Source x) (tokens.Word words.And) (operands.Source y) = Some (paired machine ops.And x y)
+joined machine (operands.Source x) (tokens.Word words.Or) (operands.Source y) = Some (paired machine ops.Or x y)
+joined machine _ _ _ = None
 
-abbrev pub is_plus : Token → Bool
-is_plus (tokens.Sign signs.Plus) = true
-is_plus _ = false
-
-abbrev pub sum_and_one : Machine → Operand → Token → Operand → Token → Operand → Option Operation
-sum_and_one machine x p y q operands.One = if is_plus p then (if is_plus q then both machine ops.SumInc x y else None) else None
-sum_and_one machine x p y q _ = None
+abbrev pub sum_and_one : Machine → Operand → Operand → Operand → Token → Token → Option Operation
+sum_and_one machine (operands.Source x) (operands.Source y) operands.One (tokens.Sign signs.Plus) (tokens.Sign signs.Plus) = Some (paired machine ops.SumInc x y)
+sum_and_one machine _ _ _ _ _ = None
 
 -- the operation that has this form, on any machine that does it
 abbrev pub operation_in : Machine → List Token → Option Operation
 operation_in machine (x ∷ []) = single machine (operand_of x)
-operation_in machine (o ∷ x ∷ []) = prefixed machine o (operand_of x)
-operation_in machine (x ∷ o ∷ y ∷ []) = joined machine (operand_of x) o (operand_of y)
-operation_in machine (x ∷ p ∷ y ∷ q ∷ z ∷ []) = sum_and_one machine (operand_of x) p (operand_of y) q (operand_of z)
+operation_in machine (prefix ∷ x ∷ []) = prefixed machine prefix (operand_of x)
+operation_in machine (x ∷ between ∷ y ∷ []) = joined machine (operand_of x) between (operand_of y)
+operation_in machine (x ∷ p ∷ y ∷ q ∷ z ∷ []) = sum_and_one machine (operand_of x) (operand_of y) (operand_of z) p q
 operation_in machine _ = None
 
 abbrev pub checked : Machine → Operation → Option Operation

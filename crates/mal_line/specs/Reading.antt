@@ -1,5 +1,5 @@
 -- The reading of a line, token by token. It computes what `Lines` states: `line_from` returns what a line spells, or its first refusal.
-use Rattle.std.specs.Prelude.{ℕ, Bool, true, false, List, [], ◌∷◌, Option, Some, None, Result, Ok, Err, if◌then◌else◌, ◌==◌, length, take, drop, bit_or, is_some, option_map, option_and_then, ◌≡◌, ◌↔◌}
+use Rattle.std.specs.Prelude.{ℕ, ℤ, Bool, true, false, List, [], ◌∷◌, Option, Some, None, Result, Ok, Err, if◌then◌else◌, ◌==◌, length, take, drop, bit_or, is_some, option_map, option_and_then, ◌≡◌, ◌↔◌}
 use Rattle.std.specs.List.{prefix_len}
 use Rattle.mic_words.specs.declared.machine.Machine.{Machine}
 use Rattle.micro_word.specs.declared.statement.Mem.{Mem}
@@ -14,8 +14,6 @@ use Rattle.mal_tokens.specs.declared.token.Token.TheVariants as tokens
 use Rattle.mal_line.specs.declared.chain.Assignment.{Assignment}
 use Rattle.mal_line.specs.declared.chain.Tail.{Tail}
 use Rattle.mal_line.specs.declared.chain.Tail.TheVariants as tails
-use Rattle.mal_line.specs.declared.piece.Head.{Head}
-use Rattle.mal_line.specs.declared.piece.Head.TheVariants as heads
 use Rattle.mal_line.specs.declared.piece.Piece.{Piece}
 use Rattle.mal_line.specs.declared.piece.Piece.TheVariants as found
 use Rattle.mal_line.specs.declared.tree.Jump.{Jump}
@@ -75,84 +73,44 @@ chain_at machine some dests (t ∷ u ∷ rest) = on_dest (dest_of t u)
 
 -- ---- what stands between two semicolons
 
-abbrev pub head_of : Token → Head
-head_of (tokens.Word words.Rd) = heads.Mem mems.Read
-head_of (tokens.Word words.Wr) = heads.Mem mems.Write
-head_of (tokens.Word words.Fetch) = heads.Fetch
-head_of (tokens.Word words.Goto) = heads.Goto
-head_of (tokens.Word words.If) = heads.If
-head_of (tokens.Word words.Else) = heads.Else
-head_of _ = heads.Other
+abbrev pub high_of : ℤ → Option Bool
+high_of v = if is_number v 256 then Some true else None
 
-abbrev pub name_of : Token → Option (List ℕ)
-name_of (tokens.Name n) = Some n
-name_of _ = None
-
-abbrev pub test_of : Token → Option Test
-test_of (tokens.Word words.N) = Some tests.N
-test_of (tokens.Word words.Z) = Some tests.Z
-test_of _ = None
-
-abbrev pub is_goto : Token → Bool
-is_goto (tokens.Word words.Goto) = true
-is_goto _ = false
-
-abbrev pub is_or : Token → Bool
-is_or (tokens.Word words.Or) = true
-is_or _ = false
-
--- `(MBR)`, its parentheses and its word
-abbrev pub is_byte_in : Token → Token → Token → Bool
-is_byte_in (tokens.Sign signs.Open) (tokens.Word w) (tokens.Sign signs.Close) = is_byte_word w
-is_byte_in _ _ _ = false
-
-abbrev pub offset_of : Token → Option (Option Bool)
-offset_of (tokens.Number v) = Some (if is_number v 256 then Some true else None)
-offset_of _ = None
-
-abbrev pub alone : Piece → List Token → Option Piece
-alone piece [] = Some piece
-alone piece _ = None
+abbrev pub dispatch : Word → Option Bool → Option Piece
+dispatch w high = if is_byte_word w then Some (found.Dispatch high) else None
 
 -- what follows `goto`
 abbrev pub goto_of : List Token → Option Piece
-goto_of (label ∷ []) = option_map (λ n. found.Goto n) (name_of label)
-goto_of (open_sign ∷ word ∷ close_sign ∷ []) = if is_byte_in open_sign word close_sign then Some (found.Dispatch (Some false)) else None
-goto_of (open_sign ∷ word ∷ or_word ∷ number ∷ close_sign ∷ []) =
-    if is_byte_in open_sign word close_sign then
-    (if is_or or_word then option_map (λ high. found.Dispatch high) (offset_of number) else None) else None
+goto_of (tokens.Name label ∷ []) = Some (found.Goto label)
+goto_of (tokens.Sign signs.Open ∷ tokens.Word w ∷ tokens.Sign signs.Close ∷ []) = dispatch w (Some false)
+goto_of (tokens.Sign signs.Open ∷ tokens.Word w ∷ tokens.Word words.Or ∷ tokens.Number v ∷ tokens.Sign signs.Close ∷ []) = dispatch w (high_of v)
 goto_of _ = None
 
-abbrev pub is_test_in : Token → Token → Token → Bool
-is_test_in (tokens.Sign signs.Open) (tokens.Sign signs.Close) goto_word = is_goto goto_word
-is_test_in _ _ _ = false
-
-abbrev pub branch_on : Option Test → Option (List ℕ) → Option Piece
-branch_on (Some test) (Some label) = Some (found.If test label)
-branch_on _ _ = None
+abbrev pub test_of : Word → Option Test
+test_of words.N = Some tests.N
+test_of words.Z = Some tests.Z
+test_of _ = None
 
 -- what follows `if`
 abbrev pub if_of : List Token → Option Piece
-if_of (open_sign ∷ test ∷ close_sign ∷ goto_word ∷ label ∷ []) =
-    if is_test_in open_sign close_sign goto_word then branch_on (test_of test) (name_of label) else None
+if_of (tokens.Sign signs.Open ∷ tokens.Word w ∷ tokens.Sign signs.Close ∷ tokens.Word words.Goto ∷ tokens.Name label ∷ []) =
+    option_map (λ test. found.If test label) (test_of w)
 if_of _ = None
 
 -- what follows `else`
 abbrev pub else_of : List Token → Option Piece
-else_of (goto_word ∷ label ∷ []) = if is_goto goto_word then option_map (λ n. found.Else n) (name_of label) else None
+else_of (tokens.Word words.Goto ∷ tokens.Name label ∷ []) = Some (found.Else label)
 else_of _ = None
-
-abbrev pub piece_by : Machine → Head → Token → List Token → Option Piece
-piece_by machine (heads.Mem m) first rest = alone (found.Mem m) rest
-piece_by machine heads.Fetch first rest = alone found.Fetch rest
-piece_by machine heads.Goto first rest = goto_of rest
-piece_by machine heads.If first rest = if_of rest
-piece_by machine heads.Else first rest = else_of rest
-piece_by machine heads.Other first rest = option_map (λ a. found.Assign a) (chain_at machine false 0 (first ∷ rest))
 
 abbrev pub piece_of : Machine → List Token → Option Piece
 piece_of machine [] = Some found.Nothing
-piece_of machine (first ∷ rest) = piece_by machine (head_of first) first rest
+piece_of machine (tokens.Word words.Rd ∷ []) = Some (found.Mem mems.Read)
+piece_of machine (tokens.Word words.Wr ∷ []) = Some (found.Mem mems.Write)
+piece_of machine (tokens.Word words.Fetch ∷ []) = Some found.Fetch
+piece_of machine (tokens.Word words.Goto ∷ rest) = goto_of rest
+piece_of machine (tokens.Word words.If ∷ rest) = if_of rest
+piece_of machine (tokens.Word words.Else ∷ rest) = else_of rest
+piece_of machine ts = option_map (λ a. found.Assign a) (chain_at machine false 0 ts)
 
 -- ---- the parts together
 

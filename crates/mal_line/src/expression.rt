@@ -1,7 +1,7 @@
 //! The coding of an expression, looked up by its tokens.
 ghost use Rattle.std.specs.Prelude.{◌≡◌};
 ghost use Rattle.micro_word.specs.Words.{is_h};
-ghost use Rattle.mal_line.specs.Lookup.{added, both, checked, coding_of, operation_in, is_plus, joined, from_one_source, negated, sum_and_one, operand_of, opposite, paired, prefixed, shift_of, single, source_of, taken, work};
+ghost use Rattle.mal_line.specs.Lookup.{checked, coding_of, from_one_source, joined, operand_of, operation_in, paired, prefixed, shift_of, single, source_of, sum_and_one, work};
 
 use crate::chain::Tail;
 use crate::operation::Operation;
@@ -103,70 +103,15 @@ fn single(machine: Machine, x: Operand) -> Option<Operation>
     }
 }
 
-fn negated(machine: Machine, x: Operand) -> Option<Operation>
-    ensures { result ≡ negated machine x }
-{
-    match x {
-        Operand::Source(x) => Some(from_one_source(machine, AluOp::NotA, AluOp::NotB, x)),
-        _ => None,
-    }
-}
-
-fn opposite(x: Operand) -> Option<Operation>
-    ensures { result ≡ opposite x }
-{
-    match x {
-        Operand::Source(x) => Some(work(AluOp::NegA, Some(x), None)),
-        Operand::One => Some(work(AluOp::MinusOne, None, None)),
-        _ => None,
-    }
-}
-
 fn prefixed(machine: Machine, prefix: Token, x: Operand) -> Option<Operation>
     ensures { result ≡ prefixed machine prefix x }
 {
-    match prefix {
-        Token::Word(Word::Not) => negated(machine, x),
-        Token::Sign(Sign::Minus) => opposite(x),
-        _ => None,
-    }
-}
-
-fn both(machine: Machine, op: AluOp, x: Operand, y: Operand) -> Option<Operation>
-    ensures { result ≡ both machine op x y }
-{
-    match (x, y) {
-        (Operand::Source(x), Operand::Source(y)) => Some(paired(machine, op, x, y)),
-        _ => None,
-    }
-}
-
-fn added(machine: Machine, x: Operand, y: Operand) -> Option<Operation>
-    ensures { result ≡ added machine x y }
-{
-    match (x, y) {
-        (Operand::Source(x), Operand::One) => Some(from_one_source(
-            machine,
-            AluOp::IncA,
-            AluOp::IncB,
-            x,
-        )),
-        (Operand::One, Operand::Source(y)) => Some(from_one_source(
-            machine,
-            AluOp::IncA,
-            AluOp::IncB,
-            y,
-        )),
-        _ => both(machine, AluOp::Sum, x, y),
-    }
-}
-
-fn taken(x: Operand, y: Operand) -> Option<Operation>
-    ensures { result ≡ taken x y }
-{
-    match (x, y) {
-        (Operand::Source(x), Operand::Source(y)) => Some(work(AluOp::Sub, Some(y), Some(x))),
-        (Operand::Source(x), Operand::One) => Some(work(AluOp::DecB, None, Some(x))),
+    match (prefix, x) {
+        (Token::Word(Word::Not), Operand::Source(x)) => {
+            Some(from_one_source(machine, AluOp::NotA, AluOp::NotB, x))
+        }
+        (Token::Sign(Sign::Minus), Operand::Source(x)) => Some(work(AluOp::NegA, Some(x), None)),
+        (Token::Sign(Sign::Minus), Operand::One) => Some(work(AluOp::MinusOne, None, None)),
         _ => None,
     }
 }
@@ -174,39 +119,50 @@ fn taken(x: Operand, y: Operand) -> Option<Operation>
 fn joined(machine: Machine, x: Operand, between: Token, y: Operand) -> Option<Operation>
     ensures { result ≡ joined machine x between y }
 {
-    match between {
-        Token::Sign(Sign::Plus) => added(machine, x, y),
-        Token::Sign(Sign::Minus) => taken(x, y),
-        Token::Word(Word::And) => both(machine, AluOp::And, x, y),
-        Token::Word(Word::Or) => both(machine, AluOp::Or, x, y),
+    match (x, between, y) {
+        (Operand::Source(x), Token::Sign(Sign::Plus), Operand::Source(y)) => {
+            Some(paired(machine, AluOp::Sum, x, y))
+        }
+        (Operand::Source(x), Token::Sign(Sign::Plus), Operand::One) => {
+            Some(from_one_source(machine, AluOp::IncA, AluOp::IncB, x))
+        }
+        (Operand::One, Token::Sign(Sign::Plus), Operand::Source(y)) => {
+            Some(from_one_source(machine, AluOp::IncA, AluOp::IncB, y))
+        }
+        (Operand::Source(x), Token::Sign(Sign::Minus), Operand::Source(y)) => {
+            Some(work(AluOp::Sub, Some(y), Some(x)))
+        }
+        (Operand::Source(x), Token::Sign(Sign::Minus), Operand::One) => {
+            Some(work(AluOp::DecB, None, Some(x)))
+        }
+        (Operand::Source(x), Token::Word(Word::And), Operand::Source(y)) => {
+            Some(paired(machine, AluOp::And, x, y))
+        }
+        (Operand::Source(x), Token::Word(Word::Or), Operand::Source(y)) => {
+            Some(paired(machine, AluOp::Or, x, y))
+        }
         _ => None,
     }
-}
-
-fn is_plus(token: Token) -> bool
-    ensures { result ≡ is_plus token }
-{
-    matches!(token, Token::Sign(Sign::Plus))
 }
 
 fn sum_and_one(
     machine: Machine,
     x: Operand,
-    plus: Token,
     y: Operand,
-    then: Token,
     one: Operand,
+    plus: Token,
+    then: Token,
 ) -> Option<Operation>
-    ensures { result ≡ sum_and_one machine x plus y then one }
+    ensures { result ≡ sum_and_one machine x y one plus then }
 {
-    match one {
-        Operand::One => {
-            if is_plus(plus) && is_plus(then) {
-                both(machine, AluOp::SumInc, x, y)
-            } else {
-                None
-            }
-        }
+    match (x, y, one, plus, then) {
+        (
+            Operand::Source(x),
+            Operand::Source(y),
+            Operand::One,
+            Token::Sign(Sign::Plus),
+            Token::Sign(Sign::Plus),
+        ) => Some(paired(machine, AluOp::SumInc, x, y)),
         _ => None,
     }
 }
@@ -222,10 +178,10 @@ fn operation_in(machine: Machine, body: &[Token]) -> Option<Operation>
         [x, plus, y, then, one] => sum_and_one(
             machine,
             operand_of(*x),
-            *plus,
             operand_of(*y),
-            *then,
             operand_of(*one),
+            *plus,
+            *then,
         ),
         _ => None,
     }

@@ -3,10 +3,6 @@ ghost use Rattle.std.specs.Prelude.{List};
 ghost use Rattle.mic_words.specs.declared.machine.Machine.{Machine};
 ghost use Rattle.mal_tokens.specs.declared.token.Token.{Token};
 ghost use Rattle.mal_tokens.specs.declared.word.Word.{Word};
-ghost use Rattle.mal_line.specs.declared.chain.Tail.{Tail};
-ghost use Rattle.mal_line.specs.declared.operation.Operation.{Operation};
-ghost use Rattle.mal_line.specs.Expressions.{IsCoded, tail_with};
-ghost use Rattle.mal_line.specs.Table.{IsRow};
 ghost use Rattle.mal_line.specs.Chains.{dest_bits, LoadsNamed};
 ghost use Rattle.mal_line.specs.declared.content.Content.{Content};
 ghost use Rattle.mal_line.specs.Lines.{HasPart, SpellsLine};
@@ -23,10 +19,4 @@ pub fn reads_what_is_spelled()
 /// The bits of the named destinations load their registers, and no others.
 pub fn named_registers_are_loaded()
     ensures { (dests : List Word) → LoadsNamed (dest_bits 0 dests) dests }
-{}
-
-/// An expression has a coding exactly where it is a row of the table, and then a shift by 8 to the left, by 1 to the right, or none.
-pub fn each_coding_is_a_row()
-    ensures row { (m : Machine) (ts : List Token) (tail : Tail) (o : Operation) → IsCoded m ts tail o → IsRow m ts o }
-    ensures coded { (m : Machine) (ts : List Token) (o : Operation) → IsRow m ts o → IsCoded m ts (tail_with o.shift) o }
 {}

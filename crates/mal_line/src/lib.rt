@@ -14,6 +14,6 @@ mod tree;
 
 pub use chain::bit;
 pub use content::{Content, Parts};
-pub use laws::{each_coding_is_a_row, named_registers_are_loaded, reads_what_is_spelled};
+pub use laws::{named_registers_are_loaded, reads_what_is_spelled};
 pub use line::{LineFault, line_from};
 pub use next::Next;
