@@ -54,36 +54,30 @@ module _ (ds : List Draft) where
   drafts_least : (cs : List Content) (k : ℕ) → AtLeast k (unknown_draft ds (statements_from k cs))
   unfolding AtLeast
   drafts_least [] k = tt
-  drafts_least (said.Nothing ∷ cs) k = least_more k (unknown_draft ds (statements_from (k + 1) cs)) (drafts_least cs (k + 1))
-  drafts_least (said.Fix l n ∷ cs) k = least_more k (unknown_draft ds (statements_from (k + 1) cs)) (drafts_least cs (k + 1))
-  drafts_least (said.Fallback p ∷ cs) k = least_more k (unknown_draft ds (statements_from (k + 1) cs)) (drafts_least cs (k + 1))
   drafts_least (said.Statement l p ∷ cs) k =
       found_least (λ (d : Draft). d.line) k (not (knows ds p.next)) (record { label = l; line = k; parts = p }) (find (λ d. not (knows ds d.parts.next)) (statements_from (k + 1) cs)) (omega arith)
       (least_more k (unknown_draft ds (statements_from (k + 1) cs)) (drafts_least cs (k + 1)))
+  drafts_least (c ∷ cs) k = least_more k (unknown_draft ds (statements_from (k + 1) cs)) (drafts_least cs (k + 1))
 
   fixes_least : (cs : List Content) (k : ℕ) → AtLeast k (unknown_fix ds (fixes_from k cs))
   unfolding AtLeast
   fixes_least [] k = tt
-  fixes_least (said.Nothing ∷ cs) k = least_more k (unknown_fix ds (fixes_from (k + 1) cs)) (fixes_least cs (k + 1))
   fixes_least (said.Fix l n ∷ cs) k = go (address_of n) (least_more k (unknown_fix ds (fixes_from (k + 1) cs)) (fixes_least cs (k + 1)))
     where
       go : (o : Option ℕ) → AtLeast k (unknown_fix ds (fixes_from (k + 1) cs)) → AtLeast k (unknown_fix ds (cons_option (option_map {U = Fix} (λ address. record { label = l; line = k; address = address }) o) (fixes_from (k + 1) cs)))
       go None h = h
       go (Some a) h = found_least (λ (f : Fix). f.line) k (not (has_label ds l)) (record { label = l; line = k; address = a }) (find (λ f. not (has_label ds f.label)) (fixes_from (k + 1) cs)) (omega arith) h
-  fixes_least (said.Fallback p ∷ cs) k = least_more k (unknown_fix ds (fixes_from (k + 1) cs)) (fixes_least cs (k + 1))
-  fixes_least (said.Statement l p ∷ cs) k = least_more k (unknown_fix ds (fixes_from (k + 1) cs)) (fixes_least cs (k + 1))
+  fixes_least (c ∷ cs) k = least_more k (unknown_fix ds (fixes_from (k + 1) cs)) (fixes_least cs (k + 1))
 
   fallback_least : (cs : List Content) (k : ℕ) → AtLeast k (unknown_in ds (first (fallbacks_from k cs)))
   unfolding AtLeast
   fallback_least [] k = tt
-  fallback_least (said.Nothing ∷ cs) k = least_more k (unknown_in ds (first (fallbacks_from (k + 1) cs))) (fallback_least cs (k + 1))
-  fallback_least (said.Fix l n ∷ cs) k = least_more k (unknown_in ds (first (fallbacks_from (k + 1) cs))) (fallback_least cs (k + 1))
   fallback_least (said.Fallback p ∷ cs) k = go (knows ds p.next)
     where
       go : (b : Bool) → AtLeast k (cond b None (Some k))
       go true = tt
       go false = omega arith
-  fallback_least (said.Statement l p ∷ cs) k = least_more k (unknown_in ds (first (fallbacks_from (k + 1) cs))) (fallback_least cs (k + 1))
+  fallback_least (c ∷ cs) k = least_more k (unknown_in ds (first (fallbacks_from (k + 1) cs))) (fallback_least cs (k + 1))
 
   -- the line names a label that no statement has
   abbrev pub is_unknown : Content → Bool
@@ -242,10 +236,8 @@ is_filled (d ∷ ds) = true
 
 has_statement : (cs : List Content) (k : ℕ) → list_any is_statement cs ≡ is_filled (statements_from k cs)
 has_statement [] k = refl
-has_statement (said.Nothing ∷ cs) k = has_statement cs (k + 1)
-has_statement (said.Fix l n ∷ cs) k = has_statement cs (k + 1)
-has_statement (said.Fallback p ∷ cs) k = has_statement cs (k + 1)
 has_statement (said.Statement l p ∷ cs) k = refl
+has_statement (c ∷ cs) k = has_statement cs (k + 1)
 
 cond_least : (k : ℕ) (b : Bool) → AtLeast k (cond b (Some k) None)
 unfolding AtLeast
@@ -255,22 +247,18 @@ cond_least k false = tt
 last_least : (cs : List Content) (k : ℕ) → AtLeast k (falling (last_of (statements_from k cs)))
 unfolding AtLeast
 last_least [] k = tt
-last_least (said.Nothing ∷ cs) k = least_more k (falling (last_of (statements_from (k + 1) cs))) (last_least cs (k + 1))
-last_least (said.Fix l n ∷ cs) k = least_more k (falling (last_of (statements_from (k + 1) cs))) (last_least cs (k + 1))
-last_least (said.Fallback p ∷ cs) k = least_more k (falling (last_of (statements_from (k + 1) cs))) (last_least cs (k + 1))
 last_least (said.Statement l p ∷ cs) k = go (statements_from (k + 1) cs) (last_least cs (k + 1))
   where
     go : (ds : List Draft) → AtLeast (k + 1) (falling (last_of ds)) → AtLeast k (falling (last_of ((record { label = l; line = k; parts = p }) ∷ ds)))
     go [] h = cond_least k (falls p.next)
     go (e ∷ es) h = subst (λ o. AtLeast k (falling o)) (sym (last_more (record { label = l; line = k; parts = p }) e es)) (least_more k (falling (last_of (e ∷ es))) h)
+last_least (c ∷ cs) k = least_more k (falling (last_of (statements_from (k + 1) cs))) (last_least cs (k + 1))
 
 default_least : (cs : List Content) (k : ℕ) → AtLeast k (falling (first (fallbacks_from k cs)))
 unfolding AtLeast
 default_least [] k = tt
-default_least (said.Nothing ∷ cs) k = least_more k (falling (first (fallbacks_from (k + 1) cs))) (default_least cs (k + 1))
-default_least (said.Fix l n ∷ cs) k = least_more k (falling (first (fallbacks_from (k + 1) cs))) (default_least cs (k + 1))
 default_least (said.Fallback p ∷ cs) k = cond_least k (falls p.next)
-default_least (said.Statement l p ∷ cs) k = least_more k (falling (first (fallbacks_from (k + 1) cs))) (default_least cs (k + 1))
+default_least (c ∷ cs) k = least_more k (falling (first (fallbacks_from (k + 1) cs))) (default_least cs (k + 1))
 
 and_true : (b : Bool) → (b && true) ≡ b
 and_true true = refl

@@ -113,39 +113,23 @@ module _ (ds : List Draft) (fs : List Fix) (ss : List Statement) (distinct : Are
   knows_it : (next : Next (List ℕ)) (t : Next ℕ) → IsResolvedNext ss next t → knows ds next ≡ true
   knows_it nexts.Following t l = refl
   knows_it (nexts.Goto label) (nexts.Goto to) l = has_at ds to label (label_here to label l)
-  knows_it (nexts.Goto label) nexts.Following l = absurd l
-  knows_it (nexts.Goto label) (nexts.Dispatch h) l = absurd l
-  knows_it (nexts.Goto label) (nexts.Branch t a b) l = absurd l
   knows_it (nexts.Dispatch high) t l = refl
   knows_it (nexts.Branch test high low) (nexts.Branch t a b) l =
       let h = has_at ds a high (label_here a high l.1) in
       let k = has_at ds b low (label_here b low l.2) in
       rw (h, k) refl
-  knows_it (nexts.Branch test high low) nexts.Following l = absurd l
-  knows_it (nexts.Branch test high low) (nexts.Goto to) l = absurd l
-  knows_it (nexts.Branch test high low) (nexts.Dispatch h) l = absurd l
+  knows_it _ _ l = absurd l
 
   leads_there : (next : Next (List ℕ)) (t : Next ℕ) → IsResolvedNext ss next t → t ≡ resolved_next ds next
   leads_there nexts.Following nexts.Following l = refl
-  leads_there nexts.Following (nexts.Goto to) l = absurd l
-  leads_there nexts.Following (nexts.Dispatch h) l = absurd l
-  leads_there nexts.Following (nexts.Branch t a b) l = absurd l
   leads_there (nexts.Goto label) (nexts.Goto to) l = ap (λ n. nexts.Goto n) (target_at ds to label distinct (label_here to label l))
-  leads_there (nexts.Goto label) nexts.Following l = absurd l
-  leads_there (nexts.Goto label) (nexts.Dispatch h) l = absurd l
-  leads_there (nexts.Goto label) (nexts.Branch t a b) l = absurd l
   leads_there (nexts.Dispatch high) (nexts.Dispatch h) l = ap (λ b. nexts.Dispatch b) (sym l)
-  leads_there (nexts.Dispatch high) nexts.Following l = absurd l
-  leads_there (nexts.Dispatch high) (nexts.Goto to) l = absurd l
-  leads_there (nexts.Dispatch high) (nexts.Branch t a b) l = absurd l
   leads_there (nexts.Branch test high low) (nexts.Branch t a b) l =
       let e = l.0 in
       let f = target_at ds a high distinct (label_here a high l.1) in
       let g = target_at ds b low distinct (label_here b low l.2) in
       ap (λ x. nexts.Branch x a b) (sym e) ∙ (ap (λ n. nexts.Branch test n b) f ∙ ap (λ n. nexts.Branch test (target_number ds high) n) g)
-  leads_there (nexts.Branch test high low) nexts.Following l = absurd l
-  leads_there (nexts.Branch test high low) (nexts.Goto to) l = absurd l
-  leads_there (nexts.Branch test high low) (nexts.Dispatch h) l = absurd l
+  leads_there _ _ l = absurd l
 
   statement_there : (d : Draft) (s : Statement) → IsResolved ss fs d s → s ≡ resolved ds fs d
   statement_there d s r = one s.label d.label s.line d.line s.part d.parts.part s.next (resolved_next ds d.parts.next) s.fixed (fixed_of fs d.label) r.label r.line r.part (leads_there d.parts.next s.next r.next) (fixed_there fs d.label s.fixed once r.fixed)

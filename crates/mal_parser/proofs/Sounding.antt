@@ -19,21 +19,17 @@ module _ (laws : ReadsLines) (m : Machine) where
   drafts [] [] k say = All-nil (IsDraft m)
   drafts [] (c ∷ cs) k say = absurd say
   drafts (l ∷ ls) [] k say = absurd say
-  drafts (l ∷ ls) (said.Nothing ∷ cs) k say = drafts ls cs (k + 1) say.1
-  drafts (l ∷ ls) (said.Fix label number ∷ cs) k say = drafts ls cs (k + 1) say.1
-  drafts (l ∷ ls) (said.Fallback parts ∷ cs) k say = drafts ls cs (k + 1) say.1
   drafts (l ∷ ls) (said.Statement label parts ∷ cs) k say =
       All-cons (IsDraft m) (record { label = label; line = k; parts = parts }) (statements_from (k + 1) cs)
       (record { part = laws.stands m say.0.sequence (said.Statement label parts) say.0.means; label = free_label m l label parts say.0 }) (drafts ls cs (k + 1) say.1)
+  drafts (l ∷ ls) (c ∷ cs) k say = drafts ls cs (k + 1) say.1
 
   fallback : (ls : List (List ℕ)) (cs : List Content) (k : ℕ) → SayAll (grammar m) ls cs → IfSome (first (fallbacks_from k cs)) (λ d. IsDraft m d × (d.label ≡ None))
   fallback [] [] k say = tt
   fallback [] (c ∷ cs) k say = absurd say
   fallback (l ∷ ls) [] k say = absurd say
-  fallback (l ∷ ls) (said.Nothing ∷ cs) k say = fallback ls cs (k + 1) say.1
-  fallback (l ∷ ls) (said.Fix label number ∷ cs) k say = fallback ls cs (k + 1) say.1
   fallback (l ∷ ls) (said.Fallback parts ∷ cs) k say = (record { part = laws.stands m say.0.sequence (said.Fallback parts) say.0.means; label = tt }, refl)
-  fallback (l ∷ ls) (said.Statement label parts ∷ cs) k say = fallback ls cs (k + 1) say.1
+  fallback (l ∷ ls) (c ∷ cs) k say = fallback ls cs (k + 1) say.1
 
 below : (number : ℤ) (a : ℕ) → address_of number ≡ Some a → a < 512
 below (negsuc n) a h = absurd (cc)
@@ -45,15 +41,13 @@ below (pos n) a h = go (nat_lt n 512) refl h
 
 addresses : (cs : List Content) (k : ℕ) → All (λ f. f.address < 512) (fixes_from k cs)
 addresses [] k = All-nil (λ (f : Fix). f.address < 512)
-addresses (said.Nothing ∷ cs) k = addresses cs (k + 1)
 addresses (said.Fix label number ∷ cs) k = go (address_of number) refl (addresses cs (k + 1))
   where
     go : (o : Option ℕ) → address_of number ≡ o → All (λ (f : Fix). f.address < 512) (fixes_from (k + 1) cs)
         → All (λ (f : Fix). f.address < 512) (cons_option (option_map {U = Fix} (λ address. record { label = label; line = k; address = address }) o) (fixes_from (k + 1) cs))
     go None e rest = rest
     go (Some a) e rest = All-cons (λ (f : Fix). f.address < 512) (record { label = label; line = k; address = a }) (fixes_from (k + 1) cs) (below number a e) rest
-addresses (said.Fallback parts ∷ cs) k = addresses cs (k + 1)
-addresses (said.Statement label parts ∷ cs) k = addresses cs (k + 1)
+addresses (c ∷ cs) k = addresses cs (k + 1)
 
 pub sound : ReadsLines → (m : Machine) (ls : List (List ℕ)) (cs : List Content) → SayAll (grammar m) ls cs → IsFine cs → IsSound (sketch_of m cs)
 sound laws m ls cs say fine = record {
