@@ -93,12 +93,13 @@ next_again m x body (inl e) = ap (operation_in m) e ∙ form_inc m x
 next_again m x body (inr s) = ap (operation_in m) (only s) ∙ form_more m x
 
 -- the sides in order, or exchanged
-first_again : (m : Machine) (op : AluOp) (x y : BusSource) (body : List Token) → Commutes op → may_be_a m x ≡ true → body ≡ spelling op (side (Some x)) (side (Some y))
-    → operation_in m body ≡ Some (work op (Some x) (Some y))
+first_again : (m : Machine) (op : AluOp) (x y : BusSource) (body : List Token) → Commutes op → may_be_a m x ≡ true
+    → body ≡ spelling op (side (Some x)) (side (Some y)) → operation_in m body ≡ Some (work op (Some x) (Some y))
 first_again m op x y body c f e = ap (operation_in m) e ∙ (form_both m op x y c ∙ ap Some (in_order m op x y f))
 
 either_again : (op : AluOp) (x y : BusSource) (body : List Token) → Commutes op → may_be_a Mic1 x ≡ true → may_be_b Mic1 y ≡ true
-    → IsOneOf body (spelling op (side (Some x)) (side (Some y)) ∷ spelling op (side (Some y)) (side (Some x)) ∷ []) → operation_in Mic1 body ≡ Some (work op (Some x) (Some y))
+    → IsOneOf body (spelling op (side (Some x)) (side (Some y)) ∷ spelling op (side (Some y)) (side (Some x)) ∷ [])
+    → operation_in Mic1 body ≡ Some (work op (Some x) (Some y))
 either_again op x y body c f g (inl e) = first_again Mic1 op x y body c f e
 either_again op x y body c f g (inr s) = ap (operation_in Mic1) (only s) ∙ (form_both Mic1 op y x c ∙ ap Some (out_of_order op x y g))
 

@@ -69,7 +69,8 @@ no_chain m t [] d = refl
 no_chain m t (u ∷ rest) d = let k = d u in rw k refl
 
 -- what begins with such a token is no statement
-no_tree : (m : Machine) (t : Token) (rest : List Token) → is_semicolon t ≡ false → ((p : List Token) → piece_of m (t ∷ p) ≡ option_map (λ a. found.Assign a) (chain_at m false 0 (t ∷ p)))
+no_tree : (m : Machine) (t : Token) (rest : List Token) → is_semicolon t ≡ false
+    → ((p : List Token) → piece_of m (t ∷ p) ≡ option_map (λ a. found.Assign a) (chain_at m false 0 (t ∷ p)))
     → ((u : Token) → dest_of t u ≡ None) → tree_of m (t ∷ rest) ≡ None
 unfolding adds
 no_tree m t rest s h d = rw s (go (pieces rest))

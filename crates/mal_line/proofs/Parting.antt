@@ -11,14 +11,18 @@ use Rattle.mal_tokens.specs.declared.token.Token.{Token}
 use Rattle.mal_line.specs.declared.chain.Assignment.{Assignment}
 use Rattle.mal_line.specs.declared.piece.Piece.{Piece}
 use Rattle.mal_line.specs.declared.piece.Piece.TheVariants as found
-use Rattle.mal_line.specs.declared.tree.Jump.{Jump}
-use Rattle.mal_line.specs.declared.tree.Jump.TheVariants as jumps
+use Rattle.mal_line.specs.declared.next.Next.{Next}
+use Rattle.mal_line.specs.declared.next.Next.TheVariants as nexts
 use Rattle.mal_line.specs.declared.tree.Tree.{Tree}
 use Rattle.mal_line.specs.declared.gathering.PendingIf.{PendingIf}
 use Rattle.mal_line.specs.declared.gathering.Gathered.{Gathered}
-use Rattle.mal_line.specs.Statements.{AreNothing, AreParts, AreTree, assign, assignments, counted, fetch_count, fetches, IsElse, IsIf, IsJumpLast, IsMem, jump, jumps_of, Kind, listed, listed_mem, memories, memory, nothing, pieces}
+use Rattle.mal_line.specs.Statements.{AreNothing, AreParts, AreTree, assign, assignments, counted, fetch_count, fetches, IsElse, IsGoto, IsIf, IsJumpLast, IsMem, jump, jumps_of, Kind, listed, listed_mem, memories, memory, nothing, pieces}
 use Rattle.mal_line.specs.Reading.{add, add_behind, add_by, add_else, add_free, add_tokens, adds, empty, gathered_jump, is_access, piece_of, tree_of}
 use Rattle.mal_line.proofs.Piecing.{IsPiece, piece_again, piece_is}
+
+-- where a statement says that it goes next
+abbrev Jump : Type 0
+Jump = Option (Next (List ℕ))
 
 -- no `if` waits
 at : Tree → Gathered
@@ -180,22 +184,19 @@ go_one m j p ps adding rec s t x xs is are b = step s.next refl b.last
 
 go_jump : (m : Machine) (j : Jump) (ps : List Kind) → Goal m ps → Goal m (jump j ∷ ps)
 unfolding Goal at LastAfter
-go_jump m (jumps.Goto n) ps rec s t [] are b = absurd are
-go_jump m (jumps.Dispatch h) ps rec s t [] are b = absurd are
-go_jump m (jumps.Branch f y n) ps rec s t [] are b = absurd are
-go_jump m (jumps.Goto n) ps rec s t (x ∷ xs) are b = go_one m (jumps.Goto n) (found.Goto n) ps (λ s. refl) rec s t x xs are.0 are.1 b
-go_jump m (jumps.Dispatch h) ps rec s t (x ∷ xs) are b = go_one m (jumps.Dispatch h) (found.Dispatch h) ps (λ s. refl) rec s t x xs are.0 are.1 b
-go_jump m (jumps.Branch f y n) ps rec s t (x ∷ []) are b = absurd are
-go_jump m (jumps.Branch f y n) ps rec s t (x ∷ x2 ∷ xs) are b = step s.next refl b.last
+go_jump m j ps rec s t [] are b = absurd are
+go_jump m (Some (nexts.Branch f y n)) ps rec s t (x ∷ []) are b = absurd are
+go_jump m (Some (nexts.Branch f y n)) ps rec s t (x ∷ x2 ∷ xs) are b = step s.next refl b.last
   where
-    step : (o : Option Jump) → s.next ≡ o → LastAfter o (jump (jumps.Branch f y n) ∷ ps) → adds m (at s) (x ∷ x2 ∷ xs) ≡ Some t
+    step : (o : Option Jump) → s.next ≡ o → LastAfter o (jump (Some (nexts.Branch f y n)) ∷ ps) → adds m (at s) (x ∷ x2 ∷ xs) ≡ Some t
     step (Some o) e l = absurd l
     step None e l =
         let u : Gathered = record { tree = s; waiting = Some (record { test = f; high = y }) } in
-        let v : Tree = record s { next = Some (jumps.Branch f y n) } in
+        let v : Tree = record s { next = Some (Some (nexts.Branch f y n)) } in
         let k : add (at s) (found.If f y) ≡ Some u = ap (λ o. add_by s None o (found.If f y)) e in
         adds_one m (at s) u (found.If f y) x (x2 ∷ xs) are.0 k ∙ (adds_one m u (at v) (found.Else n) x2 xs are.1 refl
-        ∙ rec v t xs are.2 (went s t (jumps.Branch f y n) ps e l b))
+        ∙ rec v t xs are.2 (went s t (Some (nexts.Branch f y n)) ps e l b))
+go_jump m j ps rec s t (x ∷ xs) are b = go_one m j (found.Jump j) ps (λ s. refl) rec s t x xs are.0 are.1 b
 
 all_again : (m : Machine) (ps : List Kind) → Goal m ps
 all_again m [] = go_end m
@@ -224,7 +225,7 @@ Rest m xs = (s t : Tree) → adds m (at s) xs ≡ Some t → Found m s xs t
 -- after an `if`
 Fork : Machine → List (List Token) → Type 0
 Fork m xs = (h : PendingIf) (u t : Tree) → adds m (record { tree = u; waiting = Some h }) xs ≡ Some t
-    → (n : List ℕ) × (x2 : List Token) × (xs2 : List (List Token)) × (xs ≡ x2 ∷ xs2) × IsElse x2 n × Found m (record u { next = Some (jumps.Branch h.test h.high n) }) xs2 t
+    → (n : List ℕ) × (x2 : List Token) × (xs2 : List (List Token)) × (xs ≡ x2 ∷ xs2) × IsElse x2 n × Found m (record u { next = Some (Some (nexts.Branch h.test h.high n)) }) xs2 t
 
 same_becomes : (s : Tree) → Becomes s [] s
 unfolding LastAfter
@@ -250,10 +251,16 @@ jumped s t j ps e b = record {
 }
 
 forked : (m : Machine) (x x2 : List Token) (xs xs2 : List (List Token)) (s t : Tree) (f : Test) (y n : List ℕ) → xs ≡ x2 ∷ xs2 → IsIf x f y → IsElse x2 n → s.next ≡ None
-    → Found m (record s { next = Some (jumps.Branch f y n) }) xs2 t → Found m s (x ∷ xs) t
+    → Found m (record s { next = Some (Some (nexts.Branch f y n)) }) xs2 t → Found m s (x ∷ xs) t
 unfolding Found
 forked m x x2 xs xs2 s t f y n split is_if is_else e r =
-    (jump (jumps.Branch f y n) ∷ r.0, subst (λ zs. AreParts m (x ∷ zs) (jump (jumps.Branch f y n) ∷ r.0)) (sym split) (is_if, is_else, r.1), jumped s t (jumps.Branch f y n) r.0 e r.2)
+    (jump (Some (nexts.Branch f y n)) ∷ r.0, subst (λ zs. AreParts m (x ∷ zs) (jump (Some (nexts.Branch f y n)) ∷ r.0)) (sym split) (is_if, is_else, r.1), jumped s t (Some (nexts.Branch f y n)) r.0 e r.2)
+
+-- a jump of one piece
+one_part : (m : Machine) (x : List Token) (xs : List (List Token)) (j : Jump) (ps : List Kind) → IsGoto x j → AreParts m xs ps
+    → AreParts m (x ∷ xs) (jump j ∷ ps)
+one_part m x xs (Some (nexts.Branch f y n)) ps is are = absurd is
+one_part m x xs j ps is are = (is, are)
 
 free_is : (m : Machine) (x : List Token) (xs : List (List Token)) (s t : Tree) (v : Gathered) (p : Piece) → s.next ≡ None → IsPiece m p x → add_free s p ≡ Some v → adds m v xs ≡ Some t → Rest m xs → Fork m xs → Found m s (x ∷ xs) t
 unfolding Rest Fork Found at LastAfter
@@ -319,14 +326,10 @@ free_is m x xs s t v found.Fetch e is h k rest pair = step s.fetch refl h
             last = subst (λ o. LastAfter o (fetches ∷ r.0)) (sym e) (subst (λ o. LastAfter o r.0) e r.2.last);
           },
         )
-free_is m x xs s t v (found.Goto n) e is h k rest pair =
-    let same : at (record s { next = Some (jumps.Goto n) }) ≡ v = cc in
-    let r = rest (record s { next = Some (jumps.Goto n) }) t (subst (λ w. adds m w xs ≡ Some t) (sym same) k) in
-    (jump (jumps.Goto n) ∷ r.0, (is, r.1), jumped s t (jumps.Goto n) r.0 e r.2)
-free_is m x xs s t v (found.Dispatch n) e is h k rest pair =
-    let same : at (record s { next = Some (jumps.Dispatch n) }) ≡ v = cc in
-    let r = rest (record s { next = Some (jumps.Dispatch n) }) t (subst (λ w. adds m w xs ≡ Some t) (sym same) k) in
-    (jump (jumps.Dispatch n) ∷ r.0, (is, r.1), jumped s t (jumps.Dispatch n) r.0 e r.2)
+free_is m x xs s t v (found.Jump j) e is h k rest pair =
+    let same : at (record s { next = Some j }) ≡ v = cc in
+    let r = rest (record s { next = Some j }) t (subst (λ w. adds m w xs ≡ Some t) (sym same) k) in
+    (jump j ∷ r.0, one_part m x xs j r.0 is r.1, jumped s t j r.0 e r.2)
 free_is m x xs s t v (found.If f y) e is h k rest pair =
     let half : PendingIf = record { test = f; high = y } in
     let same : ◌≡◌ {A = Gathered} (record { tree = s; waiting = Some half }) v = cc in
@@ -349,7 +352,7 @@ first_is m x xs s t v p is h k rest pair = step s.next refl h
     step None e h = free_is m x xs s t v p e is h k rest pair
     step (Some n) e h = behind n p e is h
 
-else_is : (u : Tree) (h : PendingIf) (p : Piece) (v : Gathered) → add_else u h p ≡ Some v → (n : List ℕ) × (p ≡ found.Else n) × (gathered_jump u (jumps.Branch h.test h.high n) ≡ v)
+else_is : (u : Tree) (h : PendingIf) (p : Piece) (v : Gathered) → add_else u h p ≡ Some v → (n : List ℕ) × (p ≡ found.Else n) × (gathered_jump u (Some (nexts.Branch h.test h.high n)) ≡ v)
 else_is u h (found.Else n) v e = (n, refl, cc)
 else_is u h _ v e = absurd (cc)
 
@@ -369,8 +372,8 @@ all_is m (x ∷ xs) = go (all_is m xs)
           let p = bound (λ t. adds m t xs) (add_tokens m w x) t e in
           let q = bound (add w) (piece_of m x) p.0 p.1 in
           let z = else_is u h q.0 p.0 q.2 in
-          let k : adds m (gathered_jump u (jumps.Branch h.test h.high z.0)) xs ≡ Some t = subst (λ o. adds m o xs ≡ Some t) (sym z.2) p.2 in
-          (z.0, x, xs, refl, subst (λ b. IsPiece m b x) z.1 (piece_is m x q.0 q.1), r.0 (record u { next = Some (jumps.Branch h.test h.high z.0) }) t k),
+          let k : adds m (gathered_jump u (Some (nexts.Branch h.test h.high z.0))) xs ≡ Some t = subst (λ o. adds m o xs ≡ Some t) (sym z.2) p.2 in
+          (z.0, x, xs, refl, subst (λ b. IsPiece m b x) z.1 (piece_is m x q.0 q.1), r.0 (record u { next = Some (Some (nexts.Branch h.test h.high z.0)) }) t k),
     )
 
 plus_zero : (n : ℕ) (b : Bool) → 0 + n ≡ counted b → n ≡ counted b

@@ -17,10 +17,12 @@ use Rattle.mal_tokens.specs.declared.token.Token.TheVariants as tokens
 use Rattle.mal_line.specs.declared.chain.Assignment.{Assignment}
 use Rattle.mal_line.specs.declared.piece.Piece.{Piece}
 use Rattle.mal_line.specs.declared.piece.Piece.TheVariants as found
+use Rattle.mal_line.specs.declared.next.Next.{Next}
+use Rattle.mal_line.specs.declared.next.Next.TheVariants as nexts
 use Rattle.mal_line.specs.Chains.{dest_tokens, is_dest, is_filled, IsAssignment, tail_tokens}
 use Rattle.mal_line.specs.Lookup.{is_number}
-use Rattle.mal_line.specs.Statements.{is_byte_word, IsDispatch, IsElse, IsFetch, IsGoto, IsIf, IsMem, test_word}
-use Rattle.mal_line.specs.Reading.{chain_at, dispatch, else_of, goto_of, high_of, if_of, piece_of, test_of}
+use Rattle.mal_line.specs.Statements.{is_byte_word, IsElse, IsFetch, IsGoto, IsIf, IsMem, test_word}
+use Rattle.mal_line.specs.Reading.{by_offset, chain_at, dispatch, else_of, goto_of, if_of, piece_of, test_of}
 use Rattle.mal_line.proofs.Codings.{number_is}
 use Rattle.mal_line.proofs.Chaining.{chain_again, chain_is}
 
@@ -30,8 +32,7 @@ IsPiece m found.Nothing ts = ts ≡ []
 IsPiece m (found.Assign a) ts = IsAssignment m ts a
 IsPiece m (found.Mem x) ts = IsMem ts x
 IsPiece m found.Fetch ts = IsFetch ts
-IsPiece m (found.Goto n) ts = IsGoto ts n
-IsPiece m (found.Dispatch high) ts = IsDispatch ts high
+IsPiece m (found.Jump j) ts = IsGoto ts j
 IsPiece m (found.If t n) ts = IsIf ts t n
 IsPiece m (found.Else n) ts = IsElse ts n
 
@@ -50,28 +51,32 @@ none_no x h = cc
 same : (m : Machine) (ts : List Token) (p q : Piece) → IsPiece m p ts → Some p ≡ Some q → IsPiece m q ts
 same m ts p q is h = let e : p ≡ q = cc in subst (λ p. IsPiece m p ts) e is
 
-dispatch_is : (m : Machine) (ts : List Token) (w : Word) (high : Option Bool) (p : Piece) → dispatch w high ≡ Some p → (is_byte_word w ≡ true → IsDispatch ts high) → IsPiece m p ts
-dispatch_is m ts w high p h is = elim (chosen (is_byte_word w) (Some (found.Dispatch high)) None (Some p) h) [
-  | inl z ↦ same m ts (found.Dispatch high) p (is z.0) z.1
+dispatch_is : (m : Machine) (ts : List Token) (w : Word) (j : Option (Next (List ℕ))) (p : Piece) → dispatch w j ≡ Some p
+    → (is_byte_word w ≡ true → IsGoto ts j) → IsPiece m p ts
+dispatch_is m ts w j p h is = elim (chosen (is_byte_word w) (Some (found.Jump j)) None (Some p) h) [
+  | inl z ↦ same m ts (found.Jump j) p (is z.0) z.1
   | inr z ↦ absurd (none_no p z.1)
 ]
+
+abbrev byte_tokens : Word → List Token
+byte_tokens w = tokens.Word words.Goto ∷ tokens.Sign signs.Open ∷ tokens.Word w ∷ tokens.Sign signs.Close ∷ []
 
 abbrev or_tokens : Word → ℤ → List Token
 or_tokens w v = tokens.Word words.Goto ∷ tokens.Sign signs.Open ∷ tokens.Word w ∷ tokens.Word words.Or ∷ tokens.Number v ∷ tokens.Sign signs.Close ∷ []
 
-offset_is : (w : Word) (v : ℤ) → is_byte_word w ≡ true → IsDispatch (or_tokens w v) (high_of v)
+offset_is : (w : Word) (v : ℤ) → is_byte_word w ≡ true → IsGoto (or_tokens w v) (by_offset v)
 offset_is w v b = go (is_number v 256) refl
   where
-    go : (x : Bool) → is_number v 256 ≡ x → IsDispatch (or_tokens w v) (cond x (Some true) None)
+    go : (x : Bool) → is_number v 256 ≡ x → IsGoto (or_tokens w v) (cond x (Some (nexts.Dispatch true)) None)
     go true e = (w, b, ap (or_tokens w) (number_is v 256 e))
     go false e = (w, v, b, (λ h. let k : is_number v 256 ≡ true = rw h refl in cc), refl)
 
 goto_piece : (m : Machine) (rest : List Token) (p : Piece) → goto_of rest ≡ Some p → IsPiece m p (tokens.Word words.Goto ∷ rest)
-goto_piece m (tokens.Name l ∷ []) p h = same m (tokens.Word words.Goto ∷ tokens.Name l ∷ []) (found.Goto l) p refl h
+goto_piece m (tokens.Name l ∷ []) p h = same m (tokens.Word words.Goto ∷ tokens.Name l ∷ []) (found.Jump (Some (nexts.Goto l))) p refl h
 goto_piece m (tokens.Sign signs.Open ∷ tokens.Word w ∷ tokens.Sign signs.Close ∷ []) p h =
-    dispatch_is m (tokens.Word words.Goto ∷ tokens.Sign signs.Open ∷ tokens.Word w ∷ tokens.Sign signs.Close ∷ []) w (Some false) p h (λ b. (w, b, refl))
+    dispatch_is m (byte_tokens w) w (Some (nexts.Dispatch false)) p h (λ b. (w, b, refl))
 goto_piece m (tokens.Sign signs.Open ∷ tokens.Word w ∷ tokens.Word words.Or ∷ tokens.Number v ∷ tokens.Sign signs.Close ∷ []) p h =
-    dispatch_is m (or_tokens w v) w (high_of v) p h (offset_is w v)
+    dispatch_is m (or_tokens w v) w (by_offset v) p h (offset_is w v)
 goto_piece m _ p h = absurd (none_no p h)
 
 test_is : (w : Word) (t : Test) → test_of w ≡ Some t → w ≡ test_word t
@@ -89,7 +94,8 @@ if_piece m (tokens.Sign signs.Open ∷ tokens.Word w ∷ tokens.Sign signs.Close
 if_piece m _ p h = absurd (none_no p h)
 
 else_piece : (m : Machine) (rest : List Token) (p : Piece) → else_of rest ≡ Some p → IsPiece m p (tokens.Word words.Else ∷ rest)
-else_piece m (tokens.Word words.Goto ∷ tokens.Name l ∷ []) p h = same m (tokens.Word words.Else ∷ tokens.Word words.Goto ∷ tokens.Name l ∷ []) (found.Else l) p refl h
+else_piece m (tokens.Word words.Goto ∷ tokens.Name l ∷ []) p h =
+    same m (tokens.Word words.Else ∷ tokens.Word words.Goto ∷ tokens.Name l ∷ []) (found.Else l) p refl h
 else_piece m _ p h = absurd (none_no p h)
 
 pub piece_is : (m : Machine) (ts : List Token) (p : Piece) → piece_of m ts ≡ Some p → IsPiece m p ts
@@ -104,8 +110,12 @@ piece_is m ts p h = let q = mapped (λ a. found.Assign a) (chain_at m false 0 ts
 
 -- ---- what is spelled is read
 
-dest_piece : (m : Machine) (w : Word) (rest : List Token) → is_dest w ≡ true → piece_of m (tokens.Word w ∷ rest) ≡ option_map (λ a. found.Assign a) (chain_at m false 0 (tokens.Word w ∷ rest))
-dest_piece m w rest = elim w as (λ w. is_dest w ≡ true → piece_of m (tokens.Word w ∷ rest) ≡ option_map (λ a. found.Assign a) (chain_at m false 0 (tokens.Word w ∷ rest))) [
+-- the tokens are read as an assignment
+abbrev IsReadAsChain : Machine → List Token → Type 0
+IsReadAsChain m ts = piece_of m ts ≡ option_map (λ a. found.Assign a) (chain_at m false 0 ts)
+
+dest_piece : (m : Machine) (w : Word) (rest : List Token) → is_dest w ≡ true → IsReadAsChain m (tokens.Word w ∷ rest)
+dest_piece m w rest = elim w as (λ w. is_dest w ≡ true → IsReadAsChain m (tokens.Word w ∷ rest)) [
   | words.Rd ↦ λ h. absurd (cc)
   | words.Wr ↦ λ h. absurd (cc)
   | words.Fetch ↦ λ h. absurd (cc)
@@ -131,10 +141,12 @@ mem_again m ts mems.None is = absurd is
 mem_again m ts mems.Read is = ap (piece_of m) is
 mem_again m ts mems.Write is = ap (piece_of m) is
 
-dispatch_again : (m : Machine) (ts : List Token) (high : Option Bool) → IsDispatch ts high → piece_of m ts ≡ Some (found.Dispatch high)
-dispatch_again m ts (Some false) (w, b, e) = rw (e, b) refl
-dispatch_again m ts (Some true) (w, b, e) = rw (e, b) refl
-dispatch_again m ts None (w, v, b, ne, e) = let k = number_not v ne in rw (e, b, k) refl
+goto_again : (m : Machine) (ts : List Token) (j : Option (Next (List ℕ))) → IsGoto ts j → piece_of m ts ≡ Some (found.Jump j)
+goto_again m ts (Some (nexts.Goto label)) is = ap (piece_of m) is
+goto_again m ts (Some (nexts.Dispatch false)) (w, b, e) = rw (e, b) refl
+goto_again m ts (Some (nexts.Dispatch true)) (w, b, e) = rw (e, b) refl
+goto_again m ts None (w, v, b, ne, e) = let k = number_not v ne in rw (e, b, k) refl
+goto_again m ts _ is = absurd is
 
 if_again : (m : Machine) (ts : List Token) (t : Test) (n : List ℕ) → IsIf ts t n → piece_of m ts ≡ Some (found.If t n)
 if_again m ts tests.N n is = ap (piece_of m) is
@@ -143,6 +155,6 @@ if_again m ts tests.Z n is = ap (piece_of m) is
 pub piece_again : (m : Machine) (ts : List Token) (p : Piece) → IsPiece m p ts → piece_of m ts ≡ Some p
 piece_again m ts (found.Assign a) is = assign_again m ts a is
 piece_again m ts (found.Mem x) is = mem_again m ts x is
-piece_again m ts (found.Dispatch high) is = dispatch_again m ts high is
+piece_again m ts (found.Jump j) is = goto_again m ts j is
 piece_again m ts (found.If t n) is = if_again m ts t n is
 piece_again m ts _ is = ap (piece_of m) is

@@ -15,7 +15,6 @@ use Rattle.mal_tokens.specs.declared.token.Token.{Token}
 use Rattle.mal_tokens.specs.declared.token.Token.TheVariants as tokens
 use Rattle.mal_line.specs.declared.operation.Operation.{Operation}
 use Rattle.mal_line.specs.declared.chain.Assignment.{Assignment}
-use Rattle.mal_line.specs.declared.tree.Jump.TheVariants as jumps
 use Rattle.mal_line.specs.declared.tree.Tree.{Tree}
 use Rattle.mal_line.specs.declared.content.Content.{Content}
 use Rattle.mal_line.specs.declared.content.Content.TheVariants as contents
@@ -23,9 +22,10 @@ use Rattle.mal_line.specs.declared.content.Parts.{Parts}
 use Rattle.mal_line.specs.declared.line.Form.{Form}
 use Rattle.mal_line.specs.declared.line.Form.TheVariants as forms
 use Rattle.mal_line.specs.declared.next.Next.{Next}
+use Rattle.mal_line.specs.declared.next.Next.TheVariants as nexts
 use Rattle.mal_line.specs.Expressions.{fits, part_with}
 use Rattle.mal_line.specs.Chains.{HasCoding, IsAssignment}
-use Rattle.mal_line.specs.Statements.{AreParts, AreTree, assign, assignments, counted, fetch_count, fetches, is_semicolon, jump, Kind, listed, memory, nothing, pieces}
+use Rattle.mal_line.specs.Statements.{AreParts, AreTree, assign, assignments, counted, fetch_count, fetches, is_semicolon, jump, Kind, listed, pieces}
 use Rattle.mal_line.specs.Lines.{content_of, HasPart, is_foreign, IsForm, names_foreign, next_by_jump, part_by, part_of, parts_by, parts_of, SpellsLine, with_access}
 use Rattle.mal_line.proofs.Codings.{six_parts}
 use Rattle.mal_line.proofs.Destinations.{dest_bits-lt}
@@ -53,23 +53,20 @@ own_parts : (a : Bool) (b : Bool) → (not a && b) ≡ true → (a ≡ false) ×
 own_parts true b h = absurd (cc)
 own_parts false b h = (refl, h)
 
+own_rest : (x : List Token) (xs : List (List Token)) → Own (is_foreign Mic2) (x ∷ xs) → (list_any (is_foreign Mic2) x ≡ false) × Own (is_foreign Mic2) xs
+own_rest x xs o = own_parts (list_any (is_foreign Mic2) x) (list_all (λ x. not (list_any (is_foreign Mic2) x)) xs) o
+
 -- on Mic-2 no part is a fetch
 no_fetch : (m : Machine) (xs : List (List Token)) (ps : List Kind) → Own (is_foreign Mic2) xs → AreParts m xs ps → fetch_count ps ≡ 0
 no_fetch m xs [] o are = refl
 no_fetch m [] (p ∷ ps) o are = absurd are
-no_fetch m (x ∷ xs) (nothing ∷ ps) o are = no_fetch m xs ps (own_parts (list_any (is_foreign Mic2) x) (list_all (λ x. not (list_any (is_foreign Mic2) x)) xs) o).1 are.1
-no_fetch m (x ∷ xs) (assign a ∷ ps) o are = no_fetch m xs ps (own_parts (list_any (is_foreign Mic2) x) (list_all (λ x. not (list_any (is_foreign Mic2) x)) xs) o).1 are.1
-no_fetch m (x ∷ xs) (memory a ∷ ps) o are = no_fetch m xs ps (own_parts (list_any (is_foreign Mic2) x) (list_all (λ x. not (list_any (is_foreign Mic2) x)) xs) o).1 are.1
 no_fetch m (x ∷ xs) (fetches ∷ ps) o are =
-    let q = own_parts (list_any (is_foreign Mic2) x) (list_all (λ x. not (list_any (is_foreign Mic2) x)) xs) o in
+    let q = own_rest x xs o in
     let k : list_any (is_foreign Mic2) x ≡ true = ap (list_any (is_foreign Mic2)) are.0 in
     absurd (let z = q.0 in cc)
-no_fetch m (x ∷ xs) (jump (jumps.Goto n) ∷ ps) o are = no_fetch m xs ps (own_parts (list_any (is_foreign Mic2) x) (list_all (λ x. not (list_any (is_foreign Mic2) x)) xs) o).1 are.1
-no_fetch m (x ∷ xs) (jump (jumps.Dispatch h) ∷ ps) o are = no_fetch m xs ps (own_parts (list_any (is_foreign Mic2) x) (list_all (λ x. not (list_any (is_foreign Mic2) x)) xs) o).1 are.1
-no_fetch m (x ∷ []) (jump (jumps.Branch f y n) ∷ ps) o are = absurd are
-no_fetch m (x ∷ x2 ∷ xs) (jump (jumps.Branch f y n) ∷ ps) o are =
-    let q = own_parts (list_any (is_foreign Mic2) x) (list_all (λ x. not (list_any (is_foreign Mic2) x)) (x2 ∷ xs)) o in
-    no_fetch m xs ps (own_parts (list_any (is_foreign Mic2) x2) (list_all (λ x. not (list_any (is_foreign Mic2) x)) xs) q.1).1 are.2
+no_fetch m (x ∷ []) (jump (Some (nexts.Branch f y n)) ∷ ps) o are = absurd are
+no_fetch m (x ∷ x2 ∷ xs) (jump (Some (nexts.Branch f y n)) ∷ ps) o are = no_fetch m xs ps (own_rest x2 xs (own_rest x (x2 ∷ xs) o).1).1 are.2
+no_fetch m (x ∷ xs) (p ∷ ps) o are = no_fetch m xs ps (own_rest x xs o).1 are.1
 
 may : (m : Machine) (ts : List Token) (t : Tree) → AreTree m ts t → names_foreign m ts ≡ false → may_fetch m t.fetch ≡ true
 may Mic1 ts t a own = refl
@@ -85,14 +82,10 @@ may Mic2 ts t a own = go t.fetch (sym (no_fetch Mic2 (pieces ts) a.parts (pieces
 some_assign : (m : Machine) (xs : List (List Token)) (ps : List Kind) (a : Assignment) → AreParts m xs ps → assignments ps ≡ a ∷ [] → (x : List Token) × IsAssignment m x a
 some_assign m xs [] a are h = absurd (cc)
 some_assign m [] (p ∷ ps) a are h = absurd are
-some_assign m (x ∷ xs) (nothing ∷ ps) a are h = some_assign m xs ps a are.1 h
 some_assign m (x ∷ xs) (assign b ∷ ps) a are h = let e : b ≡ a = cc in (x, subst (IsAssignment m x) e are.0)
-some_assign m (x ∷ xs) (memory b ∷ ps) a are h = some_assign m xs ps a are.1 h
-some_assign m (x ∷ xs) (fetches ∷ ps) a are h = some_assign m xs ps a are.1 h
-some_assign m (x ∷ xs) (jump (jumps.Goto n) ∷ ps) a are h = some_assign m xs ps a are.1 h
-some_assign m (x ∷ xs) (jump (jumps.Dispatch d) ∷ ps) a are h = some_assign m xs ps a are.1 h
-some_assign m (x ∷ []) (jump (jumps.Branch f y n) ∷ ps) a are h = absurd are
-some_assign m (x ∷ x2 ∷ xs) (jump (jumps.Branch f y n) ∷ ps) a are h = some_assign m xs ps a are.2 h
+some_assign m (x ∷ []) (jump (Some (nexts.Branch f y n)) ∷ ps) a are h = absurd are
+some_assign m (x ∷ x2 ∷ xs) (jump (Some (nexts.Branch f y n)) ∷ ps) a are h = some_assign m xs ps a are.2 h
+some_assign m (x ∷ xs) (p ∷ ps) a are h = some_assign m xs ps a are.1 h
 
 together : (u v w x y z u2 z2 : Bool) → (((((u && v) && w) && x) && y) && z) ≡ true → u2 ≡ true → z2 ≡ true → (((((u2 && v) && w) && x) && y) && z2) ≡ true
 together u v w x y z u2 z2 h a b = let p = six_parts u v w x y z h in rw (a, p.0, p.1, p.2, p.3, b) refl

@@ -57,7 +57,8 @@ Spelled m body None = Unit {0}
 Spelled m body (Some o) = IsOneOf body (spellings m o)
 
 -- a single source stands on one side or the other
-by_side : (m : Machine) (op_a op_b : AluOp) (x : BusSource) (body : List Token) → IsOneOf body (spellings m (work op_a (Some x) None)) → IsOneOf body (spellings m (work op_b None (Some x)))
+by_side : (m : Machine) (op_a op_b : AluOp) (x : BusSource) (body : List Token) → IsOneOf body (spellings m (work op_a (Some x) None))
+    → IsOneOf body (spellings m (work op_b None (Some x)))
     → Spelled m body (Some (from_one_source m op_a op_b x))
 unfolding Spelled
 by_side m op_a op_b x body on_side_a on_side_b = go (on_a m x)
@@ -122,13 +123,15 @@ joined_is m (operands.Source x) (tokens.Sign signs.Plus) operands.One t u s r =
 joined_is m operands.One (tokens.Sign signs.Plus) (operands.Source y) t u s r =
     let e = three t u one_token (tokens.Word (source_word y)) plus s r in
     by_side m ops.IncA ops.IncB y (t ∷ plus ∷ u ∷ []) (inr (inl e)) (inr (inl e))
-joined_is m (operands.Source x) (tokens.Sign signs.Minus) (operands.Source y) t u s r = inl (three t u (tokens.Word (source_word x)) (tokens.Word (source_word y)) minus s r)
+joined_is m (operands.Source x) (tokens.Sign signs.Minus) (operands.Source y) t u s r =
+    inl (three t u (tokens.Word (source_word x)) (tokens.Word (source_word y)) minus s r)
 joined_is m (operands.Source x) (tokens.Sign signs.Minus) operands.One t u s r = inl (three t u (tokens.Word (source_word x)) one_token minus s r)
 joined_is m (operands.Source x) (tokens.Word words.And) (operands.Source y) t u s r = both_is m ops.And x y t u and_op s r
 joined_is m (operands.Source x) (tokens.Word words.Or) (operands.Source y) t u s r = both_is m ops.Or x y t u or_op s r
 joined_is m _ _ _ t u s r = tt
 
-next_is : (m : Machine) (p q r : Operand) (t a u b v : Token) → Stands p t → Stands q u → Stands r v → Spelled m (t ∷ a ∷ u ∷ b ∷ v ∷ []) (sum_and_one m p q r a b)
+next_is : (m : Machine) (p q r : Operand) (t a u b v : Token) → Stands p t → Stands q u → Stands r v
+    → Spelled m (t ∷ a ∷ u ∷ b ∷ v ∷ []) (sum_and_one m p q r a b)
 unfolding Stands Spelled
 next_is m (operands.Source x) (operands.Source y) operands.One t (tokens.Sign signs.Plus) u (tokens.Sign signs.Plus) v s r e =
     subst (λ c. Spelled m (t ∷ plus ∷ u ∷ plus ∷ c ∷ []) (Some (paired m ops.SumInc x y))) (sym e) (both_is m ops.SumInc x y t u sum_inc s r)

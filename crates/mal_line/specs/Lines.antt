@@ -12,8 +12,6 @@ use Rattle.mal_tokens.specs.declared.sign.Sign.TheVariants as signs
 use Rattle.mal_tokens.specs.declared.token.Token.{Token}
 use Rattle.mal_tokens.specs.declared.token.Token.TheVariants as tokens
 use Rattle.mal_line.specs.declared.chain.Assignment.{Assignment}
-use Rattle.mal_line.specs.declared.tree.Jump.{Jump}
-use Rattle.mal_line.specs.declared.tree.Jump.TheVariants as jumps
 use Rattle.mal_line.specs.declared.tree.Tree.{Tree}
 use Rattle.mal_line.specs.declared.content.Parts.{Parts}
 use Rattle.mal_line.specs.declared.content.Content.{Content}
@@ -51,15 +49,9 @@ with_access tree p = record p { mem = tree.mem; fetch = tree.fetch }
 abbrev pub part_of : Tree → Option Part
 part_of tree = option_map (with_access tree) (part_by tree.assignment)
 
-abbrev pub target_of : Jump → Option (Next (List ℕ))
-target_of (jumps.Goto label) = Some (nexts.Goto label)
-target_of (jumps.Dispatch None) = None
-target_of (jumps.Dispatch (Some high)) = Some (nexts.Dispatch high)
-target_of (jumps.Branch test high low) = Some (nexts.Branch test high low)
-
-abbrev pub next_by_jump : Option Jump → Option (Next (List ℕ))
+abbrev pub next_by_jump : Option (Option (Next (List ℕ))) → Option (Next (List ℕ))
 next_by_jump None = Some nexts.Following
-next_by_jump (Some j) = target_of j
+next_by_jump (Some j) = j
 
 abbrev pub parts_by : Option Part → Option (Next (List ℕ)) → Option Parts
 parts_by (Some part) (Some next) = Some (record { part = part; next = next })

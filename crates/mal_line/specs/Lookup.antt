@@ -90,7 +90,8 @@ joined machine (operands.Source x) (tokens.Word words.Or) (operands.Source y) = 
 joined machine _ _ _ = None
 
 abbrev pub sum_and_one : Machine → Operand → Operand → Operand → Token → Token → Option Operation
-sum_and_one machine (operands.Source x) (operands.Source y) operands.One (tokens.Sign signs.Plus) (tokens.Sign signs.Plus) = Some (paired machine ops.SumInc x y)
+sum_and_one machine (operands.Source x) (operands.Source y) operands.One (tokens.Sign signs.Plus) (tokens.Sign signs.Plus) =
+    Some (paired machine ops.SumInc x y)
 sum_and_one machine _ _ _ _ _ = None
 
 -- the operation that has this form, on any machine that does it

@@ -16,8 +16,8 @@ use Rattle.mal_line.specs.declared.chain.Tail.{Tail}
 use Rattle.mal_line.specs.declared.chain.Tail.TheVariants as tails
 use Rattle.mal_line.specs.declared.piece.Piece.{Piece}
 use Rattle.mal_line.specs.declared.piece.Piece.TheVariants as found
-use Rattle.mal_line.specs.declared.tree.Jump.{Jump}
-use Rattle.mal_line.specs.declared.tree.Jump.TheVariants as jumps
+use Rattle.mal_line.specs.declared.next.Next.{Next}
+use Rattle.mal_line.specs.declared.next.Next.TheVariants as nexts
 use Rattle.mal_line.specs.declared.tree.Tree.{Tree}
 use Rattle.mal_line.specs.declared.gathering.PendingIf.{PendingIf}
 use Rattle.mal_line.specs.declared.gathering.Gathered.{Gathered}
@@ -73,17 +73,17 @@ chain_at machine some dests (t ∷ u ∷ rest) = on_dest (dest_of t u)
 
 -- ---- what stands between two semicolons
 
-abbrev pub high_of : ℤ → Option Bool
-high_of v = if is_number v 256 then Some true else None
+abbrev pub by_offset : ℤ → Option (Next (List ℕ))
+by_offset v = if is_number v 256 then Some (nexts.Dispatch true) else None
 
-abbrev pub dispatch : Word → Option Bool → Option Piece
-dispatch w high = if is_byte_word w then Some (found.Dispatch high) else None
+abbrev pub dispatch : Word → Option (Next (List ℕ)) → Option Piece
+dispatch w j = if is_byte_word w then Some (found.Jump j) else None
 
 -- what follows `goto`
 abbrev pub goto_of : List Token → Option Piece
-goto_of (tokens.Name label ∷ []) = Some (found.Goto label)
-goto_of (tokens.Sign signs.Open ∷ tokens.Word w ∷ tokens.Sign signs.Close ∷ []) = dispatch w (Some false)
-goto_of (tokens.Sign signs.Open ∷ tokens.Word w ∷ tokens.Word words.Or ∷ tokens.Number v ∷ tokens.Sign signs.Close ∷ []) = dispatch w (high_of v)
+goto_of (tokens.Name label ∷ []) = Some (found.Jump (Some (nexts.Goto label)))
+goto_of (tokens.Sign signs.Open ∷ tokens.Word w ∷ tokens.Sign signs.Close ∷ []) = dispatch w (Some (nexts.Dispatch false))
+goto_of (tokens.Sign signs.Open ∷ tokens.Word w ∷ tokens.Word words.Or ∷ tokens.Number v ∷ tokens.Sign signs.Close ∷ []) = dispatch w (by_offset v)
 goto_of _ = None
 
 abbrev pub test_of : Word → Option Test
@@ -117,7 +117,7 @@ piece_of machine ts = option_map (λ a. found.Assign a) (chain_at machine false 
 abbrev pub empty : Tree
 empty = record { assignment = None; mem = mems.None; fetch = false; next = None }
 
-abbrev pub gathered_jump : Tree → Jump → Gathered
+abbrev pub gathered_jump : Tree → Option (Next (List ℕ)) → Gathered
 gathered_jump tree j = record { tree = record tree { next = Some j }; waiting = None }
 
 abbrev pub is_access : Mem → Bool
@@ -130,14 +130,13 @@ add_free tree found.Nothing = Some (record { tree = tree; waiting = None })
 add_free tree (found.Assign a) = if is_some tree.assignment then None else Some (record { tree = record tree { assignment = Some a }; waiting = None })
 add_free tree (found.Mem m) = if is_access tree.mem then None else Some (record { tree = record tree { mem = m }; waiting = None })
 add_free tree found.Fetch = if tree.fetch then None else Some (record { tree = record tree { fetch = true }; waiting = None })
-add_free tree (found.Goto label) = Some (gathered_jump tree (jumps.Goto label))
-add_free tree (found.Dispatch high) = Some (gathered_jump tree (jumps.Dispatch high))
+add_free tree (found.Jump j) = Some (gathered_jump tree j)
 add_free tree (found.If test label) = Some (record { tree = tree; waiting = Some (record { test = test; high = label }) })
 add_free tree (found.Else label) = None
 
 -- an `if` waits for its `else`
 abbrev pub add_else : Tree → PendingIf → Piece → Option Gathered
-add_else tree half (found.Else label) = Some (gathered_jump tree (jumps.Branch half.test half.high label))
+add_else tree half (found.Else label) = Some (gathered_jump tree (Some (nexts.Branch half.test half.high label)))
 add_else tree half _ = None
 
 -- after a jump all parts are empty
@@ -145,7 +144,7 @@ abbrev pub add_behind : Tree → Piece → Option Gathered
 add_behind tree found.Nothing = Some (record { tree = tree; waiting = None })
 add_behind tree _ = None
 
-abbrev pub add_by : Tree → Option PendingIf → Option Jump → Piece → Option Gathered
+abbrev pub add_by : Tree → Option PendingIf → Option (Option (Next (List ℕ))) → Piece → Option Gathered
 add_by tree (Some half) next piece = add_else tree half piece
 add_by tree None None piece = add_free tree piece
 add_by tree None (Some j) piece = add_behind tree piece

@@ -12,8 +12,8 @@ use Rattle.mal_tokens.specs.declared.sign.Sign.TheVariants as signs
 use Rattle.mal_tokens.specs.declared.token.Token.{Token}
 use Rattle.mal_tokens.specs.declared.token.Token.TheVariants as tokens
 use Rattle.mal_line.specs.declared.chain.Assignment.{Assignment}
-use Rattle.mal_line.specs.declared.tree.Jump.{Jump}
-use Rattle.mal_line.specs.declared.tree.Jump.TheVariants as jumps
+use Rattle.mal_line.specs.declared.next.Next.{Next}
+use Rattle.mal_line.specs.declared.next.Next.TheVariants as nexts
 use Rattle.mal_line.specs.declared.tree.Tree.{Tree}
 use Rattle.mal_line.specs.Chains.{IsAssignment}
 
@@ -40,19 +40,18 @@ is_byte_word words.Mbr = true
 is_byte_word words.Mbr1 = true
 is_byte_word _ = false
 
--- `goto (MBR)`, or with an OR: `Some true` where its number is 0x100, `None` where it is another
-abbrev pub IsDispatch : List Token → Option Bool → Type 0
-IsDispatch ts (Some false) =
+-- `goto T`, `goto (MBR)` or `goto (MBR OR 0x100)`; none where the OR has another number
+abbrev pub IsGoto : List Token → Option (Next (List ℕ)) → Type 0
+IsGoto ts (Some (nexts.Goto label)) = ts ≡ tokens.Word words.Goto ∷ tokens.Name label ∷ []
+IsGoto ts (Some (nexts.Dispatch false)) =
     (w : Word) × (is_byte_word w ≡ true) × (ts ≡ tokens.Word words.Goto ∷ tokens.Sign signs.Open ∷ tokens.Word w ∷ tokens.Sign signs.Close ∷ [])
-IsDispatch ts (Some true) =
+IsGoto ts (Some (nexts.Dispatch true)) =
     (w : Word) × (is_byte_word w ≡ true)
     × (ts ≡ tokens.Word words.Goto ∷ tokens.Sign signs.Open ∷ tokens.Word w ∷ tokens.Word words.Or ∷ tokens.Number (pos 256) ∷ tokens.Sign signs.Close ∷ [])
-IsDispatch ts None =
+IsGoto ts (Some _) = ⊥
+IsGoto ts None =
     (w : Word) × (v : ℤ) × (is_byte_word w ≡ true) × (v ≢ pos 256)
     × (ts ≡ tokens.Word words.Goto ∷ tokens.Sign signs.Open ∷ tokens.Word w ∷ tokens.Word words.Or ∷ tokens.Number v ∷ tokens.Sign signs.Close ∷ [])
-
-abbrev pub IsGoto : List Token → List ℕ → Type 0
-IsGoto ts label = ts ≡ tokens.Word words.Goto ∷ tokens.Name label ∷ []
 
 abbrev pub test_word : Test → Word
 test_word tests.N = words.N
@@ -73,7 +72,7 @@ pub data Kind : Type 0 where
   assign : Assignment → Kind
   memory : Mem → Kind
   fetches : Kind
-  jump : Jump → Kind
+  jump : Option (Next (List ℕ)) → Kind
 
 -- the pieces are these parts in order; a branch takes two of them
 abbrev pub AreParts : Machine → List (List Token) → List Kind → Type 0
@@ -83,10 +82,10 @@ AreParts machine (x ∷ xs) (nothing ∷ ps) = (x ≡ []) × AreParts machine xs
 AreParts machine (x ∷ xs) (assign a ∷ ps) = IsAssignment machine x a × AreParts machine xs ps
 AreParts machine (x ∷ xs) (memory m ∷ ps) = IsMem x m × AreParts machine xs ps
 AreParts machine (x ∷ xs) (fetches ∷ ps) = IsFetch x × AreParts machine xs ps
-AreParts machine (x ∷ xs) (jump (jumps.Goto label) ∷ ps) = IsGoto x label × AreParts machine xs ps
-AreParts machine (x ∷ xs) (jump (jumps.Dispatch high) ∷ ps) = IsDispatch x high × AreParts machine xs ps
-AreParts machine (x ∷ []) (jump (jumps.Branch test high low) ∷ ps) = ⊥
-AreParts machine (x ∷ y ∷ xs) (jump (jumps.Branch test high low) ∷ ps) = IsIf x test high × IsElse y low × AreParts machine xs ps
+AreParts machine (x ∷ xs) (jump (Some (nexts.Goto label)) ∷ ps) = IsGoto x (Some (nexts.Goto label)) × AreParts machine xs ps
+AreParts machine (x ∷ []) (jump (Some (nexts.Branch test high low)) ∷ ps) = ⊥
+AreParts machine (x ∷ y ∷ xs) (jump (Some (nexts.Branch test high low)) ∷ ps) = IsIf x test high × IsElse y low × AreParts machine xs ps
+AreParts machine (x ∷ xs) (jump j ∷ ps) = IsGoto x j × AreParts machine xs ps
 
 -- the parts of each kind
 abbrev pub assignments : List Kind → List Assignment
@@ -104,7 +103,7 @@ fetch_count [] = 0
 fetch_count (fetches ∷ ps) = suc (fetch_count ps)
 fetch_count (_ ∷ ps) = fetch_count ps
 
-abbrev pub jumps_of : List Kind → List Jump
+abbrev pub jumps_of : List Kind → List (Option (Next (List ℕ)))
 jumps_of [] = []
 jumps_of (jump j ∷ ps) = j ∷ jumps_of ps
 jumps_of (_ ∷ ps) = jumps_of ps

@@ -1,6 +1,6 @@
 //! What a line says, from its form.
 ghost use Rattle.std.specs.Prelude.{◌≡◌};
-ghost use Rattle.mal_line.specs.Lines.{content_of, next_by_jump, part_of, parts_of, target_of};
+ghost use Rattle.mal_line.specs.Lines.{content_of, next_by_jump, part_of, parts_of};
 
 use crate::line::Form;
 use crate::next::Next;
@@ -40,22 +40,12 @@ fn part_of(tree: Tree) -> Option<Part>
     })
 }
 
-fn target_of(jump: Jump) -> Option<Next<Name>>
-    ensures { result ≡ target_of jump }
-{
-    match jump {
-        Jump::Goto(label) => Some(Next::Goto(label)),
-        Jump::Dispatch(high) => Some(Next::Dispatch { high: high? }),
-        Jump::Branch(test, yes, no) => Some(Next::Branch { test, yes, no }),
-    }
-}
-
 fn next_by_jump(jump: Option<Jump>) -> Option<Next<Name>>
     ensures { result ≡ next_by_jump jump }
 {
     match jump {
         None => Some(Next::Following),
-        Some(jump) => target_of(jump),
+        Some(jump) => jump,
     }
 }
 

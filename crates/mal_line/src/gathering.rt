@@ -4,8 +4,9 @@ ghost use Rattle.std.specs.List.{prefix_len};
 ghost use Rattle.mal_line.specs.Reading.{add, add_behind, add_else, add_free, add_tokens, ended, tree_of};
 ghost use Rattle.mal_line.specs.Statements.{is_semicolon};
 
+use crate::next::Next;
 use crate::piece::{Piece, piece_of};
-use crate::tree::{Jump, Tree};
+use crate::tree::Tree;
 use mal_tokens::{Sign, Token};
 use mic_base::Name;
 use micro_word::{Machine, Mem, Test};
@@ -47,8 +48,7 @@ fn add_free(gathered: &mut Gathered, piece: Piece) -> bool
             }
             gathered.tree.fetch = true;
         }
-        Piece::Goto(label) => gathered.tree.next = Some(Jump::Goto(label)),
-        Piece::Dispatch(high) => gathered.tree.next = Some(Jump::Dispatch(high)),
+        Piece::Jump(jump) => gathered.tree.next = Some(jump),
         Piece::If(test, high) => gathered.waiting = Some(PendingIf { test, high }),
         Piece::Else(_) => return false,
     }
@@ -61,7 +61,11 @@ fn add_else(gathered: &mut Gathered, half: PendingIf, piece: Piece) -> bool
 {
     match piece {
         Piece::Else(low) => {
-            gathered.tree.next = Some(Jump::Branch(half.test, half.high, low));
+            gathered.tree.next = Some(Some(Next::Branch {
+                test: half.test,
+                yes: half.high,
+                no: low,
+            }));
             gathered.waiting = None;
             true
         }

@@ -1,9 +1,11 @@
 //! What stands between two semicolons.
 ghost use Rattle.std.specs.Prelude.{◌≡◌};
-ghost use Rattle.mal_line.specs.Reading.{dispatch, else_of, goto_of, high_of, if_of, piece_of, test_of};
+ghost use Rattle.mal_line.specs.Reading.{by_offset, dispatch, else_of, goto_of, if_of, piece_of, test_of};
 ghost use Rattle.mal_line.specs.Statements.{is_byte_word};
 
 use crate::chain::{Assignment, chain_of};
+use crate::next::Next;
+use crate::tree::Jump;
 use mal_tokens::{Sign, Token, Word};
 use mic_base::Name;
 use micro_word::{Machine, Mem, Test};
@@ -15,9 +17,7 @@ pub(crate) enum Piece {
     Assign(Assignment),
     Mem(Mem),
     Fetch,
-    Goto(Name),
-    /// Whether it has `OR 0x100`; None where the OR has another number.
-    Dispatch(Option<bool>),
+    Jump(Jump),
     If(Test, Name),
     Else(Name),
 }
@@ -28,20 +28,20 @@ fn is_byte_word(word: Word) -> bool
     matches!(word, Word::Mbr | Word::Mbr1)
 }
 
-fn high_of(offset: i64) -> Option<bool>
-    ensures { result ≡ high_of offset }
+fn by_offset(offset: i64) -> Jump
+    ensures { result ≡ by_offset offset }
 {
     match offset {
-        0x100 => Some(true),
+        0x100 => Some(Next::Dispatch { high: true }),
         _ => None,
     }
 }
 
-fn dispatch(word: Word, high: Option<bool>) -> Option<Piece>
-    ensures { result ≡ dispatch word high }
+fn dispatch(word: Word, jump: Jump) -> Option<Piece>
+    ensures { result ≡ dispatch word jump }
 {
     if is_byte_word(word) {
-        Some(Piece::Dispatch(high))
+        Some(Piece::Jump(jump))
     } else {
         None
     }
@@ -51,19 +51,19 @@ fn goto_of(rest: &[Token]) -> Option<Piece>
     ensures { result ≡ goto_of rest.now }
 {
     match rest {
-        [Token::Name(label)] => Some(Piece::Goto(*label)),
+        [Token::Name(label)] => Some(Piece::Jump(Some(Next::Goto(*label)))),
         [
             Token::Sign(Sign::Open),
             Token::Word(word),
             Token::Sign(Sign::Close),
-        ] => dispatch(*word, Some(false)),
+        ] => dispatch(*word, Some(Next::Dispatch { high: false })),
         [
             Token::Sign(Sign::Open),
             Token::Word(word),
             Token::Word(Word::Or),
             Token::Number(offset),
             Token::Sign(Sign::Close),
-        ] => dispatch(*word, high_of(*offset)),
+        ] => dispatch(*word, by_offset(*offset)),
         _ => None,
     }
 }

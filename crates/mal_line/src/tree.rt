@@ -1,16 +1,11 @@
 //! The parts of a statement, as they are written.
 use crate::chain::Assignment;
+use crate::next::Next;
 use mic_base::Name;
-use micro_word::{Mem, Test};
+use micro_word::Mem;
 
-/// Where a statement says that it goes next.
-#[derive(Clone, Copy)]
-pub enum Jump {
-    Goto(Name),
-    /// Whether it has `OR 0x100`; None where the OR has another number.
-    Dispatch(Option<bool>),
-    Branch(Test, Name, Name),
-}
+/// Where a statement says that it goes next; None where its OR has another number than 0x100.
+pub type Jump = Option<Next<Name>>;
 
 /// The parts of a statement, as they are written.
 #[derive(Clone, Copy)]

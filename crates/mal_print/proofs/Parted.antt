@@ -13,8 +13,6 @@ use Rattle.mal_tokens.specs.declared.sign.Sign.TheVariants as signs
 use Rattle.mal_tokens.specs.declared.token.Token.{Token}
 use Rattle.mal_tokens.specs.declared.token.Token.TheVariants as tokens
 use Rattle.mal_line.specs.declared.chain.Assignment.{Assignment}
-use Rattle.mal_line.specs.declared.tree.Jump.{Jump}
-use Rattle.mal_line.specs.declared.tree.Jump.TheVariants as jumps
 use Rattle.mal_line.specs.declared.tree.Tree.{Tree}
 use Rattle.mal_line.specs.declared.next.Next.{Next}
 use Rattle.mal_line.specs.declared.next.Next.TheVariants as nexts
@@ -82,11 +80,12 @@ split_chain m part next f = go (dests_of part.dests) (each_chain IsInside m insi
 
 -- ---- the parts by their kinds
 
+abbrev Jump : Type 0
+Jump = Option (Next (List ℕ))
+
 abbrev pub jump_of : Next (List ℕ) → Option Jump
 jump_of nexts.Following = None
-jump_of (nexts.Goto label) = Some (jumps.Goto label)
-jump_of (nexts.Dispatch high) = Some (jumps.Dispatch (Some high))
-jump_of (nexts.Branch test high low) = Some (jumps.Branch test high low)
+jump_of next = Some (Some next)
 
 -- the tokens between semicolons are these parts
 record Tallied (m : Machine) (xs : List (List Token)) (tree : Tree) : Type 0 where
@@ -98,14 +97,18 @@ record Tallied (m : Machine) (xs : List (List Token)) (tree : Tree) : Type 0 whe
   next : jumps_of kinds ≡ listed tree.next
   last : IsJumpLast kinds
 
+only_jump : (m : Machine) {xs : List (List Token)} (j : Jump) → AreParts m xs (jump j ∷ [])
+    → Tallied m xs (record { assignment = None; mem = mems.None; fetch = false; next = Some j })
+only_jump m j are = record { kinds = jump j ∷ []; are = are; assignment = refl; memory = refl; fetch = refl; next = refl; last = tt }
+
 tallied_next : (m : Machine) (next : Next (List ℕ)) → Tallied m (split (leads m (labelled next))) (record { assignment = None; mem = mems.None; fetch = false; next = jump_of next })
 tallied_next m nexts.Following = record { kinds = []; are = refl; assignment = refl; memory = refl; fetch = refl; next = refl; last = tt }
-tallied_next m (nexts.Goto label) = record { kinds = jump (jumps.Goto label) ∷ []; are = (refl, refl); assignment = refl; memory = refl; fetch = refl; next = refl; last = tt }
-tallied_next Mic1 (nexts.Dispatch false) = record { kinds = jump (jumps.Dispatch (Some false)) ∷ []; are = ((words.Mbr, refl, refl), refl); assignment = refl; memory = refl; fetch = refl; next = refl; last = tt }
-tallied_next Mic1 (nexts.Dispatch true) = record { kinds = jump (jumps.Dispatch (Some true)) ∷ []; are = ((words.Mbr, refl, refl), refl); assignment = refl; memory = refl; fetch = refl; next = refl; last = tt }
-tallied_next Mic2 (nexts.Dispatch false) = record { kinds = jump (jumps.Dispatch (Some false)) ∷ []; are = ((words.Mbr1, refl, refl), refl); assignment = refl; memory = refl; fetch = refl; next = refl; last = tt }
-tallied_next Mic2 (nexts.Dispatch true) = record { kinds = jump (jumps.Dispatch (Some true)) ∷ []; are = ((words.Mbr1, refl, refl), refl); assignment = refl; memory = refl; fetch = refl; next = refl; last = tt }
-tallied_next m (nexts.Branch test high low) = record { kinds = jump (jumps.Branch test high low) ∷ []; are = (refl, refl, refl); assignment = refl; memory = refl; fetch = refl; next = refl; last = tt }
+tallied_next m (nexts.Goto label) = only_jump m (Some (nexts.Goto label)) (refl, refl)
+tallied_next Mic1 (nexts.Dispatch false) = only_jump Mic1 (Some (nexts.Dispatch false)) ((words.Mbr, refl, refl), refl)
+tallied_next Mic1 (nexts.Dispatch true) = only_jump Mic1 (Some (nexts.Dispatch true)) ((words.Mbr, refl, refl), refl)
+tallied_next Mic2 (nexts.Dispatch false) = only_jump Mic2 (Some (nexts.Dispatch false)) ((words.Mbr1, refl, refl), refl)
+tallied_next Mic2 (nexts.Dispatch true) = only_jump Mic2 (Some (nexts.Dispatch true)) ((words.Mbr1, refl, refl), refl)
+tallied_next m (nexts.Branch test high low) = only_jump m (Some (nexts.Branch test high low)) (refl, refl, refl)
 
 tallied_fetch : (m : Machine) (f : Bool) (xs : List (List Token)) (next : Option Jump) → Tallied m xs (record { assignment = None; mem = mems.None; fetch = false; next = next })
     → Tallied m (split (text.fetches f) ++ xs) (record { assignment = None; mem = mems.None; fetch = f; next = next })
