@@ -1,6 +1,6 @@
 -- The lines of a source say something together where none is refused after the others.
 use Rattle.std.proofs.Common.{◌≡◌, ℕ, suc, ◌+◌, ◌≤◌, Bool, true, false, List, [], ◌∷◌, ◌++◌, Option, Some, None, length, refl, sym, ap, subst, ◌∙◌, arith, inl, inr, cond, append_assoc, length-append}
-use Rattle.std.specs.Prelude.{Result, Ok, Err, map, nat_le, ◌||◌, ◌⊎◌, is_some, option_map, option_to_list, IsSome}
+use Rattle.std.specs.Prelude.{Result, Ok, Err, nat_le, ◌||◌, ◌⊎◌, is_some, option_map, option_to_list, IsSome}
 use Rattle.std.specs.List.{cons_option}
 use Rattle.std.specs.Str.{bytes_eq}
 use Rattle.std.proofs.lemmas.List.{append-nil, map-append}
@@ -15,7 +15,7 @@ use Rattle.mal_line.specs.declared.content.Parts.{Parts}
 use Rattle.mal_parser.specs.declared.error.MalError.TheVariants as errors
 use Rattle.mal_parser.specs.declared.source.Draft.{Draft}
 use Rattle.mal_parser.specs.declared.source.Fix.{Fix}
-use Rattle.mal_parser.specs.Labels.{address_of, AreDistinct, has_fix, has_label, has_name, is_among, is_label, labels_of}
+use Rattle.mal_parser.specs.Labels.{address_of, AreDistinct, fix_labels, has_fix, has_label, has_name, is_among, is_label, labels_of}
 use Rattle.mal_parser.specs.Text.{AreAddresses, fallbacks_from, fixes_from, IsFine, statements_from}
 use Rattle.mal_parser.specs.Reading.{add_content, add_fix, empty, first, parser, Sketch, sketch_of}
 use Rattle.mal_parser.proofs.Resolved.{same_text, text_same}
@@ -114,7 +114,7 @@ label_among (d ∷ ds) l = go d.label (label_among ds l)
     go None h = h
     go (Some own) h = ap (λ b. bytes_eq own l || b) h
 
-fix_among : (fs : List Fix) (l : List ℕ) → has_fix fs l ≡ is_among l (map (λ (f : Fix). f.label) fs)
+fix_among : (fs : List Fix) (l : List ℕ) → has_fix fs l ≡ is_among l (fix_labels fs)
 fix_among [] l = refl
 fix_among (f ∷ fs) l = ap (λ b. bytes_eq f.label l || b) (fix_among fs l)
 
@@ -124,7 +124,7 @@ pub record IsFineFrom (s : Sketch) (k : ℕ) (cs : List Content) : Type 0 where
   pub labels : AreDistinct (labels_of (s.statements ++ statements_from k cs))
   pub few : length (s.statements ++ statements_from k cs) ≤ 512
   pub addresses : AreAddresses cs
-  pub fixed : AreDistinct (map (λ (f : Fix). f.label) (s.fixes ++ fixes_from k cs))
+  pub fixed : AreDistinct (fix_labels (s.fixes ++ fixes_from k cs))
   pub one_default : length (option_to_list s.fallback ++ fallbacks_from k cs) ≤ 1
 
 pub joined : Sketch → ℕ → List Content → Sketch
@@ -209,7 +209,7 @@ back k s c u cs a h =
       labels = subst (λ ds. AreDistinct (labels_of ds)) t.statements h.labels;
       few = subst (λ ds. length ds ≤ 512) t.statements h.few;
       addresses = address_adds k s c u cs a h.addresses;
-      fixed = subst (λ (fs : List Fix). AreDistinct (map (λ (f : Fix). f.label) fs)) t.fixes h.fixed;
+      fixed = subst (λ (fs : List Fix). AreDistinct (fix_labels fs)) t.fixes h.fixed;
       one_default = subst (λ ds. length ds ≤ 1) t.fallback h.one_default;
     }
 
@@ -220,7 +220,7 @@ forth k s c u cs a h =
       labels = subst (λ ds. AreDistinct (labels_of ds)) (sym t.statements) h.labels;
       few = subst (λ ds. length ds ≤ 512) (sym t.statements) h.few;
       addresses = address_behind c cs h.addresses;
-      fixed = subst (λ (fs : List Fix). AreDistinct (map (λ (f : Fix). f.label) fs)) (sym t.fixes) h.fixed;
+      fixed = subst (λ (fs : List Fix). AreDistinct (fix_labels fs)) (sym t.fixes) h.fixed;
       one_default = subst (λ ds. length ds ≤ 1) (sym t.fallback) h.one_default;
     }
 
@@ -229,7 +229,7 @@ forth k s c u cs a h =
 pub record IsFineAlone (s : Sketch) : Type 0 where
   pub labels : AreDistinct (labels_of s.statements)
   pub few : length s.statements ≤ 512
-  pub fixed : AreDistinct (map (λ (f : Fix). f.label) s.fixes)
+  pub fixed : AreDistinct (fix_labels s.fixes)
 
 short_option : {A : Type 0} (o : Option A) → length (option_to_list o ++ []) ≤ 1
 short_option None = omega arith
@@ -240,7 +240,7 @@ alone_fine s k h = record {
   labels = subst (λ ds. AreDistinct (labels_of ds)) (sym (append-nil s.statements)) h.labels;
   few = subst (λ ds. length ds ≤ 512) (sym (append-nil s.statements)) h.few;
   addresses = tt;
-  fixed = subst (λ (fs : List Fix). AreDistinct (map (λ (f : Fix). f.label) fs)) (sym (append-nil s.fixes)) h.fixed;
+  fixed = subst (λ (fs : List Fix). AreDistinct (fix_labels fs)) (sym (append-nil s.fixes)) h.fixed;
   one_default = short_option s.fallback;
 }
 
@@ -264,7 +264,7 @@ grows k s (said.Fix label number) u h (a, e, f, g) =
     subst IsFineAlone g (record {
       labels = h.labels;
       few = h.few;
-      fixed = subst AreDistinct (sym (map-append (λ (f : Fix). f.label) s.fixes (new ∷ []))) (distinct_push (map (λ (f : Fix). f.label) s.fixes) label h.fixed (sym (fix_among s.fixes label) ∙ f));
+      fixed = subst AreDistinct (sym (map-append (λ (f : Fix). f.label) s.fixes (new ∷ []))) (distinct_push (fix_labels s.fixes) label h.fixed (sym (fix_among s.fixes label) ∙ f));
     })
 grows k s (said.Fallback parts) u h (f, g) = subst IsFineAlone g (record { labels = h.labels; few = h.few; fixed = h.fixed })
 grows k s (said.Statement label parts) u h (f, n, g) =
@@ -300,13 +300,13 @@ fine_step k s said.Nothing cs h = (s, refl)
 fine_step k s (said.Fix label number) cs h = go (address_of number) refl h.addresses.0 h.fixed
   where
     go : (o : Option ℕ) → address_of number ≡ o → IsSome o
-        → AreDistinct (map (λ (f : Fix). f.label) (s.fixes ++ cons_option (option_map {U = Fix} (λ address. record { label = label; line = k; address = address }) o) (fixes_from (k + 1) cs)))
+        → AreDistinct (fix_labels (s.fixes ++ cons_option (option_map {U = Fix} (λ address. record { label = label; line = k; address = address }) o) (fixes_from (k + 1) cs)))
         → (u : Sketch) × AddsTo k s (said.Fix label number) u
     go None e i d = absurd (cc)
     go (Some a) e i d =
         let new : Fix = record { label = label; line = k; address = a } in
         let m = subst AreDistinct (map-append (λ (f : Fix). f.label) s.fixes (new ∷ fixes_from (k + 1) cs)) d in
-        let f : has_fix s.fixes label ≡ false = fix_among s.fixes label ∙ distinct_middle (map (λ (f : Fix). f.label) s.fixes) (map (λ (f : Fix). f.label) (fixes_from (k + 1) cs)) label m in
+        let f : has_fix s.fixes label ≡ false = fix_among s.fixes label ∙ distinct_middle (fix_labels s.fixes) (fix_labels (fixes_from (k + 1) cs)) label m in
         (with_fix k s label a, (a, e, f, refl))
 fine_step k s (said.Fallback parts) cs h =
     (with_fallback k s parts, (none_before s.fallback (record { label = None; line = k; parts = parts }) (fallbacks_from (k + 1) cs) h.one_default, refl))

@@ -14,13 +14,13 @@ use Rattle.mal_print.specs.StatementText.{fix}
 use Rattle.mal_parser.specs.declared.source.Draft.{Draft}
 use Rattle.mal_parser.specs.declared.source.Fix.{Fix}
 use Rattle.mal_parser.specs.declared.statement.Statement.{Statement}
-use Rattle.mal_parser.specs.Labels.{address_of, AreDistinct, has_label, is_among, is_label, is_labelled, labels_of}
+use Rattle.mal_parser.specs.Labels.{address_of, AreDistinct, fix_labels, has_label, is_among, is_label, is_labelled, labels_of}
 use Rattle.mal_parser.specs.Text.{AreAddresses, AreResolved, fallbacks, fallbacks_from, fixes, fixes_from, grammar, IsFine, IsFixedBy, IsProgramOf, IsResolvedNext, SpellsProgram, statements, statements_from}
 use Rattle.mal_parser.specs.Reading.{address_at, fixed_of}
 use Rattle.mal_parser.specs.Program.{HasTargets, IsFallback, IsLabelled, IsMalProgram, label_at, MalView}
 use Rattle.mal_parser.specs.ProgramText.{canonical_text, canonical_lines, fix_count, fix_line, on_line, on_lines, relined}
 use Rattle.mal_parser.proofs.Resolved.{same_text, text_same}
-use Rattle.mal_parser.proofs.Fixing.{fix_labels, fixed_is}
+use Rattle.mal_parser.proofs.Fixing.{fixed_is}
 use Rattle.mal_parser.proofs.Printed.{contents_text}
 use Rattle.mal_parser.proofs.Relined.{label_lined, program_lined}
 use Rattle.mal_parser.proofs.Spoken.{content_of, default_content, Each, each_at, fix_content, fix_said_by, lines_plain, LinesSpell, lines_say, name_of, named_next, parts_for, statement_content}

@@ -1,10 +1,10 @@
 -- The address that the `.label` lines give a statement.
 use Rattle.std.proofs.Common.{◌≡◌, ℕ, zero, suc, Bool, true, false, List, [], ◌∷◌, Option, Some, None, refl, sym, ap, subst, ◌∙◌, cond}
-use Rattle.std.specs.Prelude.{map, find, slice_get, option_map, ◌||◌}
+use Rattle.std.specs.Prelude.{find, slice_get, option_map, ◌||◌}
 use Rattle.std.specs.Str.{bytes_eq}
 use Rattle.std.proofs.lemmas.Bool.{or_right}
 use Rattle.mal_parser.specs.declared.source.Fix.{Fix}
-use Rattle.mal_parser.specs.Labels.{AreDistinct, is_among}
+use Rattle.mal_parser.specs.Labels.{AreDistinct, fix_labels, is_among}
 use Rattle.mal_parser.specs.Text.{IsFixedBy}
 use Rattle.mal_parser.specs.Reading.{address_at, fixed_of}
 use Rattle.mal_parser.proofs.Resolved.{same_text, text_same}
@@ -37,9 +37,6 @@ fixed_is fs (Some label) = address_is label fs
 
 -- ---- there is at most one
 
-abbrev pub fix_labels : List Fix → List (List ℕ)
-fix_labels fs = map (λ (f : Fix). f.label) fs
-
 fix_among : (fs : List Fix) (i : ℕ) (f : Fix) → slice_get fs i ≡ Some f → is_among f.label (fix_labels fs) ≡ true
 fix_among [] i f at = absurd (cc)
 fix_among (x ∷ fs) zero f at = let e : x ≡ f = cc in let t = text_same f.label in subst (λ (y : Fix). (bytes_eq y.label f.label || is_among f.label (fix_labels fs)) ≡ true) (sym e) (rw t refl)
@@ -67,5 +64,5 @@ one_address fs o (Some a) None d (i, f, at, own, is) none = absurd (none i f at 
 one_address fs o None (Some b) d none (i, f, at, own, is) = absurd (none i f at own)
 one_address fs o None None d none other = refl
 
-pub fixed_there : (fs : List Fix) (o : Option (List ℕ)) (a : Option ℕ) → AreDistinct (map (λ (f : Fix). f.label) fs) → IsFixedBy fs o a → a ≡ fixed_of fs o
+pub fixed_there : (fs : List Fix) (o : Option (List ℕ)) (a : Option ℕ) → AreDistinct (fix_labels fs) → IsFixedBy fs o a → a ≡ fixed_of fs o
 fixed_there fs o a d h = one_address fs o a (fixed_of fs o) d h (fixed_is fs o)

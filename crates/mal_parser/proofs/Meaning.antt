@@ -12,7 +12,7 @@ use Rattle.mal_line.specs.declared.next.Next.TheVariants as nexts
 use Rattle.mal_parser.specs.declared.source.Draft.{Draft}
 use Rattle.mal_parser.specs.declared.source.Fix.{Fix}
 use Rattle.mal_parser.specs.declared.statement.Statement.{Statement}
-use Rattle.mal_parser.specs.Labels.{AreDistinct, has_label, is_labelled, labels_of}
+use Rattle.mal_parser.specs.Labels.{AreDistinct, fix_labels, has_label, is_labelled, labels_of}
 use Rattle.mal_parser.specs.Text.{AreResolved, fallbacks, falls, fixes, IsFine, IsProgramOf, IsResolved, IsResolvedNext, statements}
 use Rattle.mal_parser.specs.Reading.{by_entry, by_falling, by_unknown, earlier, falling, first, first_falling, first_unknown, fixed_of, IsSound, knows, main1, resolved_next, number_of, resolved_program, program_with, resolved, sketch_of, target_number, unknown_draft, unknown_fix, unknown_in}
 use Rattle.mal_parser.specs.Program.{IsFallback, label_at, MalView}
@@ -106,7 +106,7 @@ number_at ds i label d h =
 target_at : (ds : List Draft) (i : ℕ) (label : List ℕ) → AreDistinct (labels_of ds) → draft_label ds i ≡ Some label → i ≡ target_number ds label
 target_at ds i label d h = sym (ap (λ o. unwrap_or o 0) (number_at ds i label d h))
 
-module _ (ds : List Draft) (fs : List Fix) (ss : List Statement) (distinct : AreDistinct (labels_of ds)) (once : AreDistinct (map (λ (f : Fix). f.label) fs)) (all : AreResolved ss fs ds ss) where
+module _ (ds : List Draft) (fs : List Fix) (ss : List Statement) (distinct : AreDistinct (labels_of ds)) (once : AreDistinct (fix_labels fs)) (all : AreResolved ss fs ds ss) where
   label_here : (i : ℕ) (label : List ℕ) → label_at ss i ≡ Some label → draft_label ds i ≡ Some label
   label_here i label h = same_labels ss fs ds ss i all ∙ h
 

@@ -1,5 +1,5 @@
 -- Labels of statements and of `.label` lines.
-use Rattle.std.specs.Prelude.{◌≡◌, ℕ, ℤ, pos, negsuc, Bool, true, false, List, [], ◌∷◌, Option, Some, None, if◌then◌else◌, is_some, nat_lt}
+use Rattle.std.specs.Prelude.{◌≡◌, ℕ, ℤ, pos, negsuc, Bool, true, false, List, [], ◌∷◌, Option, Some, None, if◌then◌else◌, is_some, map, nat_lt}
 use Rattle.std.specs.List.{filter_map, list_any, position}
 use Rattle.std.specs.Str.{bytes_eq}
 use Rattle.std.specs.Ordering.{nat_cmp}
@@ -26,6 +26,9 @@ has_name ds None = false
 -- a `.label` line has this label
 abbrev pub has_fix : List Fix → List ℕ → Bool
 has_fix fs label = list_any (λ f. bytes_eq f.label label) fs
+
+abbrev pub fix_labels : List Fix → List (List ℕ)
+fix_labels fs = map (λ (f : Fix). f.label) fs
 
 abbrev pub is_among : List ℕ → List (List ℕ) → Bool
 is_among label labels = list_any (λ other. bytes_eq other label) labels

@@ -2,9 +2,6 @@
 use Rattle.std.specs.Prelude.{◌≡◌, ◌<◌, ◌≤◌, ◌↔◌, ℕ, ◌-◌, ◌&&◌, Bool, true, not, List, [], ◌∷◌, ◌++◌, Option, Some, None, Result, Ok, Err, if◌then◌else◌, nat_le, min, length, map, find, slice_get, is_some, option_map, option_and_then, unwrap_or, codes, All, IsTrue, IfSome, ⊤}
 use Rattle.std.specs.List.{position}
 use Rattle.std.specs.Str.{bytes_eq}
-use Rattle.std.specs.Ordering.{nat_cmp}
-use Rattle.std.specs.Cmp.Lexicographic.{slice_cmp}
-use Rattle.std.specs.BTreeMap.{BTreeMap, get}
 use Rattle.mic_words.specs.declared.machine.Machine.{Machine}
 use Rattle.source_text.specs.Parsing as parsing
 use Rattle.source_text.specs.Parsing.{add_said, Parser}
@@ -146,10 +143,6 @@ resolved_next ds next = by_targets (target_number ds) next
 
 abbrev pub address_at : List Fix → List ℕ → Option ℕ
 address_at fs label = option_map (λ f. f.address) (find (λ f. bytes_eq f.label label) fs)
-
--- the map has the address of each label
-abbrev pub AreFixed : List Fix → BTreeMap (List ℕ) ℕ → Type 0
-AreFixed fs map = (label : List ℕ) → get (slice_cmp nat_cmp) map label ≡ address_at fs label
 
 -- computes the address for which `IsFixedBy` holds
 abbrev pub fixed_of : List Fix → Option (List ℕ) → Option ℕ

@@ -1,5 +1,5 @@
 -- Which program a text spells, and which refusal a text has.
-use Rattle.std.specs.Prelude.{◌≡◌, ◌⊎◌, ◌+◌, ◌≤◌, ◌<◌, ℕ, Bool, true, false, not, ◌&&◌, List, [], ◌∷◌, ◌++◌, Option, Some, None, IsSome, length, map, slice_get, option_map, option_to_list, codes, Result, Err}
+use Rattle.std.specs.Prelude.{◌≡◌, ◌⊎◌, ◌+◌, ◌≤◌, ◌<◌, ℕ, Bool, true, false, not, ◌&&◌, List, [], ◌∷◌, ◌++◌, Option, Some, None, IsSome, length, slice_get, option_map, option_to_list, codes, Result, Err}
 use Rattle.std.specs.List.{cons_option, list_all, list_any}
 use Rattle.mic_words.specs.declared.machine.Machine.{Machine}
 use Rattle.source_text.specs.Text as text
@@ -18,7 +18,7 @@ use Rattle.mal_parser.specs.declared.error.MalError.TheVariants as errors
 use Rattle.mal_parser.specs.declared.source.Draft.{Draft}
 use Rattle.mal_parser.specs.declared.source.Fix.{Fix}
 use Rattle.mal_parser.specs.declared.statement.Statement.{Statement}
-use Rattle.mal_parser.specs.Labels.{address_of, AreDistinct, has_fix, has_label, has_name, labels_of}
+use Rattle.mal_parser.specs.Labels.{address_of, AreDistinct, fix_labels, has_fix, has_label, has_name, labels_of}
 use Rattle.mal_parser.specs.Program.{IsMalProgram, label_at, MalView}
 
 -- ---- what the lines say
@@ -63,7 +63,7 @@ pub record IsFine (cs : List Content) : Type 0 where
   pub labels : AreDistinct (labels_of (statements cs))
   pub few : length (statements cs) ≤ 512
   pub addresses : AreAddresses cs
-  pub fixed : AreDistinct (map (λ (f : Fix). f.label) (fixes cs))
+  pub fixed : AreDistinct (fix_labels (fixes cs))
   pub one_default : length (fallbacks cs) ≤ 1
 
 -- ---- the program of what the lines say
