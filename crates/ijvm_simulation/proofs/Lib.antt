@@ -19,6 +19,8 @@ pub mod Accesses
 pub mod Methods
 pub mod Writes
 pub mod Stack
+pub mod Leaves
+pub mod Places
 pub mod Counted
 pub mod Words
 pub mod Images

@@ -11,7 +11,7 @@ use Rattle.ijvm_meaning.specs.Frames.{start_of}
 use Rattle.mic1_interpreter.proofs.Store.{HasStatements}
 use Rattle.mic1_interpreter.specs.Stands.{Stands}
 use Rattle.mic1_interpreter.proofs.Guided.{clocked, pass-clocked}
-use Rattle.mic1_interpreter.proofs.Boundaries.{ReachesBoundary, at_boundary}
+use Rattle.mic1_interpreter.proofs.Boundaries.{at_boundary}
 use Rattle.mic1_interpreter.proofs.Words.{fetch_ok}
 use Rattle.ijvm_simulation.specs.Stands.{Origin}
 use Rattle.ijvm_simulation.specs.Stack.{StackLaw}
@@ -32,23 +32,19 @@ module _ (program : List ℕ) (has : HasStatements program) (o : Origin) (v : Ve
   abbrev pub start : MicroRun Micro
   start = start_run mic1_meaning 0x002 (0x8000 + v.main_locals - 1) world
 
-  pub boot : ReachesBoundary program o 1 (record { state = start.state; world = world; stalls = 0 }) (start_of v.main_locals input)
-  boot =
+  pub boots : Boots mic1_meaning program (Stands o) o.given (timing_of Mic1) (reset_moment mic1_meaning 0x002 v.main_locals o input) (start_of v.main_locals input)
+  boots =
       let fetch : fetch_refusal (length o.words) (next 4294967295) ≡ None = fetch_ok (length o.words) (law.map v o loads) first_address (omega arith) in
       let p : Moment Micro = record { state = start.state; world = world; stalls = 0 } in
       record {
-        to = clocked (length o.words) (0 ∷ []) 1 p;
-        passes = pass-clocked program has (length o.words) (0 ∷ []) 1 p refl (assumption);
-        stands = at_boundary o _ _ _
-            (law.first v o input _ _ loads (omega arith))
-            first_address (ap (byte_in o.words) first_address) refl refl refl refl refl;
-        stalls = refl;
-      }
-
-  pub boots : Boots mic1_meaning program (Stands o) o.given (timing_of Mic1) (reset_moment mic1_meaning 0x002 v.main_locals o input) (start_of v.main_locals input)
-  boots =
-      let c : ReachesBoundary program o 1 (reset_moment mic1_meaning 0x002 v.main_locals o input) (start_of v.main_locals input) = boot in
-      record {
         off = refl;
-        moves = record { n = 1; spent_is = refl; short = omega arith; begins = record { no_halt = refl; no_err = refl }; there = c.to; passes = c.passes; stands = c.stands };
+        moves = record {
+          n = 1;
+          spent_is = refl;
+          short = omega arith;
+          begins = record { no_halt = refl; no_err = refl };
+          there = clocked (length o.words) (0 ∷ []) 1 p;
+          passes = pass-clocked program has (length o.words) (0 ∷ []) 1 p refl (assumption);
+          stands = at_boundary o _ _ _ (law.first v o input _ _ loads (omega arith)) first_address (ap (byte_in o.words) first_address) refl refl refl refl refl;
+        };
       }

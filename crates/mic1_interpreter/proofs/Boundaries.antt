@@ -1,13 +1,15 @@
 -- Mic-1 between two boundaries: what it knows at the one, and when a symbolic run comes to the next.
-use Rattle.std.proofs.Common.{◌≡◌, ℕ, ◌+◌, ◌<◌, ◌++◌, Some, None, true, List, length, arith, ◌∙◌, ap, sym, subst}
+use Rattle.std.proofs.Common.{◌≡◌, ℕ, ◌+◌, ◌<◌, ◌++◌, Option, Some, None, true, List, length, arith, ◌∙◌, ap, sym, subst}
 use Rattle.std.specs.Prelude.{nat_lt, ◌==◌}
 use Rattle.std.proofs.lemmas.Bool.Decides.{nat_tests}
-use Rattle.console_port.specs.World.{World, StackLimit, byte_in, fetch_refusal}
+use Rattle.console_port.specs.World.{World, Refusal, StackLimit, byte_in, fetch_refusal}
+use Rattle.micro_word.specs.declared.statement.Placed.{Placed}
+use Rattle.mic_datapath.specs.Memory.{memory_refusal, byte_refusal, first_refusal}
 use Rattle.mic_words.specs.Arithmetic.{next}
 use Rattle.ijvm_meaning.specs.Frames.{State}
 use Rattle.mic1_datapath.specs.Micro.{Micro}
 use Rattle.mic1_datapath.specs.Mic1.{mic1_meaning}
-use Rattle.mic1_datapath.specs.Microstep.{refusal}
+use Rattle.mic1_datapath.specs.Microstep.{settled}
 use Rattle.mic_words.specs.declared.machine.Machine.TheVariants.{Mic1}
 use Rattle.ijvm_instr.specs.declared.instr.Instr.{Instr}
 use Rattle.ijvm_meaning.specs.Cost.{timing_of, cost}
@@ -19,7 +21,9 @@ use Rattle.mic1_interpreter.proofs.Words.{byte_kept, fetch_ok, next_is}
 use Rattle.ijvm_simulation.specs.Stands.{Origin, RegistersStand}
 use Rattle.ijvm_simulation.specs.Stack.{IsMapEnd}
 use Rattle.ijvm_simulation.specs.Passes.{Moment, is_inside, pass}
+use Rattle.ijvm_simulation.specs.Verified.{Loads, IsNext}
 use Rattle.ijvm_simulation.specs.Law.{ShowsState, HasWord, Moves, Overruns}
+use Rattle.ijvm_simulation.proofs.Stack.{law}
 
 -- the moment at Main1, with nothing under way
 abbrev pub at_main : Micro → World → ℕ → Moment Micro
@@ -28,26 +32,6 @@ at_main m w stalls = record { state = record m { mpc = 2; word = None; byte = No
 pub starts : (o : Origin) (s : State) (m : Micro) (w : World) (stalls : ℕ) → Stands o s m w → record { state = m; world = w; stalls = stalls } ≡ at_main m w stalls
 starts o s m w stalls h =
     λ i. record { state = record m { mpc = (h.ready.mpc ∙ h.ready.entry) i; word = h.ready.word i; byte = h.ready.byte i; entry = h.ready.entry i; clocked = h.ready.clocked i }; world = w; stalls = stalls }
-
--- n + 1 microsteps come to the next boundary, which stands for this state
-pub record ReachesBoundary (program : List ℕ) (o : Origin) (n : ℕ) (p : Moment Micro) (s : State) : Type 0 where
-  pub to : Moment Micro
-  pub passes : pass mic1_meaning program n p ≡ Some to
-  pub stands : Stands o s to.state to.world
-  pub stalls : to.stalls ≡ p.stalls
-
-pub comes : (program : List ℕ) (has : HasStatements program) (o : Origin) (gs : List ℕ) (n : ℕ) (m : Micro) (w : World) (k : ℕ) (s s' : State) → Stands o s m w →
-    IsSmooth (length o.words) gs n (at_main m w k) →
-    Stands o s' (clocked (length o.words) gs n (at_main m w k)).state (clocked (length o.words) gs n (at_main m w k)).world →
-    (clocked (length o.words) gs n (at_main m w k)).stalls ≡ k →
-    ReachesBoundary program o n (record { state = m; world = w; stalls = k }) s'
-comes program has o gs n m w k s s' h smooth new stalls =
-    record {
-      to = clocked (length o.words) gs n (at_main m w k);
-      passes = ap (pass mic1_meaning program n) (starts o s m w k h) ∙ pass-clocked program has (length o.words) gs n (at_main m w k) h.holds.memory.long smooth;
-      stands = new;
-      stalls = stalls;
-    }
 
 -- the program counter, and what is fetched there
 pub record Counts (o : Origin) (s : State) (m : Micro) (w : World) : Type 0 where
@@ -129,42 +113,72 @@ begins o s m w h =
     let e : m.mpc ≡ 2 = h.ready.mpc ∙ h.ready.entry in
     record { no_halt = ap (λ (k : ℕ). k == 255) e; no_err = ap (λ (k : ℕ). k == 254) e }
 
-module _ (program : List ℕ) (o : Origin) (v : VerifiedView) where
-  -- a pass to the next boundary, where it takes the instruction's cycles
-  pub moves : (s to a : State) (q : Moment Micro) (i : Instr) (n : ℕ) → Stands o s q.state q.world → cost v.image (timing_of Mic1) i s ≡ n + 1 → n < 1024 → a ≡ to →
-      ReachesBoundary program o n q a → Moves mic1_meaning program (Stands o) o.given q (cost v.image (timing_of Mic1) i s) to
-  moves s to a q i n h spent short same c =
+-- what is known at a boundary where an instruction comes next
+pub record At (program : List ℕ) (o : Origin) (v : VerifiedView) (s : State) (q : Moment Micro) : Type 0 where
+  pub has : HasStatements program
+  pub loads : Loads v o
+  pub stands : Stands o s q.state q.world
+  pub holds : RegistersStand o s q.state.sp q.state.lv q.state.cpp q.state.tos q.world
+  pub inside : s.at < 0x10000
+  pub counts : Counts o s q.state q.world
+
+pub at : {program : List ℕ} {o : Origin} {v : VerifiedView} {s : State} {q : Moment Micro} (i : Instr) → HasStatements program → Loads v o → IsNext v o s i →
+    Stands o s q.state q.world → At program o v s q
+at {program} {o} {v} {s} {q} i has loads n h =
+    let inside : s.at < 0x10000 = law.inside v o s i loads n in
+    record { has = has; loads = loads; stands = h; holds = h.holds; inside = inside; counts = counts o (law.map v o loads) s q.state q.world h inside }
+
+module _ {program : List ℕ} {o : Origin} {v : VerifiedView} {s : State} {q : Moment Micro} (a : At program o v s q) where
+  -- the byte at PC
+  pub opcode : {code : ℕ} → byte_in o.words s.at ≡ code → q.state.mbr ≡ code
+  opcode is = a.stands.ready.mbr ∙ is
+
+  abbrev start : Moment Micro
+  start = at_main q.state q.world q.stalls
+
+  abbrev after : ℕ → List ℕ → Moment Micro
+  after n gs = clocked (length o.words) gs n start
+
+  passes : (n : ℕ) (gs : List ℕ) → IsSmooth (length o.words) gs n start → pass mic1_meaning program n q ≡ Some (after n gs)
+  passes n gs smooth =
+      ap (pass mic1_meaning program n) (starts o s q.state q.world q.stalls a.stands)
+      ∙ pass-clocked program a.has (length o.words) gs n start a.holds.memory.long smooth
+
+  -- n + 1 microsteps come to the next boundary, which stands for the state that the instruction leads to
+  pub arrives : {t to : State} (i : Instr) (n : ℕ) (gs : List ℕ) → cost v.image (timing_of Mic1) i s ≡ n + 1 → n < 1024 → t ≡ to →
+      IsSmooth (length o.words) gs n start → Stands o t (after n gs).state (after n gs).world →
+      Moves mic1_meaning program (Stands o) o.given q (cost v.image (timing_of Mic1) i s) to
+  arrives i n gs spent short same smooth new =
       record {
         n = n;
         spent_is = spent;
         short = short;
-        begins = begins o s q.state q.world h;
-        there = c.to;
-        passes = c.passes;
-        stands = subst (λ (t : State). Stands o t c.to.state c.to.world) same c.stands;
+        begins = begins o s q.state q.world a.stands;
+        there = after n gs;
+        passes = passes n gs smooth;
+        stands = subst (λ (x : State). Stands o x (after n gs).state (after n gs).world) same new;
       }
 
--- some steps of a symbolic run, and then a write that is refused
-pub overruns : (program : List ℕ) (has : HasStatements program) (o : Origin) (s left : State) (q : Moment Micro) (gs : List ℕ) (n x : ℕ) → Stands o s q.state q.world → n < 1023 →
-    IsSmooth (length o.words) gs n (at_main q.state q.world q.stalls) →
-    is_inside mic1_meaning (clocked (length o.words) gs n (at_main q.state q.world q.stalls)).state ≡ true →
-    nat_lt (clocked (length o.words) gs n (at_main q.state q.world q.stalls)).state.mpc 512 ≡ true →
-    length (clocked (length o.words) gs n (at_main q.state q.world q.stalls)).world.words ≡ length o.words →
-    refusal (length o.words) (shipped (clocked (length o.words) gs n (at_main q.state q.world q.stalls)).state.mpc) (clocked (length o.words) gs n (at_main q.state q.world q.stalls)).state ≡ Some (StackLimit x) →
-    (clocked (length o.words) gs n (at_main q.state q.world q.stalls)).world.untaken ≡ left.untaken →
-    (clocked (length o.words) gs n (at_main q.state q.world q.stalls)).world.given ≡ o.given ++ left.given →
-    Overruns mic1_meaning program (Stands o) o.given q left
-overruns program has o s left q gs n x h short smooth inside low long refused untaken given =
-    let there : Moment Micro = clocked (length o.words) gs n (at_main q.state q.world q.stalls) in
-    record {
-      n = n;
-      short = short;
-      begins = begins o s q.state q.world h;
-      there = there;
-      passes = ap (pass mic1_meaning program n) (starts o s q.state q.world q.stalls h) ∙ pass-clocked program has (length o.words) gs n (at_main q.state q.world q.stalls) h.holds.memory.long smooth;
-      inside = inside;
-      at = x;
-      refused = outcome_is program has (length o.words) there (grind (arith, nat_tests)) ∙ step-refused (length o.words) (shipped there.state.mpc) there.state there.world (StackLimit x) long refused;
-      untaken = untaken;
-      given = given;
-    }
+  -- n + 1 microsteps, and then a write that is refused
+  pub overruns : (left : State) (n x : ℕ) (gs : List ℕ) → n < 1023 → IsSmooth (length o.words) gs n start →
+      is_inside mic1_meaning (after n gs).state ≡ true → nat_lt (after n gs).state.mpc 512 ≡ true → length (after n gs).world.words ≡ length o.words →
+      memory_refusal (length o.words) (shipped (after n gs).state.mpc).part.mem (settled (shipped (after n gs).state.mpc).part (after n gs).state).mar ≡ Some (StackLimit x) →
+      (after n gs).world.untaken ≡ left.untaken → (after n gs).world.given ≡ o.given ++ left.given →
+      Overruns mic1_meaning program (Stands o) o.given q left
+  overruns left n x gs short smooth inside low long refused untaken given =
+      let there : Moment Micro = after n gs in
+      let p : Placed = shipped there.state.mpc in
+      record {
+        n = n;
+        short = short;
+        begins = begins o s q.state q.world a.stands;
+        there = there;
+        passes = passes n gs smooth;
+        inside = inside;
+        at = x;
+        refused = outcome_is program a.has (length o.words) there (grind (arith, nat_tests))
+            ∙ step-refused (length o.words) p there.state there.world (StackLimit x) long
+            (ap (λ (r : Option Refusal). first_refusal r (byte_refusal (length o.words) p.part.fetch (settled p.part there.state).pc)) refused);
+        untaken = untaken;
+        given = given;
+      }

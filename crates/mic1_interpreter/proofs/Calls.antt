@@ -1,6 +1,12 @@
 -- Calls and returns.
-use Rattle.std.proofs.Common.{◌≡◌, ℕ, suc, ◌+◌, ◌-◌, ◌*◌, ◌<◌, ◌≤◌, Some, None, Option, List, [], ◌∷◌, ◌++◌, length, take, drop, replicate, refl, arith, sym, ◌∙◌, ap, ap₂, subst, inl, inr, length-set}
+use Rattle.std.proofs.Common.{true, ◌≡◌, ℕ, suc, ◌+◌, ◌-◌, ◌*◌, ◌<◌, ◌≤◌, Some, None, Option, List, [], ◌∷◌, ◌++◌, length, take, drop, replicate, refl, arith, sym, ◌∙◌, ap, ap₂, subst, inl, inr, length-set}
 use Rattle.std.specs.Prelude.{slice_index, slice_set, bit_or}
+use Rattle.std.specs.Prelude.{nat_lt}
+use Rattle.std.proofs.lemmas.Bool.Decides.{nat_tests}
+use Rattle.mic1_datapath.specs.Microstep.{refusal}
+use Rattle.mic1_interpreter.proofs.Store.{shipped}
+use Rattle.mic1_interpreter.proofs.Guided.{clocked, IsSmooth, pass-clocked, outcome_is, step-refused}
+use Rattle.ijvm_simulation.specs.Passes.{is_inside, pass}
 use Rattle.std.proofs.lemmas.Bool.{cases_lt}
 use Rattle.std.proofs.lemmas.Option.{same_Some}
 use Rattle.mic_words.specs.declared.machine.Machine.TheVariants.{Mic1}
@@ -25,8 +31,68 @@ use Rattle.ijvm_simulation.specs.Law.{Moves, Overruns, Takes}
 use Rattle.ijvm_simulation.specs.Groups.{IsCall}
 use Rattle.mic1_interpreter.specs.Stands.{Stands}
 use Rattle.mic1_interpreter.proofs.Store.{HasStatements}
-use Rattle.mic1_interpreter.proofs.Boundaries.{ReachesBoundary, comes, Counts, counts, at_boundary, at_text, moves, overruns}
+use Rattle.mic1_interpreter.proofs.Boundaries.{at_main, starts, begins, Counts, counts, at_boundary, at_text}
 use Rattle.mic1_interpreter.proofs.Words.{byte_kept, fetch_ok, pair_is}
+
+-- n + 1 microsteps come to the next boundary, which stands for this state
+pub record ReachesBoundary (program : List ℕ) (o : Origin) (n : ℕ) (p : Moment Micro) (s : State) : Type 0 where
+  pub to : Moment Micro
+  pub passes : pass mic1_meaning program n p ≡ Some to
+  pub stands : Stands o s to.state to.world
+  pub stalls : to.stalls ≡ p.stalls
+
+pub comes : (program : List ℕ) (has : HasStatements program) (o : Origin) (gs : List ℕ) (n : ℕ) (m : Micro) (w : World) (k : ℕ) (s s' : State) → Stands o s m w →
+    IsSmooth (length o.words) gs n (at_main m w k) →
+    Stands o s' (clocked (length o.words) gs n (at_main m w k)).state (clocked (length o.words) gs n (at_main m w k)).world →
+    (clocked (length o.words) gs n (at_main m w k)).stalls ≡ k →
+    ReachesBoundary program o n (record { state = m; world = w; stalls = k }) s'
+comes program has o gs n m w k s s' h smooth new stalls =
+    record {
+      to = clocked (length o.words) gs n (at_main m w k);
+      passes = ap (pass mic1_meaning program n) (starts o s m w k h) ∙ pass-clocked program has (length o.words) gs n (at_main m w k) h.holds.memory.long smooth;
+      stands = new;
+      stalls = stalls;
+    }
+
+module _ (program : List ℕ) (o : Origin) (v : VerifiedView) where
+  -- a pass to the next boundary, where it takes the instruction's cycles
+  pub moves : (s to a : State) (q : Moment Micro) (i : Instr) (n : ℕ) → Stands o s q.state q.world → cost v.image (timing_of Mic1) i s ≡ n + 1 → n < 1024 → a ≡ to →
+      ReachesBoundary program o n q a → Moves mic1_meaning program (Stands o) o.given q (cost v.image (timing_of Mic1) i s) to
+  moves s to a q i n h spent short same c =
+      record {
+        n = n;
+        spent_is = spent;
+        short = short;
+        begins = begins o s q.state q.world h;
+        there = c.to;
+        passes = c.passes;
+        stands = subst (λ (t : State). Stands o t c.to.state c.to.world) same c.stands;
+      }
+
+-- some steps of a symbolic run, and then a write that is refused
+pub overruns : (program : List ℕ) (has : HasStatements program) (o : Origin) (s left : State) (q : Moment Micro) (gs : List ℕ) (n x : ℕ) → Stands o s q.state q.world → n < 1023 →
+    IsSmooth (length o.words) gs n (at_main q.state q.world q.stalls) →
+    is_inside mic1_meaning (clocked (length o.words) gs n (at_main q.state q.world q.stalls)).state ≡ true →
+    nat_lt (clocked (length o.words) gs n (at_main q.state q.world q.stalls)).state.mpc 512 ≡ true →
+    length (clocked (length o.words) gs n (at_main q.state q.world q.stalls)).world.words ≡ length o.words →
+    refusal (length o.words) (shipped (clocked (length o.words) gs n (at_main q.state q.world q.stalls)).state.mpc) (clocked (length o.words) gs n (at_main q.state q.world q.stalls)).state ≡ Some (StackLimit x) →
+    (clocked (length o.words) gs n (at_main q.state q.world q.stalls)).world.untaken ≡ left.untaken →
+    (clocked (length o.words) gs n (at_main q.state q.world q.stalls)).world.given ≡ o.given ++ left.given →
+    Overruns mic1_meaning program (Stands o) o.given q left
+overruns program has o s left q gs n x h short smooth inside low long refused untaken given =
+    let there : Moment Micro = clocked (length o.words) gs n (at_main q.state q.world q.stalls) in
+    record {
+      n = n;
+      short = short;
+      begins = begins o s q.state q.world h;
+      there = there;
+      passes = ap (pass mic1_meaning program n) (starts o s q.state q.world q.stalls h) ∙ pass-clocked program has (length o.words) gs n (at_main q.state q.world q.stalls) h.holds.memory.long smooth;
+      inside = inside;
+      at = x;
+      refused = outcome_is program has (length o.words) there (grind (arith, nat_tests)) ∙ step-refused (length o.words) (shipped there.state.mpc) there.state there.world (StackLimit x) long refused;
+      untaken = untaken;
+      given = given;
+    }
 
 -- what a method's frame has in the words below its operands
 link_of : (words : List ℕ) (lv many caller r : ℕ) (back : Option ℕ) → back ≡ Some r → IsLinked words lv many caller back → IsLinked words lv many caller (Some r)

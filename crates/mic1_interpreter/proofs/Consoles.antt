@@ -1,90 +1,50 @@
 -- IN and OUT.
-use Rattle.std.proofs.Common.{◌≡◌, ℕ, ◌+◌, ◌%◌, ◌<◌, None, Option, List, [], ◌∷◌, ◌++◌, length, drop, refl, arith, ◌∙◌, ap, ap₂, append_assoc, subst, sym}
-use Rattle.std.specs.Prelude.{slice_set}
+use Rattle.std.proofs.Common.{◌≡◌, ℕ, ◌+◌, ◌<◌, List, [], ◌∷◌, refl, arith}
 use Rattle.mic_words.specs.declared.machine.Machine.TheVariants.{Mic1}
-use Rattle.mic_words.specs.Arithmetic.{next, before}
-use Rattle.console_port.specs.World.{World, Refusal, next_byte, read_value, byte_in}
+use Rattle.mic_words.specs.Arithmetic.{next}
 use Rattle.ijvm_instr.specs.declared.instr.Instr.{Instr}
 use Rattle.ijvm_instr.specs.declared.instr.Instr.TheVariants.{In, Out}
-use Rattle.ijvm_meaning.specs.Frames.{State, frames_of, base}
+use Rattle.ijvm_meaning.specs.Frames.{State}
 use Rattle.ijvm_meaning.specs.Cost.{timing_of, cost}
-use Rattle.ijvm_meaning.specs.Step.{moved, taken}
 use Rattle.verifier_facts.specs.Accepted.{VerifiedView}
 use Rattle.mic1_datapath.specs.Micro.{Micro}
-use Rattle.mic_datapath.specs.Memory.{first_refusal}
 use Rattle.mic1_datapath.specs.Mic1.{mic1_meaning}
-use Rattle.ijvm_simulation.specs.Stands.{Origin, IsTop}
-use Rattle.ijvm_simulation.specs.Stack.{IsMapEnd, IsWordAccess, IsConsoleAccess, console_address, Top, AtBoundary, StackLaw}
+use Rattle.ijvm_simulation.specs.Stands.{Origin}
 use Rattle.ijvm_simulation.specs.Passes.{Moment}
-use Rattle.ijvm_simulation.specs.Outcomes.{Went, Overran, push}
-use Rattle.ijvm_simulation.specs.Verified.{Loads, Fine, IsNext}
+use Rattle.ijvm_simulation.specs.Outcomes.{Went, Overran}
+use Rattle.ijvm_simulation.specs.Verified.{Loads, IsNext}
 use Rattle.ijvm_simulation.specs.Law.{Moves, Overruns, Takes}
 use Rattle.ijvm_simulation.specs.Groups.{IsOfConsole}
+use Rattle.ijvm_simulation.proofs.Leaves.{taken_pushed, taken_full, gives}
 use Rattle.mic1_interpreter.specs.Stands.{Stands}
 use Rattle.mic1_interpreter.proofs.Store.{HasStatements}
-use Rattle.mic1_interpreter.proofs.Boundaries.{ReachesBoundary, comes, Counts, counts, at_boundary, moves, overruns}
+use Rattle.mic1_interpreter.proofs.Boundaries.{At, at, opcode, arrives, overruns, at_boundary}
 
-module _ (program : List ℕ) (has : HasStatements program) (o : Origin) (map : IsMapEnd (length o.words)) (law : StackLaw) (s : State) (m : Micro) (w : World) (k : ℕ) (h : Stands o s m w) (inside : s.at < 0x10000) where
-  abbrev here : AtBoundary o s m.sp m.lv m.cpp m.tos w
-  here = law.boundary o s m.sp m.lv m.cpp m.tos w map h.holds
-
-  c : Counts o s m w
-  c = counts o map s m w h inside
-
-  out : (y : ℕ) (rest : List ℕ) → byte_in o.words s.at ≡ 0xFD → s.running.operands ≡ y ∷ rest →
-      ReachesBoundary program o 7 (record { state = m; world = w; stalls = k }) (record (moved s rest (s.at + 1)) { given = s.given ++ y % 256 ∷ [] })
-  out y rest code ops =
-      let t : Top o s m.sp m.lv m.cpp m.tos w y rest = here.top y rest ops in
-      let p : IsConsoleAccess (length o.words) w = law.port (length o.words) w map h.holds.memory.long in
-      let op : m.mbr ≡ 0xFD = h.ready.mbr ∙ code in
-      let same : slice_set w.words console_address m.tos ≡ w.words = p.words m.tos in
-      comes program has o (0xFD ∷ []) 7 m w k s _ h (assumption c)
-      (at_boundary o _ _ _
-      (here.drops rest (s.at + 1) _ _ _ _ _ (s.given ++ y % 256 ∷ []) t.frames (omega (arith, t.below))
-      refl refl (omega (arith, t.down.is, t.above))
-      (subst (λ (n : ℕ). IsTop n rest) (sym (ap (λ (ws : List ℕ). read_value (length o.words) ws w.untaken (before m.sp)) same)) t.next_top)
-      same (t.down.untaken ∙ h.holds.untaken)
-      (p.given m.tos ∙ (ap₂ (λ (g : List ℕ) (v : ℕ). g ++ v % 256 ∷ []) h.holds.given t.tos_is ∙ append_assoc o.given s.given (y % 256 ∷ []))))
-      c.pc1 c.byte1 refl refl refl refl refl)
-      refl
-
-  inp : byte_in o.words s.at ≡ 0xFC → base (frames_of s) < length o.words →
-      ReachesBoundary program o 5 (record { state = m; world = w; stalls = k }) (push (taken s) (next_byte s.untaken) (s.at + 1))
-  inp code space =
-      let r : IsWordAccess (length o.words) w (next m.sp) (base (frames_of s)) = here.room space in
-      let p : IsConsoleAccess (length o.words) w = law.port (length o.words) w map h.holds.memory.long in
-      let op : m.mbr ≡ 0xFC = h.ready.mbr ∙ code in
-      let v : read_value (length o.words) w.words w.untaken console_address ≡ next_byte s.untaken = p.value ∙ ap next_byte h.holds.untaken in
-      comes program has o (0xFC ∷ []) 5 m w k s _ h (assumption c)
-      (at_boundary o _ _ _
-      (here.pushes s.running.operands _ (s.at + 1) _ _ _ _ _ (drop 1 s.untaken) h.holds.frames space
-      refl refl r.is v (ap₂ (slice_set w.words) r.is v) (p.untaken ∙ ap (drop 1) h.holds.untaken) (r.given _ _))
-      c.pc1 c.byte1 refl refl refl refl refl)
-      refl
-
-module _ (program : List ℕ) (has : HasStatements program) (o : Origin) (v : VerifiedView) (loads : Loads v o) (law : StackLaw) where
-  abbrev map : IsMapEnd (length o.words)
-  map = law.map v o loads
-
-  goes : (s to : State) (q : Moment Micro) (i : Instr) → IsOfConsole i → Fine v s → IsNext v o s i → Stands o s q.state q.world → Went v.image v.map.stack_end s to i →
+module _ {program : List ℕ} {o : Origin} {v : VerifiedView} {s : State} {q : Moment Micro} (a : At program o v s q) where
+  goes : (to : State) (i : Instr) → IsOfConsole i → IsNext v o s i → Went v.image v.map.stack_end s to i →
       Moves mic1_meaning program (Stands o) o.given q (cost v.image (timing_of Mic1) i s) to
-  goes s to q In is fine n h went =
-      moves program o v s to _ q In 5 h refl (omega arith) went.goes (inp program has o map law s q.state q.world q.stalls h (law.inside v o s _ loads n) n.reads (omega (arith, went.fits, loads.long)))
-  goes s to q Out is fine n h went =
-      moves program o v s to _ q Out 7 h refl (omega arith) went.leads (out program has o map law s q.state q.world q.stalls h (law.inside v o s _ loads n) went.top went.rest n.reads went.are)
-  goes s to q i is fine n h went = absurd is
+  goes to In is n went =
+      let op = opcode a n.reads in
+      let l = taken_pushed a.loads a.holds went in
+      arrives a In 5 (0xFC ∷ []) refl (omega arith) went.goes (assumption)
+      (at_boundary o _ _ _ l.push.leaves a.counts.pc1 a.counts.byte1 refl refl refl refl refl)
+  goes to Out is n went =
+      let op = opcode a n.reads in
+      let l = gives a.loads a.holds went in
+      arrives a Out 7 (0xFD ∷ []) refl (omega arith) went.leads (assumption)
+      (at_boundary o _ _ _ l.leaves a.counts.pc1 a.counts.byte1 refl refl refl refl refl)
+  goes to i is n went = absurd is
 
-  limits : (s left : State) (q : Moment Micro) (i : Instr) → IsOfConsole i → Fine v s → IsNext v o s i → Stands o s q.state q.world → Overran v.image v.map.stack_end s left i →
+  limits : (left : State) (i : Instr) → IsOfConsole i → IsNext v o s i → Overran v.image v.map.stack_end s left i →
       Overruns mic1_meaning program (Stands o) o.given q left
-  limits s left q In is fine n h over =
-      let c : Counts o s q.state q.world = counts o map s q.state q.world h (law.inside v o s _ loads n) in
-      let p : IsConsoleAccess (length o.words) q.world = law.port (length o.words) q.world map h.holds.memory.long in
-      let op : q.state.mbr ≡ 0xFC = h.ready.mbr ∙ n.reads in
-      let fault = (law.boundary o s q.state.sp q.state.lv q.state.cpp q.state.tos q.world map h.holds).full (omega (arith, over.over, loads.long)) in
-      overruns program has o s left q (0xFC ∷ []) 4 (next q.state.sp) h (omega arith) (assumption) refl refl h.holds.memory.long
-      (ap (λ (r : Option Refusal). first_refusal r None) fault)
-      (p.untaken ∙ (ap (drop 1) h.holds.untaken ∙ ap (λ (t : State). t.untaken) over.leaves)) (h.holds.given ∙ ap (λ (t : State). o.given ++ t.given) over.leaves)
-  limits s left q i is fine n h over = absurd (assumption)
+  limits left In is n over =
+      let op = opcode a n.reads in
+      let l = taken_full a.loads a.holds over in
+      overruns a left 4 (next q.state.sp) (0xFC ∷ []) (omega arith) (assumption) refl refl a.holds.memory.long l.full.refused l.full.untaken l.full.given
+  limits left i is n over = absurd (assumption)
 
-  pub consoles : Takes mic1_meaning program (Stands o) o.given (timing_of Mic1) v o IsOfConsole
-  consoles = record { goes = goes; limits = limits }
+pub consoles : (program : List ℕ) → HasStatements program → (o : Origin) (v : VerifiedView) → Loads v o → Takes mic1_meaning program (Stands o) o.given (timing_of Mic1) v o IsOfConsole
+consoles program has o v loads = record {
+  goes = λ s to q i is fine n h went. goes (at i has loads n h) to i is n went;
+  limits = λ s left q i is fine n h over. limits (at i has loads n h) left i is n over;
+}

@@ -1,223 +1,117 @@
 -- Instructions that name a local or a constant.
-use Rattle.std.proofs.Common.{◌≡◌, ℕ, ◌+◌, ◌*◌, ◌<◌, Some, Option, List, [], ◌∷◌, ◌++◌, length, true, refl, arith, sym, ◌∙◌, ap, ap₂, inl}
-use Rattle.std.specs.Prelude.{slice_index, slice_set, slice_get, bit_or}
-use Rattle.std.proofs.lemmas.Option.{slice_get_within}
+use Rattle.std.proofs.Common.{◌≡◌, ℕ, ◌+◌, ◌*◌, ◌<◌, List, [], ◌∷◌, refl, arith, sym, ◌∙◌, ap, ap₂, inl}
 use Rattle.mic_words.specs.declared.machine.Machine.TheVariants.{Mic1}
-use Rattle.mic_words.specs.Arithmetic.{wrap, plus, next, signed_byte, signed_pair}
-use Rattle.console_port.specs.World.{World, Refusal, read_value, byte_in, fetch_refusal}
+use Rattle.std.specs.Prelude.{bit_or}
+use Rattle.mic_words.specs.Arithmetic.{wrap, plus, next, signed_byte}
+use Rattle.console_port.specs.World.{byte_in}
 use Rattle.ijvm_instr.specs.declared.instr.Instr.{Instr}
 use Rattle.ijvm_instr.specs.declared.instr.Instr.TheVariants.{LdcW, Iload, Istore, Iinc, WideIload, WideIstore, WideIinc}
-use Rattle.ijvm_meaning.specs.Frames.{State, frames_of, base}
+use Rattle.ijvm_instr.specs.Instructions.{word_of}
+use Rattle.ijvm_meaning.specs.Frames.{State}
 use Rattle.ijvm_meaning.specs.Cost.{timing_of, cost}
-use Rattle.ijvm_meaning.specs.Step.{with_local, is_own}
 use Rattle.verifier_facts.specs.Accepted.{VerifiedView}
 use Rattle.mic1_datapath.specs.Micro.{Micro}
-use Rattle.mic_datapath.specs.Memory.{first_refusal}
 use Rattle.mic1_datapath.specs.Mic1.{mic1_meaning}
 use Rattle.ijvm_simulation.specs.Stands.{Origin}
-use Rattle.ijvm_simulation.specs.Stack.{IsMapEnd, IsWordAccess, IsConstant, Top, AtBoundary, StackLaw}
 use Rattle.ijvm_simulation.specs.Passes.{Moment}
-use Rattle.ijvm_simulation.specs.Outcomes.{Went, Overran, push}
-use Rattle.ijvm_simulation.specs.Verified.{Loads, Fine, IsNext}
+use Rattle.ijvm_simulation.specs.Outcomes.{Went, Overran}
+use Rattle.ijvm_simulation.specs.Verified.{Loads, IsNext}
 use Rattle.ijvm_simulation.specs.Law.{Moves, Overruns, Takes}
 use Rattle.ijvm_simulation.specs.Groups.{IsOfLocals}
+use Rattle.ijvm_simulation.proofs.Words.{plus_comm}
+use Rattle.ijvm_simulation.proofs.Leaves.{constant_pushed, local_pushed, constant_full, local_full, stored, changed, changed_turned}
 use Rattle.mic1_interpreter.specs.Stands.{Stands}
 use Rattle.mic1_interpreter.proofs.Store.{HasStatements}
-use Rattle.mic1_interpreter.proofs.Boundaries.{ReachesBoundary, comes, Counts, counts, at_boundary, at_text, moves, overruns}
+use Rattle.mic1_interpreter.proofs.Boundaries.{At, at, opcode, arrives, overruns, at_boundary, at_text}
 use Rattle.mic1_interpreter.proofs.Words.{pair_is, signed_pair_is}
 
-module _ (program : List ℕ) (has : HasStatements program) (o : Origin) (map : IsMapEnd (length o.words)) (law : StackLaw) (s : State) (m : Micro) (w : World) (k : ℕ) (h : Stands o s m w) (inside : s.at < 0x10000) where
-  abbrev here : AtBoundary o s m.sp m.lv m.cpp m.tos w
-  here = law.boundary o s m.sp m.lv m.cpp m.tos w map h.holds
+module _ {program : List ℕ} {o : Origin} {v : VerifiedView} {s : State} {q : Moment Micro} (a : At program o v s q) where
+  abbrev m : Micro
+  m = q.state
 
-  c : Counts o s m w
-  c = counts o map s m w h inside
+  -- the address that the byte after the opcode names
+  byte_after : {k : ℕ} → k ≡ byte_in o.words (s.at + 1) → plus m.lv (byte_in q.world.words (next m.pc)) ≡ plus m.lv k
+  byte_after index = ap (plus m.lv) (a.counts.byte1 ∙ sym index)
 
-  iload : (i v : ℕ) → byte_in o.words s.at ≡ 0x15 → i ≡ byte_in o.words (s.at + 1) → slice_get s.running.locals i ≡ Some (Some v) → base (frames_of s) < length o.words →
-      ReachesBoundary program o 5 (record { state = m; world = w; stalls = k }) (push s v (s.at + 2))
-  iload i v code index local space =
-      let r : IsWordAccess (length o.words) w (next m.sp) (base (frames_of s)) = here.room space in
-      let op : m.mbr ≡ 0x15 = h.ready.mbr ∙ code in
-      let from : ℕ = plus m.lv (byte_in w.words (next m.pc)) in
-      let l : i < length s.running.locals = slice_get_within s.running.locals i (Some v) local in
-      let a : IsWordAccess (length o.words) w from (base s.callers + i) =
-      here.local from i l (law.words.plus_is h.holds.lv_is (c.byte1 ∙ sym index) refl (omega (arith, h.holds.fits, map.high))) in
-      let is : read_value (length o.words) w.words w.untaken from ≡ v = a.value ∙ h.holds.frames.0.locals i v local in
-      let same : slice_set w.words (next m.sp) (read_value (length o.words) w.words w.untaken from) ≡ slice_set w.words (base (frames_of s)) v = ap₂ (slice_set w.words) r.is is in
-      comes program has o (0x15 ∷ []) 5 m w k s _ h (assumption c)
-      (at_text o _ _ _
-      (here.pushes s.running.operands _ (s.at + 2) _ _ _ _ _ s.untaken h.holds.frames space
-      refl refl r.is is same (a.untaken ∙ h.holds.untaken) (r.given _ _))
-      c.pc2 (omega arith) refl refl refl refl refl refl)
-      refl
+  -- that of a constant, which two bytes name
+  constant_after : {k : ℕ} → k ≡ 256 * byte_in o.words (s.at + 1) + byte_in o.words (s.at + 2) →
+      plus (bit_or (wrap (256 * byte_in q.world.words (next m.pc))) (byte_in q.world.words (next (next m.pc)))) m.cpp ≡ plus m.cpp k
+  constant_after {k} index =
+      ap (λ (x : ℕ). plus x m.cpp) (pair_is o.words (s.at + 1) (s.at + 2) a.counts.byte1 a.counts.byte2 index) ∙ plus_comm k m.cpp
 
-  wide_iload : (i v : ℕ) → byte_in o.words s.at ≡ 0xC4 → byte_in o.words (s.at + 1) ≡ 0x15 → i ≡ 256 * byte_in o.words (s.at + 2) + byte_in o.words (s.at + 3) → slice_get s.running.locals i ≡ Some (Some v) → base (frames_of s) < length o.words →
-      ReachesBoundary program o 8 (record { state = m; world = w; stalls = k }) (push s v (s.at + 4))
-  wide_iload i v code code2 index local space =
-      let r : IsWordAccess (length o.words) w (next m.sp) (base (frames_of s)) = here.room space in
-      let op : m.mbr ≡ 0xC4 = h.ready.mbr ∙ code in
-      let op2 : byte_in w.words (next m.pc) + 256 ≡ 0x115 = omega (arith, c.byte1 ∙ code2) in
-      let from : ℕ = plus (bit_or (wrap (256 * byte_in w.words (next (next m.pc)))) (byte_in w.words (next (next (next m.pc))))) m.lv in
-      let l : i < length s.running.locals = slice_get_within s.running.locals i (Some v) local in
-      let a : IsWordAccess (length o.words) w from (base s.callers + i) =
-      here.local from i l (law.words.plus_is (pair_is o.words (s.at + 2) (s.at + 3) c.byte2 c.byte3 index) h.holds.lv_is (omega arith) (omega (arith, h.holds.fits, map.high))) in
-      let is : read_value (length o.words) w.words w.untaken from ≡ v = a.value ∙ h.holds.frames.0.locals i v local in
-      let same : slice_set w.words (next m.sp) (read_value (length o.words) w.words w.untaken from) ≡ slice_set w.words (base (frames_of s)) v = ap₂ (slice_set w.words) r.is is in
-      comes program has o (0xC4 ∷ 0x115 ∷ []) 8 m w k s _ h (assumption c)
-      (at_text o _ _ _
-      (here.pushes s.running.operands _ (s.at + 4) _ _ _ _ _ s.untaken h.holds.frames space
-      refl refl r.is is same (a.untaken ∙ h.holds.untaken) (r.given _ _))
-      c.pc4 (omega arith) refl refl refl refl refl refl)
-      refl
+  -- that of a local, which two bytes after a second opcode name
+  wide_after : {k : ℕ} → k ≡ 256 * byte_in o.words (s.at + 2) + byte_in o.words (s.at + 3) →
+      plus (bit_or (wrap (256 * byte_in q.world.words (next (next m.pc)))) (byte_in q.world.words (next (next (next m.pc))))) m.lv ≡ plus m.lv k
+  wide_after {k} index =
+      ap (λ (x : ℕ). plus x m.lv) (pair_is o.words (s.at + 2) (s.at + 3) a.counts.byte2 a.counts.byte3 index) ∙ plus_comm k m.lv
 
-  ldc_w : (i v : ℕ) → byte_in o.words s.at ≡ 0x13 → i ≡ 256 * byte_in o.words (s.at + 1) + byte_in o.words (s.at + 2) → i < 0x4000 → slice_index o.words (0x4000 + i) ≡ v → base (frames_of s) < length o.words →
-      ReachesBoundary program o 7 (record { state = m; world = w; stalls = k }) (push s v (s.at + 3))
-  ldc_w i v code index small constant space =
-      let r : IsWordAccess (length o.words) w (next m.sp) (base (frames_of s)) = here.room space in
-      let op : m.mbr ≡ 0x13 = h.ready.mbr ∙ code in
-      let from : ℕ = plus (bit_or (wrap (256 * byte_in w.words (next m.pc))) (byte_in w.words (next (next m.pc)))) m.cpp in
-      let a : IsWordAccess (length o.words) w from (0x4000 + i) =
-      law.access (length o.words) w from (0x4000 + i) (law.words.plus_is (pair_is o.words (s.at + 1) (s.at + 2) c.byte1 c.byte2 index) h.holds.cpp_is (omega arith) (omega (arith, small))) (omega (arith, map.low)) in
-      let is : read_value (length o.words) w.words w.untaken from ≡ v = a.value ∙ (h.holds.memory.kept (0x4000 + i) (omega arith) ∙ constant) in
-      let same : slice_set w.words (next m.sp) (read_value (length o.words) w.words w.untaken from) ≡ slice_set w.words (base (frames_of s)) v = ap₂ (slice_set w.words) r.is is in
-      comes program has o (0x13 ∷ []) 7 m w k s _ h (assumption c)
-      (at_text o _ _ _
-      (here.pushes s.running.operands _ (s.at + 3) _ _ _ _ _ s.untaken h.holds.frames space
-      refl refl r.is is same (a.untaken ∙ h.holds.untaken) (r.given _ _))
-      c.pc3 (omega arith) refl refl refl refl refl refl)
-      refl
+  -- the second opcode of a wide instruction
+  second : {code : ℕ} → byte_in o.words (s.at + 1) ≡ code → byte_in q.world.words (next m.pc) + 256 ≡ code + 256
+  second is = ap (λ (x : ℕ). x + 256) (a.counts.byte1 ∙ is)
 
-  istore : (i y : ℕ) (rest : List ℕ) → byte_in o.words s.at ≡ 0x36 → i ≡ byte_in o.words (s.at + 1) → s.running.operands ≡ y ∷ rest → i < length s.running.locals → is_own s.running.back i ≡ true →
-      ReachesBoundary program o 6 (record { state = m; world = w; stalls = k }) (with_local s i y rest (s.at + 2))
-  istore i y rest code index ops l own =
-      let op : m.mbr ≡ 0x36 = h.ready.mbr ∙ code in
-      let t : Top o s m.sp m.lv m.cpp m.tos w y rest = here.top y rest ops in
-      let to : ℕ = plus m.lv (byte_in w.words (next m.pc)) in
-      let a : IsWordAccess (length o.words) w to (base s.callers + i) = here.local to i l (law.words.plus_is h.holds.lv_is (c.byte1 ∙ sym index) refl (omega (arith, h.holds.fits, map.high))) in
-      let same : slice_set w.words to m.tos ≡ slice_set w.words (base s.callers + i) y = ap₂ (slice_set w.words) a.is t.tos_is in
-      comes program has o (0x36 ∷ []) 6 m w k s _ h (assumption c)
-      (at_text o _ _ _
-      (here.stores i y rest (s.at + 2) _ _ _ _ _ t l own refl refl refl refl same (t.down.untaken ∙ h.holds.untaken) (a.given _ _))
-      c.pc2 (omega arith) refl refl refl refl refl refl)
-      refl
-
-  wide_istore : (i y : ℕ) (rest : List ℕ) → byte_in o.words s.at ≡ 0xC4 → byte_in o.words (s.at + 1) ≡ 0x36 → i ≡ 256 * byte_in o.words (s.at + 2) + byte_in o.words (s.at + 3) → s.running.operands ≡ y ∷ rest → i < length s.running.locals → is_own s.running.back i ≡ true →
-      ReachesBoundary program o 9 (record { state = m; world = w; stalls = k }) (with_local s i y rest (s.at + 4))
-  wide_istore i y rest code code2 index ops l own =
-      let op : m.mbr ≡ 0xC4 = h.ready.mbr ∙ code in
-      let op2 : byte_in w.words (next m.pc) + 256 ≡ 0x136 = omega (arith, c.byte1 ∙ code2) in
-      let t : Top o s m.sp m.lv m.cpp m.tos w y rest = here.top y rest ops in
-      let to : ℕ = plus (bit_or (wrap (256 * byte_in w.words (next (next m.pc)))) (byte_in w.words (next (next (next m.pc))))) m.lv in
-      let a : IsWordAccess (length o.words) w to (base s.callers + i) = here.local to i l (law.words.plus_is (pair_is o.words (s.at + 2) (s.at + 3) c.byte2 c.byte3 index) h.holds.lv_is (omega arith) (omega (arith, h.holds.fits, map.high))) in
-      let same : slice_set w.words to m.tos ≡ slice_set w.words (base s.callers + i) y = ap₂ (slice_set w.words) a.is t.tos_is in
-      comes program has o (0xC4 ∷ 0x136 ∷ []) 9 m w k s _ h (assumption c)
-      (at_text o _ _ _
-      (here.stores i y rest (s.at + 4) _ _ _ _ _ t l own refl refl refl refl same (t.down.untaken ∙ h.holds.untaken) (a.given _ _))
-      c.pc4 (omega arith) refl refl refl refl refl refl)
-      refl
-
-  iinc : (i v : ℕ) → byte_in o.words s.at ≡ 0x84 → i ≡ byte_in o.words (s.at + 1) → slice_get s.running.locals i ≡ Some (Some v) → is_own s.running.back i ≡ true →
-      ReachesBoundary program o 6 (record { state = m; world = w; stalls = k }) (with_local s i (plus v (signed_byte (byte_in o.words (s.at + 2)))) s.running.operands (s.at + 3))
-  iinc i v code index local own =
-      let op : m.mbr ≡ 0x84 = h.ready.mbr ∙ code in
-      let l : i < length s.running.locals = slice_get_within s.running.locals i (Some v) local in
-      let at : ℕ = plus m.lv (byte_in w.words (next m.pc)) in
-      let a : IsWordAccess (length o.words) w at (base s.callers + i) = here.local at i l (law.words.plus_is h.holds.lv_is (c.byte1 ∙ sym index) refl (omega (arith, h.holds.fits, map.high))) in
-      let y : ℕ = plus v (signed_byte (byte_in o.words (s.at + 2))) in
-      let is : plus (read_value (length o.words) w.words w.untaken at) (signed_byte (byte_in w.words (next (next m.pc)))) ≡ y = ap₂ plus (a.value ∙ h.holds.frames.0.locals i v local) (ap signed_byte c.byte2) in
-      let same : slice_set w.words at (plus (read_value (length o.words) w.words w.untaken at) (signed_byte (byte_in w.words (next (next m.pc))))) ≡ slice_set w.words (base s.callers + i) y = ap₂ (slice_set w.words) a.is is in
-      comes program has o (0x84 ∷ []) 6 m w k s _ h (assumption c)
-      (at_boundary o _ _ _
-      (here.changes i y (s.at + 3) _ _ _ _ _ l own refl refl refl refl same (a.untaken ∙ h.holds.untaken) (a.given _ _))
-      c.pc3 c.byte3 refl refl refl refl refl)
-      refl
-
-  wide_iinc : (i v : ℕ) → byte_in o.words s.at ≡ 0xC4 → byte_in o.words (s.at + 1) ≡ 0x84 → i ≡ 256 * byte_in o.words (s.at + 2) + byte_in o.words (s.at + 3) → slice_get s.running.locals i ≡ Some (Some v) → is_own s.running.back i ≡ true →
-      ReachesBoundary program o 11 (record { state = m; world = w; stalls = k }) (with_local s i (plus v (signed_pair (byte_in o.words (s.at + 4)) (byte_in o.words (s.at + 5)))) s.running.operands (s.at + 6))
-  wide_iinc i v code code2 index local own =
-      let op : m.mbr ≡ 0xC4 = h.ready.mbr ∙ code in
-      let op2 : byte_in w.words (next m.pc) + 256 ≡ 0x184 = omega (arith, c.byte1 ∙ code2) in
-      let l : i < length s.running.locals = slice_get_within s.running.locals i (Some v) local in
-      let at : ℕ = plus (bit_or (wrap (256 * byte_in w.words (next (next m.pc)))) (byte_in w.words (next (next (next m.pc))))) m.lv in
-      let a : IsWordAccess (length o.words) w at (base s.callers + i) = here.local at i l (law.words.plus_is (pair_is o.words (s.at + 2) (s.at + 3) c.byte2 c.byte3 index) h.holds.lv_is (omega arith) (omega (arith, h.holds.fits, map.high))) in
-      let y : ℕ = plus v (signed_pair (byte_in o.words (s.at + 4)) (byte_in o.words (s.at + 5))) in
-      let is : plus (bit_or (wrap (256 * signed_byte (byte_in w.words (next (next (next (next m.pc))))))) (byte_in w.words (next (next (next (next (next m.pc))))))) (read_value (length o.words) w.words w.untaken at) ≡ y = ap₂ plus (signed_pair_is o.words (s.at + 4) (s.at + 5) c.byte4 c.byte5) (a.value ∙ h.holds.frames.0.locals i v local) ∙ law.words.plus_comm (signed_pair (byte_in o.words (s.at + 4)) (byte_in o.words (s.at + 5))) v in
-      let same : slice_set w.words at (plus (bit_or (wrap (256 * signed_byte (byte_in w.words (next (next (next (next m.pc))))))) (byte_in w.words (next (next (next (next (next m.pc))))))) (read_value (length o.words) w.words w.untaken at)) ≡ slice_set w.words (base s.callers + i) y = ap₂ (slice_set w.words) a.is is in
-      comes program has o (0xC4 ∷ 0x184 ∷ []) 11 m w k s _ h (assumption c)
-      (at_boundary o _ _ _
-      (here.changes i y (s.at + 6) _ _ _ _ _ l own refl refl refl refl same (a.untaken ∙ h.holds.untaken) (a.given _ _))
-      c.pc6 c.byte6 refl refl refl refl refl)
-      refl
-
-module _ (program : List ℕ) (has : HasStatements program) (o : Origin) (v : VerifiedView) (loads : Loads v o) (law : StackLaw) where
-  abbrev map : IsMapEnd (length o.words)
-  map = law.map v o loads
-
-  goes : (s to : State) (q : Moment Micro) (i : Instr) → IsOfLocals i → Fine v s → IsNext v o s i → Stands o s q.state q.world → Went v.image v.map.stack_end s to i →
+  goes : (to : State) (i : Instr) → IsOfLocals i → IsNext v o s i → Went v.image v.map.stack_end s to i →
       Moves mic1_meaning program (Stands o) o.given q (cost v.image (timing_of Mic1) i s) to
-  goes s to q (LdcW k) is fine n h went =
-      let c : IsConstant o k went.value = law.constant v o loads k went.value went.found in
-      moves program o v s to _ q (LdcW k) 7 h refl (omega arith) went.leads.goes
-      (ldc_w program has o map law s q.state q.world q.stalls h (law.inside v o s _ loads n) k went.value n.reads.0 n.reads.1 c.small c.there (omega (arith, went.leads.fits, loads.long)))
-  goes s to q (Iload k) is fine n h went =
-      moves program o v s to _ q (Iload k) 5 h refl (omega arith) went.leads.goes
-      (iload program has o map law s q.state q.world q.stalls h (law.inside v o s _ loads n) k went.value n.reads.0 n.reads.1 went.set (omega (arith, went.leads.fits, loads.long)))
-  goes s to q (Istore k) is fine n h went =
-      moves program o v s to _ q (Istore k) 6 h refl (omega arith) went.leads.goes
-      (istore program has o map law s q.state q.world q.stalls h (law.inside v o s _ loads n) k went.top went.rest n.reads.0 n.reads.1 went.are went.leads.inside went.leads.own)
-  goes s to q (Iinc k b) is fine n h went =
-      moves program o v s to _ q (Iinc k b) 6 h refl (omega arith)
-      (ap (λ (x : ℕ). with_local s k (plus went.value x) s.running.operands (s.at + 3)) (sym n.reads.2) ∙ went.leads)
-      (iinc program has o map law s q.state q.world q.stalls h (law.inside v o s _ loads n) k went.value n.reads.0 n.reads.1 went.set (n.finds.named k (inl refl)).1)
-  goes s to q (WideIload k) is fine n h went =
-      moves program o v s to _ q (WideIload k) 8 h refl (omega arith) went.leads.goes
-      (wide_iload program has o map law s q.state q.world q.stalls h (law.inside v o s _ loads n) k went.value n.reads.0 n.reads.1 n.reads.2 went.set (omega (arith, went.leads.fits, loads.long)))
-  goes s to q (WideIstore k) is fine n h went =
-      moves program o v s to _ q (WideIstore k) 9 h refl (omega arith) went.leads.goes
-      (wide_istore program has o map law s q.state q.world q.stalls h (law.inside v o s _ loads n) k went.top went.rest n.reads.0 n.reads.1 n.reads.2 went.are went.leads.inside went.leads.own)
-  goes s to q (WideIinc k z) is fine n h went =
-      moves program o v s to _ q (WideIinc k z) 11 h refl (omega arith)
-      (ap (λ (x : ℕ). with_local s k (plus went.value x) s.running.operands (s.at + 6)) (sym n.reads.3) ∙ went.leads)
-      (wide_iinc program has o map law s q.state q.world q.stalls h (law.inside v o s _ loads n) k went.value n.reads.0 n.reads.1 n.reads.2 went.set (n.finds.named k (inl refl)).1)
-  goes s to q i is fine n h went = absurd is
+  goes to (LdcW k) is n went =
+      let op = opcode a n.reads.0 in
+      let l = constant_pushed a.loads a.holds went (constant_after n.reads.1) in
+      arrives a (LdcW k) 7 (0x13 ∷ []) refl (omega arith) went.leads.goes (assumption)
+      (at_text o _ _ _ l.push.leaves a.counts.pc3 (omega arith) refl refl refl refl refl refl)
+  goes to (Iload k) is n went =
+      let op = opcode a n.reads.0 in
+      let l = local_pushed a.loads a.holds went (byte_after n.reads.1) in
+      arrives a (Iload k) 5 (0x15 ∷ []) refl (omega arith) went.leads.goes (assumption)
+      (at_text o _ _ _ l.push.leaves a.counts.pc2 (omega arith) refl refl refl refl refl refl)
+  goes to (Istore k) is n went =
+      let op = opcode a n.reads.0 in
+      let l = stored a.loads a.holds went (byte_after n.reads.1) in
+      arrives a (Istore k) 6 (0x36 ∷ []) refl (omega arith) went.leads.goes (assumption)
+      (at_text o _ _ _ l.leaves a.counts.pc2 (omega arith) refl refl refl refl refl refl)
+  goes to (Iinc k b) is n went =
+      let op = opcode a n.reads.0 in
+      let l = changed a.loads a.holds (word_of b) (n.finds.named k (inl refl)).1 went (byte_after n.reads.1)
+          (ap signed_byte a.counts.byte2 ∙ sym n.reads.2) in
+      arrives a (Iinc k b) 6 (0x84 ∷ []) refl (omega arith) went.leads (assumption)
+      (at_boundary o _ _ _ l.leaves a.counts.pc3 a.counts.byte3 refl refl refl refl refl)
+  goes to (WideIload k) is n went =
+      let op = opcode a n.reads.0 in
+      let op2 = second n.reads.1 in
+      let l = local_pushed a.loads a.holds went (wide_after n.reads.2) in
+      arrives a (WideIload k) 8 (0xC4 ∷ 0x115 ∷ []) refl (omega arith) went.leads.goes (assumption)
+      (at_text o _ _ _ l.push.leaves a.counts.pc4 (omega arith) refl refl refl refl refl refl)
+  goes to (WideIstore k) is n went =
+      let op = opcode a n.reads.0 in
+      let op2 = second n.reads.1 in
+      let l = stored a.loads a.holds went (wide_after n.reads.2) in
+      arrives a (WideIstore k) 9 (0xC4 ∷ 0x136 ∷ []) refl (omega arith) went.leads.goes (assumption)
+      (at_text o _ _ _ l.leaves a.counts.pc4 (omega arith) refl refl refl refl refl refl)
+  goes to (WideIinc k z) is n went =
+      let op = opcode a n.reads.0 in
+      let op2 = second n.reads.1 in
+      let l = changed_turned a.loads a.holds (word_of z) (n.finds.named k (inl refl)).1 went (wide_after n.reads.2)
+          (signed_pair_is o.words (s.at + 4) (s.at + 5) a.counts.byte4 a.counts.byte5 ∙ sym n.reads.3) in
+      arrives a (WideIinc k z) 11 (0xC4 ∷ 0x184 ∷ []) refl (omega arith) went.leads (assumption)
+      (at_boundary o _ _ _ l.leaves a.counts.pc6 a.counts.byte6 refl refl refl refl refl)
+  goes to i is n went = absurd is
 
-  limits : (s left : State) (q : Moment Micro) (i : Instr) → IsOfLocals i → Fine v s → IsNext v o s i → Stands o s q.state q.world → Overran v.image v.map.stack_end s left i →
+  limits : (left : State) (i : Instr) → IsOfLocals i → IsNext v o s i → Overran v.image v.map.stack_end s left i →
       Overruns mic1_meaning program (Stands o) o.given q left
-  limits s left q (LdcW k) is fine n h over =
-      let c : Counts o s q.state q.world = counts o map s q.state q.world h (law.inside v o s _ loads n) in
-      let op : q.state.mbr ≡ 0x13 = h.ready.mbr ∙ n.reads.0 in
-      let from : ℕ = plus (bit_or (wrap (256 * byte_in q.world.words (next q.state.pc))) (byte_in q.world.words (next (next q.state.pc)))) q.state.cpp in
-      let small : k < 0x4000 = (law.constant v o loads k over.value over.found).small in
-      let a : IsWordAccess (length o.words) q.world from (0x4000 + k) =
-      law.access (length o.words) q.world from (0x4000 + k) (law.words.plus_is (pair_is o.words (s.at + 1) (s.at + 2) c.byte1 c.byte2 n.reads.1) h.holds.cpp_is (omega arith) (omega (arith, small))) (omega (arith, map.low)) in
-      let fault = (law.boundary o s q.state.sp q.state.lv q.state.cpp q.state.tos q.world map h.holds).full (omega (arith, over.leads.over, loads.long)) in
-      overruns program has o s left q (0x13 ∷ []) 5 (next q.state.sp) h (omega arith) (assumption) refl refl h.holds.memory.long
-      (ap (λ (r : Option Refusal). first_refusal r (fetch_refusal (length o.words) (next (next (next q.state.pc))))) fault)
-      (a.untaken ∙ (h.holds.untaken ∙ ap (λ (t : State). t.untaken) over.leads.leaves)) (h.holds.given ∙ ap (λ (t : State). o.given ++ t.given) over.leads.leaves)
-  limits s left q (Iload k) is fine n h over =
-      let c : Counts o s q.state q.world = counts o map s q.state q.world h (law.inside v o s _ loads n) in
-      let op : q.state.mbr ≡ 0x15 = h.ready.mbr ∙ n.reads.0 in
-      let from : ℕ = plus q.state.lv (byte_in q.world.words (next q.state.pc)) in
-      let l : k < length s.running.locals = slice_get_within s.running.locals k (Some over.value) over.set in
-      let a : IsWordAccess (length o.words) q.world from (base s.callers + k) =
-      (law.boundary o s q.state.sp q.state.lv q.state.cpp q.state.tos q.world map h.holds).local from k l (law.words.plus_is h.holds.lv_is (c.byte1 ∙ sym n.reads.1) refl (omega (arith, h.holds.fits, map.high))) in
-      let fault = (law.boundary o s q.state.sp q.state.lv q.state.cpp q.state.tos q.world map h.holds).full (omega (arith, over.leads.over, loads.long)) in
-      overruns program has o s left q (0x15 ∷ []) 3 (next q.state.sp) h (omega arith) (assumption) refl refl h.holds.memory.long
-      (ap (λ (r : Option Refusal). first_refusal r (fetch_refusal (length o.words) (next (next q.state.pc)))) fault)
-      (a.untaken ∙ (h.holds.untaken ∙ ap (λ (t : State). t.untaken) over.leads.leaves)) (h.holds.given ∙ ap (λ (t : State). o.given ++ t.given) over.leads.leaves)
-  limits s left q (WideIload k) is fine n h over =
-      let c : Counts o s q.state q.world = counts o map s q.state q.world h (law.inside v o s _ loads n) in
-      let op : q.state.mbr ≡ 0xC4 = h.ready.mbr ∙ n.reads.0 in
-      let op2 : byte_in q.world.words (next q.state.pc) + 256 ≡ 0x115 = omega (arith, c.byte1 ∙ n.reads.1) in
-      let from : ℕ = plus (bit_or (wrap (256 * byte_in q.world.words (next (next q.state.pc)))) (byte_in q.world.words (next (next (next q.state.pc))))) q.state.lv in
-      let l : k < length s.running.locals = slice_get_within s.running.locals k (Some over.value) over.set in
-      let a : IsWordAccess (length o.words) q.world from (base s.callers + k) =
-      (law.boundary o s q.state.sp q.state.lv q.state.cpp q.state.tos q.world map h.holds).local from k l (law.words.plus_is (pair_is o.words (s.at + 2) (s.at + 3) c.byte2 c.byte3 n.reads.2) h.holds.lv_is (omega arith) (omega (arith, h.holds.fits, map.high))) in
-      let fault = (law.boundary o s q.state.sp q.state.lv q.state.cpp q.state.tos q.world map h.holds).full (omega (arith, over.leads.over, loads.long)) in
-      overruns program has o s left q (0xC4 ∷ 0x115 ∷ []) 6 (next q.state.sp) h (omega arith) (assumption) refl refl h.holds.memory.long
-      (ap (λ (r : Option Refusal). first_refusal r (fetch_refusal (length o.words) (next (next (next (next q.state.pc)))))) fault)
-      (a.untaken ∙ (h.holds.untaken ∙ ap (λ (t : State). t.untaken) over.leads.leaves)) (h.holds.given ∙ ap (λ (t : State). o.given ++ t.given) over.leads.leaves)
-  limits s left q i is fine n h over = absurd (assumption)
+  limits left (LdcW k) is n over =
+      let op = opcode a n.reads.0 in
+      let l = constant_full a.loads a.holds over (constant_after n.reads.1) in
+      overruns a left 5 (next m.sp) (0x13 ∷ []) (omega arith) (assumption) refl refl a.holds.memory.long l.full.refused l.full.untaken l.full.given
+  limits left (Iload k) is n over =
+      let op = opcode a n.reads.0 in
+      let l = local_full a.loads a.holds over (byte_after n.reads.1) in
+      overruns a left 3 (next m.sp) (0x15 ∷ []) (omega arith) (assumption) refl refl a.holds.memory.long l.full.refused l.full.untaken l.full.given
+  limits left (WideIload k) is n over =
+      let op = opcode a n.reads.0 in
+      let op2 = second n.reads.1 in
+      let l = local_full a.loads a.holds over (wide_after n.reads.2) in
+      overruns a left 6 (next m.sp) (0xC4 ∷ 0x115 ∷ []) (omega arith) (assumption) refl refl a.holds.memory.long l.full.refused l.full.untaken l.full.given
+  limits left i is n over = absurd (assumption)
 
-  pub locals : Takes mic1_meaning program (Stands o) o.given (timing_of Mic1) v o IsOfLocals
-  locals = record { goes = goes; limits = limits }
+pub locals : (program : List ℕ) → HasStatements program → (o : Origin) (v : VerifiedView) → Loads v o → Takes mic1_meaning program (Stands o) o.given (timing_of Mic1) v o IsOfLocals
+locals program has o v loads = record {
+  goes = λ s to q i is fine n h went. goes (at i has loads n h) to i is n went;
+  limits = λ s left q i is fine n h over. limits (at i has loads n h) left i is n over;
+}

@@ -1,0 +1,82 @@
+-- Places of the text, as a machine comes to them that takes its bytes from a fetch unit: PC after an opcode, and what it becomes as one byte or two are taken.
+use Rattle.std.proofs.Common.{◌≡◌, ℕ, ◌+◌, ◌*◌, ◌^◌, ◌<◌, ◌≤◌, List, refl, arith, ◌∙◌, ap, ap₂}
+use Rattle.mic_words.specs.Arithmetic.{wrap, plus, before, signed_pair}
+use Rattle.console_port.specs.World.{byte_in}
+use Rattle.ijvm_simulation.specs.Stack.{jump}
+use Rattle.ijvm_simulation.proofs.Stack.{law}
+
+-- a place of the text: a number of the machine is this address, and the bytes there
+pub record Place (words : List ℕ) (x a : ℕ) : Type 0 where
+  pub is : x ≡ a
+  pub near : x < 0x1FF00
+  pub byte : byte_in words x ≡ byte_in words a
+  pub second : byte_in words (x + 1) ≡ byte_in words (a + 1)
+
+pub place_at : (words : List ℕ) (x a : ℕ) → x ≡ a → a < 0x1FF00 → Place words x a
+place_at words x a e l =
+    let on : x + 1 ≡ a + 1 = omega arith in
+    record { is = e; near = omega arith; byte = ap (byte_in words) e; second = ap (byte_in words) on }
+
+-- the place this many bytes further on
+pub place_on : (words : List ℕ) (x a d b : ℕ) → Place words x a → a + d ≡ b → b < 0x1FF00 → Place words (plus x d) b
+unfolding wrap
+place_on words x a d b p e l = place_at words (plus x d) b (omega (arith, p.is)) l
+
+-- the number that the two bytes at a place make
+pub pair_at : (words : List ℕ) (x a b : ℕ) → Place words x a → a + 1 ≡ b → 256 * byte_in words x + byte_in words (x + 1) ≡ 256 * byte_in words a + byte_in words b
+pair_at words x a b p e = ap₂ (λ (i : ℕ) (j : ℕ). 256 * i + j) p.byte (p.second ∙ ap (byte_in words) e)
+
+-- the signed number that the two bytes at a place make
+pub signed_pair_at : (words : List ℕ) (x a b : ℕ) → Place words x a → a + 1 ≡ b → signed_pair (byte_in words x) (byte_in words (x + 1)) ≡ signed_pair (byte_in words a) (byte_in words b)
+signed_pair_at words x a b p e = ap₂ signed_pair p.byte (p.second ∙ ap (byte_in words) e)
+
+-- PC after the opcode at this address, and what it becomes
+pub record Counts (words : List ℕ) (at pc : ℕ) : Type 0 where
+  pub p0 : Place words pc (at + 1)
+  pub p1 : Place words (plus pc 1) (at + 2)
+  pub p2 : Place words (plus pc 2) (at + 3)
+  pub p11 : Place words (plus (plus pc 1) 1) (at + 3)
+  pub p111 : Place words (plus (plus (plus pc 1) 1) 1) (at + 4)
+  pub p21 : Place words (plus (plus pc 2) 1) (at + 4)
+  pub p12 : Place words (plus (plus pc 1) 2) (at + 4)
+  pub p121 : Place words (plus (plus (plus pc 1) 2) 1) (at + 5)
+  pub p122 : Place words (plus (plus (plus pc 1) 2) 2) (at + 6)
+  pub p1221 : Place words (plus (plus (plus (plus pc 1) 2) 2) 1) (at + 7)
+
+pub counts : (words : List ℕ) (at pc : ℕ) → pc ≡ at + 1 → at < 0x10000 → Counts words at pc
+counts words at pc is inside =
+    let p0 : Place words pc (at + 1) = place_at words pc (at + 1) is (omega arith) in
+    let p1 : Place words (plus pc 1) (at + 2) = place_on words pc (at + 1) 1 (at + 2) p0 (omega arith) (omega arith) in
+    let p2 : Place words (plus pc 2) (at + 3) = place_on words pc (at + 1) 2 (at + 3) p0 (omega arith) (omega arith) in
+    let p11 : Place words (plus (plus pc 1) 1) (at + 3) = place_on words (plus pc 1) (at + 2) 1 (at + 3) p1 (omega arith) (omega arith) in
+    let p12 : Place words (plus (plus pc 1) 2) (at + 4) = place_on words (plus pc 1) (at + 2) 2 (at + 4) p1 (omega arith) (omega arith) in
+    let p122 : Place words (plus (plus (plus pc 1) 2) 2) (at + 6) = place_on words (plus (plus pc 1) 2) (at + 4) 2 (at + 6) p12 (omega arith) (omega arith) in
+    record {
+      p0 = p0;
+      p1 = p1;
+      p2 = p2;
+      p11 = p11;
+      p111 = place_on words (plus (plus pc 1) 1) (at + 3) 1 (at + 4) p11 (omega arith) (omega arith);
+      p21 = place_on words (plus pc 2) (at + 3) 1 (at + 4) p2 (omega arith) (omega arith);
+      p12 = p12;
+      p121 = place_on words (plus (plus pc 1) 2) (at + 4) 1 (at + 5) p12 (omega arith) (omega arith);
+      p122 = p122;
+      p1221 = place_on words (plus (plus (plus pc 1) 2) 2) (at + 6) 1 (at + 7) p122 (omega arith) (omega arith);
+    }
+
+-- where the words of goto come to
+abbrev pub goes_to : List ℕ → ℕ → ℕ
+goes_to words pc = plus (before pc) (signed_pair (byte_in words pc) (byte_in words (pc + 1)))
+
+-- the place there, and the one after it
+pub record Jump (words : List ℕ) (at pc : ℕ) : Type 0 where
+  pub there : Place words (goes_to words pc) (jump words at)
+  pub behind : Place words (plus (goes_to words pc) 1) (jump words at + 1)
+
+pub jumps : {words : List ℕ} {at pc : ℕ} → pc < 2 ^ 32 → Counts words at pc → jump words at < 0x10000 → Jump words at pc
+jumps {words} {at} {pc} low c to =
+    let is : goes_to words pc ≡ jump words at =
+    ap₂ plus (law.words.before_is pc at c.p0.is low) (signed_pair_at words pc (at + 1) (at + 2) c.p0 (omega arith))
+    ∙ law.words.plus_comm at (signed_pair (byte_in words (at + 1)) (byte_in words (at + 2))) in
+    let there : Place words (goes_to words pc) (jump words at) = place_at words (goes_to words pc) (jump words at) is (omega arith) in
+    record { there = there; behind = place_on words (goes_to words pc) (jump words at) 1 (jump words at + 1) there refl (omega arith) }
