@@ -21,6 +21,7 @@ pub mod Writes
 pub mod Stack
 pub mod Leaves
 pub mod Places
+pub mod Calling
 pub mod Counted
 pub mod Words
 pub mod Images

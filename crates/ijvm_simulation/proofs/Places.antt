@@ -1,7 +1,8 @@
 -- Places of the text, as a machine comes to them that takes its bytes from a fetch unit: PC after an opcode, and what it becomes as one byte or two are taken.
-use Rattle.std.proofs.Common.{◌≡◌, ℕ, ◌+◌, ◌*◌, ◌^◌, ◌<◌, ◌≤◌, List, refl, arith, ◌∙◌, ap, ap₂}
+use Rattle.std.proofs.Common.{◌≡◌, ℕ, ◌+◌, ◌*◌, ◌^◌, ◌<◌, List, refl, sym, arith, ◌∙◌, ap, ap₂}
 use Rattle.mic_words.specs.Arithmetic.{wrap, plus, before, signed_pair}
 use Rattle.console_port.specs.World.{byte_in}
+use Rattle.ijvm_image.specs.declared.method.Method.{Method}
 use Rattle.ijvm_simulation.specs.Stack.{jump}
 use Rattle.ijvm_simulation.proofs.Stack.{law}
 
@@ -80,3 +81,41 @@ jumps {words} {at} {pc} low c to =
     ∙ law.words.plus_comm at (signed_pair (byte_in words (at + 1)) (byte_in words (at + 2))) in
     let there : Place words (goes_to words pc) (jump words at) = place_at words (goes_to words pc) (jump words at) is (omega arith) in
     record { there = there; behind = place_on words (goes_to words pc) (jump words at) 1 (jump words at + 1) there refl (omega arith) }
+
+-- The address of a local or a constant, as the bytes after the opcode name it: one byte, two, or two after a second opcode.
+
+pub byte_after : {words : List ℕ} {at pc k : ℕ} (from : ℕ) → Counts words at pc → k ≡ byte_in words (at + 1) → plus from (byte_in words pc) ≡ plus from k
+byte_after from c index = ap (plus from) (c.p0.byte ∙ sym index)
+
+pub pair_after : {words : List ℕ} {at pc k : ℕ} (from : ℕ) → Counts words at pc → k ≡ 256 * byte_in words (at + 1) + byte_in words (at + 2) →
+    plus from (256 * byte_in words pc + byte_in words (pc + 1)) ≡ plus from k
+pair_after {words} {at} {pc} from c index = ap (plus from) (pair_at words pc (at + 1) (at + 2) c.p0 (omega arith) ∙ sym index)
+
+pub wide_after : {words : List ℕ} {at pc k : ℕ} (from : ℕ) → Counts words at pc → k ≡ 256 * byte_in words (at + 2) + byte_in words (at + 3) →
+    plus from (256 * byte_in words (plus pc 1) + byte_in words (plus pc 1 + 1)) ≡ plus from k
+wide_after {words} {at} {pc} from c index = ap (plus from) (pair_at words (plus pc 1) (at + 2) (at + 3) c.p1 (omega arith) ∙ sym index)
+
+-- a method, where its entry is at x
+pub record Entry (words : List ℕ) (x : ℕ) (m : Method) : Type 0 where
+  pub e0 : Place words x m.entry
+  pub e2 : Place words (plus x 2) (m.entry + 2)
+  pub e4 : Place words (plus (plus x 2) 2) (m.entry + 4)
+  pub e5 : Place words (plus (plus (plus x 2) 2) 1) (m.entry + 5)
+  pub params : 256 * byte_in words x + byte_in words (x + 1) ≡ m.params
+  pub others : 256 * byte_in words (plus x 2) + byte_in words (plus x 2 + 1) ≡ m.others
+
+pub entry_at : {words : List ℕ} {x : ℕ} (m : Method) → x ≡ m.entry → m.entry + 4 < 0x10000 → m.params ≡ 256 * byte_in words m.entry + byte_in words (m.entry + 1) →
+    m.others ≡ 256 * byte_in words (m.entry + 2) + byte_in words (m.entry + 3) → Entry words x m
+entry_at {words} {x} m is whole params others =
+    let e : ℕ = m.entry in
+    let e0 : Place words x e = place_at words x e is (omega arith) in
+    let e2 : Place words (plus x 2) (e + 2) = place_on words x e 2 (e + 2) e0 refl (omega arith) in
+    let e4 : Place words (plus (plus x 2) 2) (e + 4) = place_on words (plus x 2) (e + 2) 2 (e + 4) e2 (omega arith) (omega arith) in
+    record {
+      e0 = e0;
+      e2 = e2;
+      e4 = e4;
+      e5 = place_on words (plus (plus x 2) 2) (e + 4) 1 (e + 5) e4 (omega arith) (omega arith);
+      params = pair_at words x e (e + 1) e0 refl ∙ sym params;
+      others = pair_at words (plus x 2) (e + 2) (e + 3) e2 (omega arith) ∙ sym others;
+    }

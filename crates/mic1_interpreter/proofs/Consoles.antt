@@ -1,5 +1,5 @@
 -- IN and OUT.
-use Rattle.std.proofs.Common.{◌≡◌, ℕ, ◌+◌, ◌<◌, List, [], ◌∷◌, refl, arith}
+use Rattle.std.proofs.Common.{ℕ, List, [], ◌∷◌, refl, arith}
 use Rattle.mic_words.specs.declared.machine.Machine.TheVariants.{Mic1}
 use Rattle.mic_words.specs.Arithmetic.{next}
 use Rattle.ijvm_instr.specs.declared.instr.Instr.{Instr}

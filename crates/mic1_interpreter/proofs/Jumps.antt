@@ -1,5 +1,5 @@
 -- Jumps and branches.
-use Rattle.std.proofs.Common.{◌≡◌, ℕ, ◌+◌, ◌*◌, ◌<◌, ◌≤◌, Bool, true, false, ◌==◌, None, List, [], ◌∷◌, length, refl, arith, ◌∙◌, ap, ap₂, inl, inr}
+use Rattle.std.proofs.Common.{◌≡◌, ℕ, ◌+◌, ◌*◌, Bool, ◌==◌, None, List, [], ◌∷◌, length, refl, arith, ◌∙◌, ap, ap₂, inl, inr}
 use Rattle.std.specs.Prelude.{bit_or, if◌then◌else◌, ℤ}
 use Rattle.std.proofs.lemmas.Bool.{cases_Bool}
 use Rattle.mic_words.specs.declared.machine.Machine.TheVariants.{Mic1}

@@ -1,5 +1,5 @@
 -- Instructions that name a local or a constant.
-use Rattle.std.proofs.Common.{◌≡◌, ℕ, ◌+◌, ◌*◌, ◌<◌, List, [], ◌∷◌, refl, arith, sym, ◌∙◌, ap, ap₂, inl}
+use Rattle.std.proofs.Common.{◌≡◌, ℕ, ◌+◌, ◌*◌, List, [], ◌∷◌, refl, arith, sym, ◌∙◌, ap, inl}
 use Rattle.mic_words.specs.declared.machine.Machine.TheVariants.{Mic1}
 use Rattle.std.specs.Prelude.{bit_or}
 use Rattle.mic_words.specs.Arithmetic.{wrap, plus, next, signed_byte}
@@ -34,7 +34,7 @@ module _ {program : List ℕ} {o : Origin} {v : VerifiedView} {s : State} {q : M
   byte_after index = ap (plus m.lv) (a.counts.byte1 ∙ sym index)
 
   -- that of a constant, which two bytes name
-  constant_after : {k : ℕ} → k ≡ 256 * byte_in o.words (s.at + 1) + byte_in o.words (s.at + 2) →
+  pub constant_after : {k : ℕ} → k ≡ 256 * byte_in o.words (s.at + 1) + byte_in o.words (s.at + 2) →
       plus (bit_or (wrap (256 * byte_in q.world.words (next m.pc))) (byte_in q.world.words (next (next m.pc)))) m.cpp ≡ plus m.cpp k
   constant_after {k} index =
       ap (λ (x : ℕ). plus x m.cpp) (pair_is o.words (s.at + 1) (s.at + 2) a.counts.byte1 a.counts.byte2 index) ∙ plus_comm k m.cpp
@@ -69,7 +69,7 @@ module _ {program : List ℕ} {o : Origin} {v : VerifiedView} {s : State} {q : M
   goes to (Iinc k b) is n went =
       let op = opcode a n.reads.0 in
       let l = changed a.loads a.holds (word_of b) (n.finds.named k (inl refl)).1 went (byte_after n.reads.1)
-          (ap signed_byte a.counts.byte2 ∙ sym n.reads.2) in
+      (ap signed_byte a.counts.byte2 ∙ sym n.reads.2) in
       arrives a (Iinc k b) 6 (0x84 ∷ []) refl (omega arith) went.leads (assumption)
       (at_boundary o _ _ _ l.leaves a.counts.pc3 a.counts.byte3 refl refl refl refl refl)
   goes to (WideIload k) is n went =
@@ -88,7 +88,7 @@ module _ {program : List ℕ} {o : Origin} {v : VerifiedView} {s : State} {q : M
       let op = opcode a n.reads.0 in
       let op2 = second n.reads.1 in
       let l = changed_turned a.loads a.holds (word_of z) (n.finds.named k (inl refl)).1 went (wide_after n.reads.2)
-          (signed_pair_is o.words (s.at + 4) (s.at + 5) a.counts.byte4 a.counts.byte5 ∙ sym n.reads.3) in
+      (signed_pair_is o.words (s.at + 4) (s.at + 5) a.counts.byte4 a.counts.byte5 ∙ sym n.reads.3) in
       arrives a (WideIinc k z) 11 (0xC4 ∷ 0x184 ∷ []) refl (omega arith) went.leads (assumption)
       (at_boundary o _ _ _ l.leaves a.counts.pc6 a.counts.byte6 refl refl refl refl refl)
   goes to i is n went = absurd is

@@ -1,5 +1,5 @@
 -- Instructions that use only the operands.
-use Rattle.std.proofs.Common.{◌≡◌, ℕ, ◌+◌, ◌<◌, List, [], ◌∷◌, refl, arith, sym, ◌∙◌, ap, inl, inr}
+use Rattle.std.proofs.Common.{ℕ, List, [], ◌∷◌, refl, arith, sym, ◌∙◌, ap, inl, inr}
 use Rattle.std.specs.Prelude.{bit_and, bit_or}
 use Rattle.std.proofs.lemmas.Nat.{and_comm, or_comm}
 use Rattle.mic_words.specs.declared.machine.Machine.TheVariants.{Mic1}

@@ -12,12 +12,13 @@ use Rattle.mic2_interpreter.specs.Stalls.{BootsWithStall}
 use Rattle.mic2_interpreter.proofs.Store.{Known}
 use Rattle.mic2_fetch_unit.specs.Held.{Jumped, Waits}
 use Rattle.mic2_interpreter.proofs.Guided.{Goes, Lacks, Short, moment_of, clocked, Arrives, IsSmooth, pass-clocked}
-use Rattle.mic2_interpreter.proofs.Boundaries.{ReachesBoundary, at_boundary, stands_at, Place, place_at, place_on}
+use Rattle.mic2_interpreter.proofs.Boundaries.{at_boundary, stands_at}
 use Rattle.ijvm_simulation.specs.Stands.{Origin, IsMemory}
 use Rattle.ijvm_simulation.specs.Stack.{IsMapEnd, StackLaw}
 use Rattle.ijvm_simulation.specs.Passes.{Moment, pass}
 use Rattle.ijvm_simulation.specs.Law.{Boots, reset_moment}
 use Rattle.ijvm_simulation.specs.Verified.{Loads}
+use Rattle.ijvm_simulation.proofs.Places.{Place, place_at, place_on}
 use Rattle.verifier_facts.specs.Accepted.{VerifiedView}
 
 module _ (program : List ℕ) (has : Known program) (o : Origin) (v : VerifiedView) (loads : Loads v o) (law : StackLaw) (input : List ℕ) where
@@ -32,8 +33,8 @@ module _ (program : List ℕ) (has : Known program) (o : Origin) (v : VerifiedVi
   starts = λ i. record { state = record start.state { unit = has.queue.start o.words i }; world = start.world; stalls = 0 }
 
   -- one stall, for the first word of the text
-  pub boot : ReachesBoundary program o 1 1 start (start_of v.main_locals input)
-  boot =
+  pub boots : BootsWithStall program o v input
+  boots =
       let map : IsMapEnd (length o.words) = law.map v o loads in
       let p0 : Place o.words 0 0 = place_at o.words 0 0 refl (omega arith) in
       let p1 : Place o.words (plus 0 1) 1 = place_on o.words 0 0 1 1 p0 (omega arith) (omega arith) in
@@ -42,22 +43,17 @@ module _ (program : List ℕ) (has : Known program) (o : Origin) (v : VerifiedVi
       let t : Short = clocked o.words (Lacks Waits ∷ Goes ∷ []) (byte_in o.words 0 ∷ []) reset in
       let a : Arrives o.words (pass mic2_meaning program 1 (moment_of o.words reset 0)) t = pass-clocked program has o.words map.low (Lacks Waits) (Goes ∷ []) (byte_in o.words 0 ∷ []) reset 0 memory refl smooth in
       record {
-        to = moment_of o.words t a.have;
-        passes = ap (pass mic2_meaning program 1) starts ∙ a.is;
-        stands = stands_at has.queue o (start_of v.main_locals input) t a.have
-            (at_boundary o _ _ _
-            (law.first v o input _ _ loads (omega arith))
-            p1.is (omega arith) refl refl refl refl refl)
-            a.held;
-        stalls = refl;
-      }
-
-  pub boots : BootsWithStall program o v input
-  boots =
-      let c : ReachesBoundary program o 1 1 start (start_of v.main_locals input) = boot in
-      record {
-        moves = record { n = 1; spent_is = refl; short = omega arith; begins = record { no_halt = refl; no_err = refl }; there = c.to; passes = c.passes; stands = c.stands };
-        stalled = c.stalls;
+        moves = record {
+          n = 1;
+          spent_is = refl;
+          short = omega arith;
+          begins = record { no_halt = refl; no_err = refl };
+          there = moment_of o.words t a.have;
+          passes = ap (pass mic2_meaning program 1) starts ∙ a.is;
+          stands = stands_at has.queue o (start_of v.main_locals input) t a.have
+              (at_boundary o _ _ _ (law.first v o input _ _ loads (omega arith)) p1.is (omega arith) refl refl refl refl refl) a.held;
+        };
+        stalled = refl;
       }
 
   -- a reset is no boundary

@@ -1,203 +1,108 @@
 -- Jumps and branches.
-use Rattle.std.proofs.Common.{◌≡◌, ℕ, ◌+◌, ◌<◌, ◌≤◌, Bool, true, false, ◌==◌, List, [], ◌∷◌, length, refl, arith, sym, ◌∙◌, ap, ap₂, subst, All, inr, add-zero}
-use Rattle.std.specs.Prelude.{if◌then◌else◌, ℤ}
-use Rattle.std.proofs.lemmas.List.Elements.{All-get_or}
-use Rattle.mic_words.specs.declared.machine.Machine.TheVariants.{Mic2}
-use Rattle.mic_words.specs.Arithmetic.{plus, minus, before, signed_pair, is_negative}
-use Rattle.console_port.specs.World.{World, read_value, untaken_after, byte_in}
-use Rattle.ijvm_instr.specs.declared.instr.Instr.{Instr}
+use Rattle.std.proofs.Common.{ℕ, ◌+◌, Bool, ◌==◌, List, [], ◌∷◌, length, refl, arith, sym, ◌∙◌, ap, inl, inr, add-zero}
+use Rattle.std.specs.Prelude.{if◌then◌else◌}
+use Rattle.std.proofs.lemmas.Bool.{cases_Bool}
+use Rattle.mic_words.specs.Arithmetic.{minus, before, is_negative}
+use Rattle.console_port.specs.World.{read_value, byte_in}
 use Rattle.ijvm_instr.specs.declared.instr.Instr.TheVariants.{Ifeq, Iflt, IfIcmpeq, Goto}
 use Rattle.ijvm_instr.specs.Instructions.{target}
-use Rattle.ijvm_meaning.specs.Frames.{State, IsWord, base}
-use Rattle.ijvm_meaning.specs.Cost.{timing_of, cost, tests, are_equal}
-use Rattle.ijvm_meaning.specs.Step.{moved, way}
+use Rattle.ijvm_meaning.specs.Step.{moved}
+use Rattle.ijvm_simulation.specs.Stack.{jump}
+use Rattle.ijvm_simulation.specs.Verified.{Loads, Fine, IsNext}
+use Rattle.ijvm_simulation.proofs.Stack.{law}
+use Rattle.ijvm_simulation.proofs.Places.{jumps}
+use Rattle.ijvm_simulation.proofs.Leaves.{stays, popped, popped_two, branches_by, branches_equal}
+use Rattle.ijvm_instr.specs.declared.instr.Instr.{Instr}
+use Rattle.ijvm_meaning.specs.Frames.{State}
 use Rattle.verifier_facts.specs.Accepted.{VerifiedView}
 use Rattle.mic2_datapath.specs.Micro.{Micro}
-use Rattle.ijvm_simulation.specs.Stands.{Origin, IsTop}
-use Rattle.ijvm_simulation.specs.Stack.{IsMapEnd, Top, Two, AtBoundary, StackLaw, jump, Lands}
+use Rattle.ijvm_simulation.specs.Stands.{Origin}
 use Rattle.ijvm_simulation.specs.Passes.{Moment}
 use Rattle.ijvm_simulation.specs.Outcomes.{Went, Overran}
-use Rattle.ijvm_simulation.specs.Verified.{Loads, Fine, IsNext}
 use Rattle.ijvm_simulation.specs.Groups.{IsJump}
-use Rattle.mic2_interpreter.specs.Stands.{Stands}
+use Rattle.mic_words.specs.declared.machine.Machine.TheVariants.{Mic2}
+use Rattle.ijvm_meaning.specs.Cost.{timing_of, cost}
 use Rattle.mic2_interpreter.specs.Stalls.{MovesWithStalls, OverrunsWithStalls, TakesWithStalls, stalls_of}
 use Rattle.mic2_interpreter.proofs.Store.{Known}
 use Rattle.mic2_interpreter.proofs.Guided.{Goes}
-use Rattle.mic2_interpreter.proofs.Boundaries.{ReachesBoundary, comes, steps, Counts, counts, Place, place_at, place_on, signed_pair_at, at_boundary, moves}
-
--- where the words of goto come to
-abbrev pub goes_to : List ℕ → Micro → ℕ
-goes_to words m = plus (before m.pc) (signed_pair (byte_in words m.pc) (byte_in words (m.pc + 1)))
-
--- the place there, and the one after it
-pub record Jump (o : Origin) (s : State) (m : Micro) : Type 0 where
-  pub there : Place o.words (goes_to o.words m) (jump o.words s.at)
-  pub behind : Place o.words (plus (goes_to o.words m) 1) (jump o.words s.at + 1)
+use Rattle.mic2_interpreter.proofs.Boundaries.{At, at, arrives, steps, at_boundary}
 
 -- where a branch goes on: at T or at F
-abbrev pub branch : Bool → ℕ
+abbrev branch : Bool → ℕ
 branch b = if b then 257 else 1
 
-module _ (program : List ℕ) (has : Known program) (o : Origin) (map : IsMapEnd (length o.words)) (law : StackLaw) (s : State) (m : Micro) (w : World) (k : ℕ) (h : Stands o s m w) (inside : s.at < 0x10000) where
-  abbrev here : AtBoundary o s m.sp m.lv m.cpp m.tos w
-  here = law.boundary o s m.sp m.lv m.cpp m.tos w map h.holds
+module _ {program : List ℕ} {o : Origin} {v : VerifiedView} {s : State} {q : Moment Micro} (a : At program o v s q) where
+  abbrev m : Micro
+  m = q.state
 
-  c : Counts o s m
-  c = counts o s m w h inside
-
-  jumps : jump o.words s.at < 0x10000 → Jump o s m
-  jumps to =
-      let from : before m.pc ≡ s.at = law.words.before_is m.pc s.at h.ready.pc h.ready.low in
-      let is : goes_to o.words m ≡ jump o.words s.at =
-      ap₂ plus from (signed_pair_at o.words m.pc (s.at + 1) (s.at + 2) c.p0 (omega arith)) ∙ law.words.plus_comm s.at (signed_pair (byte_in o.words (s.at + 1)) (byte_in o.words (s.at + 2))) in
-      let there : Place o.words (goes_to o.words m) (jump o.words s.at) = place_at o.words (goes_to o.words m) (jump o.words s.at) is (omega arith) in
-      record { there = there; behind = place_on o.words (goes_to o.words m) (jump o.words s.at) 1 (jump o.words s.at + 1) there refl (omega arith) }
-
-  go : byte_in o.words s.at ≡ 0xA7 → jump o.words s.at < 0x10000 → ReachesBoundary program o 3 0 (record { state = m; world = w; stalls = k }) (moved s s.running.operands (jump o.words s.at))
-  go code to =
-      let j : Jump o s m = jumps to in
-      comes program has o map Goes (steps 3) (byte_in o.words (jump o.words s.at) ∷ []) m w k 0xA7 0 s _ h code (assumption c)
-      (at_boundary o _ _ _
-      (here.drops s.running.operands (jump o.words s.at) _ _ _ _ _ s.given h.holds.frames h.holds.fits
-      refl refl h.holds.sp_is h.holds.tos_is refl h.holds.untaken h.holds.given)
-      j.behind.is (omega arith) refl refl refl refl refl)
-      (sym (add-zero k))
-
-  ifeq_taken : (y : ℕ) (rest : List ℕ) → byte_in o.words s.at ≡ 0x99 → s.running.operands ≡ y ∷ rest → (y == 0) ≡ true → jump o.words s.at < 0x10000 →
-      ReachesBoundary program o 7 0 (record { state = m; world = w; stalls = k }) (moved s rest (jump o.words s.at))
-  ifeq_taken y rest code ops flag to =
-      let t : Top o s m.sp m.lv m.cpp m.tos w y rest = here.top y rest ops in
-      let j : Jump o s m = jumps to in
-      let to_t : branch (m.tos == 0) ≡ 257 = ap branch (ap (λ (k : ℕ). k == 0) t.tos_is ∙ flag) in
-      comes program has o map Goes (steps 7) (257 ∷ byte_in o.words (jump o.words s.at) ∷ []) m w k 0x99 0 s _ h code (assumption c)
-      (at_boundary o _ _ _
-      (here.drops rest (jump o.words s.at) _ _ _ _ _ s.given t.frames (omega (arith, t.below))
-      refl refl (omega (arith, t.down.is, t.above)) t.next_top refl (t.down.untaken ∙ h.holds.untaken) h.holds.given)
-      j.behind.is (omega arith) refl refl refl refl refl)
-      (sym (add-zero k))
-
-  ifeq_not : (y : ℕ) (rest : List ℕ) → byte_in o.words s.at ≡ 0x99 → s.running.operands ≡ y ∷ rest → (y == 0) ≡ false →
-      ReachesBoundary program o 5 0 (record { state = m; world = w; stalls = k }) (moved s rest (s.at + 3))
-  ifeq_not y rest code ops flag =
-      let t : Top o s m.sp m.lv m.cpp m.tos w y rest = here.top y rest ops in
-      let to_f : branch (m.tos == 0) ≡ 1 = ap branch (ap (λ (k : ℕ). k == 0) t.tos_is ∙ flag) in
-      comes program has o map Goes (steps 5) (1 ∷ byte_in o.words (s.at + 3) ∷ []) m w k 0x99 0 s _ h code (assumption c)
-      (at_boundary o _ _ _
-      (here.drops rest (s.at + 3) _ _ _ _ _ s.given t.frames (omega (arith, t.below))
-      refl refl (omega (arith, t.down.is, t.above)) t.next_top refl (t.down.untaken ∙ h.holds.untaken) h.holds.given)
-      (omega (arith, c.p21.is)) (omega arith) refl refl refl refl refl)
-      (sym (add-zero k))
-
-  iflt_taken : (y : ℕ) (rest : List ℕ) → byte_in o.words s.at ≡ 0x9B → s.running.operands ≡ y ∷ rest → is_negative y ≡ true → jump o.words s.at < 0x10000 →
-      ReachesBoundary program o 7 0 (record { state = m; world = w; stalls = k }) (moved s rest (jump o.words s.at))
-  iflt_taken y rest code ops flag to =
-      let t : Top o s m.sp m.lv m.cpp m.tos w y rest = here.top y rest ops in
-      let j : Jump o s m = jumps to in
-      let to_t : branch (is_negative m.tos) ≡ 257 = ap branch (ap is_negative t.tos_is ∙ flag) in
-      comes program has o map Goes (steps 7) (257 ∷ byte_in o.words (jump o.words s.at) ∷ []) m w k 0x9B 0 s _ h code (assumption c)
-      (at_boundary o _ _ _
-      (here.drops rest (jump o.words s.at) _ _ _ _ _ s.given t.frames (omega (arith, t.below))
-      refl refl (omega (arith, t.down.is, t.above)) t.next_top refl (t.down.untaken ∙ h.holds.untaken) h.holds.given)
-      j.behind.is (omega arith) refl refl refl refl refl)
-      (sym (add-zero k))
-
-  iflt_not : (y : ℕ) (rest : List ℕ) → byte_in o.words s.at ≡ 0x9B → s.running.operands ≡ y ∷ rest → is_negative y ≡ false →
-      ReachesBoundary program o 5 0 (record { state = m; world = w; stalls = k }) (moved s rest (s.at + 3))
-  iflt_not y rest code ops flag =
-      let t : Top o s m.sp m.lv m.cpp m.tos w y rest = here.top y rest ops in
-      let to_f : branch (is_negative m.tos) ≡ 1 = ap branch (ap is_negative t.tos_is ∙ flag) in
-      comes program has o map Goes (steps 5) (1 ∷ byte_in o.words (s.at + 3) ∷ []) m w k 0x9B 0 s _ h code (assumption c)
-      (at_boundary o _ _ _
-      (here.drops rest (s.at + 3) _ _ _ _ _ s.given t.frames (omega (arith, t.below))
-      refl refl (omega (arith, t.down.is, t.above)) t.next_top refl (t.down.untaken ∙ h.holds.untaken) h.holds.given)
-      (omega (arith, c.p21.is)) (omega arith) refl refl refl refl refl)
-      (sym (add-zero k))
-
-  icmpeq_taken : (y x : ℕ) (rest : List ℕ) → byte_in o.words s.at ≡ 0x9F → s.running.operands ≡ y ∷ x ∷ rest → IsWord y → IsWord x → (x == y) ≡ true → jump o.words s.at < 0x10000 →
-      ReachesBoundary program o 9 0 (record { state = m; world = w; stalls = k }) (moved s rest (jump o.words s.at))
-  icmpeq_taken y x rest code ops ly lx flag to =
-      let t : Two o s m.sp m.lv m.cpp m.tos w y x rest = here.two y x rest ops in
-      let bottom : 0x8000 ≤ base s.callers = law.above s.callers in
-      let j : Jump o s m = jumps to in
-      let goes : branch (minus m.tos (read_value (length o.words) w.words w.untaken (before m.sp)) == 0) ≡ 257 =
-      ap branch (ap₂ (λ (i : ℕ) (k : ℕ). minus i k == 0) t.tos_is t.second ∙ (law.words.difference_zero y x ly lx ∙ flag)) in
-      comes program has o map Goes (steps 9) (257 ∷ byte_in o.words (jump o.words s.at) ∷ []) m w k 0x9F 0 s _ h code (assumption c)
-      (at_boundary o _ _ _
-      (here.drops rest (jump o.words s.at) _ _ _ _ _ s.given t.frames (omega (arith, t.at.below))
-      refl refl (omega (arith, t.down.is))
-      (subst (λ (n : ℕ). IsTop n rest) (sym (ap (λ (u : List ℕ). read_value (length o.words) w.words u (before (before m.sp))) t.at.untaken)) t.next_top)
-      refl (ap (λ (u : List ℕ). untaken_after (length o.words) u (before (before m.sp))) t.at.untaken ∙ (t.down.untaken ∙ h.holds.untaken)) h.holds.given)
-      j.behind.is (omega arith) refl refl refl refl refl)
-      (sym (add-zero k))
-
-  icmpeq_not : (y x : ℕ) (rest : List ℕ) → byte_in o.words s.at ≡ 0x9F → s.running.operands ≡ y ∷ x ∷ rest → IsWord y → IsWord x → (x == y) ≡ false →
-      ReachesBoundary program o 7 0 (record { state = m; world = w; stalls = k }) (moved s rest (s.at + 3))
-  icmpeq_not y x rest code ops ly lx flag =
-      let t : Two o s m.sp m.lv m.cpp m.tos w y x rest = here.two y x rest ops in
-      let bottom : 0x8000 ≤ base s.callers = law.above s.callers in
-      let goes : branch (minus m.tos (read_value (length o.words) w.words w.untaken (before m.sp)) == 0) ≡ 1 =
-      ap branch (ap₂ (λ (i : ℕ) (k : ℕ). minus i k == 0) t.tos_is t.second ∙ (law.words.difference_zero y x ly lx ∙ flag)) in
-      comes program has o map Goes (steps 7) (1 ∷ byte_in o.words (s.at + 3) ∷ []) m w k 0x9F 0 s _ h code (assumption c)
-      (at_boundary o _ _ _
-      (here.drops rest (s.at + 3) _ _ _ _ _ s.given t.frames (omega (arith, t.at.below))
-      refl refl (omega (arith, t.down.is))
-      (subst (λ (n : ℕ). IsTop n rest) (sym (ap (λ (u : List ℕ). read_value (length o.words) w.words u (before (before m.sp))) t.at.untaken)) t.next_top)
-      refl (ap (λ (u : List ℕ). untaken_after (length o.words) u (before (before m.sp))) t.at.untaken ∙ (t.down.untaken ∙ h.holds.untaken)) h.holds.given)
-      (omega (arith, c.p21.is)) (omega arith) refl refl refl refl refl)
-      (sym (add-zero k))
-
-module _ (program : List ℕ) (has : Known program) (o : Origin) (v : VerifiedView) (loads : Loads v o) (law : StackLaw) where
-  abbrev map : IsMapEnd (length o.words)
-  map = law.map v o loads
-
-  -- a branch by a test, with the cycles after the first where it is taken and where it is not
-  branched : (s to : State) (q : Moment Micro) (i : Instr) (z : ℤ) (t : Bool) (rest : List ℕ) (far near code : ℕ) → far < 1024 → near < 1024 →
-      Stands o s q.state q.world → byte_in o.words s.at ≡ code → (code == 255) ≡ false → (code == 254) ≡ false → jump o.words s.at ≡ target s.at z →
-      moved s rest (way s.at z t) ≡ to → (t ≡ true → cost v.image (timing_of Mic2) i s ≡ far + 1) → (t ≡ false → cost v.image (timing_of Mic2) i s ≡ near + 1) →
-      (t ≡ true → ReachesBoundary program o far 0 q (moved s rest (jump o.words s.at))) →
-      (t ≡ false → ReachesBoundary program o near 0 q (moved s rest (s.at + 3))) →
-      MovesWithStalls program o q (cost v.image (timing_of Mic2) i s) 0 to
-  branched s to q i z true rest far near code less short h is no_halt no_err e same jumps_in falls_in taken not =
-      moves program o v s to _ q i far 0 code h is no_halt no_err (jumps_in refl) less (ap (moved s rest) e ∙ same) (taken refl)
-  branched s to q i z false rest far near code less short h is no_halt no_err e same jumps_in falls_in taken not =
-      moves program o v s to _ q i near 0 code h is no_halt no_err (falls_in refl) short same (not refl)
-
-  goes : (s to : State) (q : Moment Micro) (i : Instr) → IsJump i → Fine v s → IsNext v o s i → Stands o s q.state q.world → Went v.image v.map.stack_end s to i →
+  goes : (to : State) (i : Instr) → IsJump i → Fine v s → IsNext v o s i → Went v.image v.map.stack_end s to i →
       MovesWithStalls program o q (cost v.image (timing_of Mic2) i s) (stalls_of v.image i) to
-  goes s to q (Goto z) is fine n h went =
-      let j : Lands o s z = law.lands v o s z loads n.reads.1 (n.finds.inside (target s.at z) (inr (z, refl, refl))) in
-      moves program o v s to _ q (Goto z) 3 0 0xA7 h n.reads.0 refl refl refl (omega arith) (ap (moved s s.running.operands) j.is ∙ went)
-      (go program has o map law s q.state q.world q.stalls h (law.inside v o s _ loads n) n.reads.0 j.inside)
-  goes s to q (Ifeq z) is fine n h went =
-      let j : Lands o s z = law.lands v o s z loads n.reads.1 (n.finds.inside (target s.at z) (inr (z, refl, refl))) in
-      let taken_is : tests (λ (y : ℕ). y == 0) s.running.operands ≡ (went.top == 0) = ap (tests (λ (y : ℕ). y == 0)) went.are in
-      branched s to q (Ifeq z) z (went.top == 0) went.rest 7 5 0x99 (omega arith) (omega arith) h n.reads.0 refl refl j.is went.leads
-      (λ t. ap (λ (b : Bool). if b then 8 else 6) (taken_is ∙ t)) (λ t. ap (λ (b : Bool). if b then 8 else 6) (taken_is ∙ t))
-      (λ t. ifeq_taken program has o map law s q.state q.world q.stalls h (law.inside v o s _ loads n) went.top went.rest n.reads.0 went.are t j.inside)
-      (λ t. ifeq_not program has o map law s q.state q.world q.stalls h (law.inside v o s _ loads n) went.top went.rest n.reads.0 went.are t)
-  goes s to q (Iflt z) is fine n h went =
-      let j : Lands o s z = law.lands v o s z loads n.reads.1 (n.finds.inside (target s.at z) (inr (z, refl, refl))) in
-      let taken_is : tests is_negative s.running.operands ≡ is_negative went.top = ap (tests is_negative) went.are in
-      branched s to q (Iflt z) z (is_negative went.top) went.rest 7 5 0x9B (omega arith) (omega arith) h n.reads.0 refl refl j.is went.leads
-      (λ t. ap (λ (b : Bool). if b then 8 else 6) (taken_is ∙ t)) (λ t. ap (λ (b : Bool). if b then 8 else 6) (taken_is ∙ t))
-      (λ t. iflt_taken program has o map law s q.state q.world q.stalls h (law.inside v o s _ loads n) went.top went.rest n.reads.0 went.are t j.inside)
-      (λ t. iflt_not program has o map law s q.state q.world q.stalls h (law.inside v o s _ loads n) went.top went.rest n.reads.0 went.are t)
-  goes s to q (IfIcmpeq z) is fine n h went =
-      let j : Lands o s z = law.lands v o s z loads n.reads.1 (n.finds.inside (target s.at z) (inr (z, refl, refl))) in
-      let taken_is : are_equal s.running.operands ≡ (went.second == went.top) = ap are_equal went.are in
-      let words : All IsWord (went.top ∷ went.second ∷ went.rest) = subst (All IsWord) went.are (law.running v s fine).operands in
-      let ly : IsWord went.top = All-get_or IsWord (went.top ∷ went.second ∷ went.rest) 0 went.top (omega arith) words in
-      let lx : IsWord went.second = All-get_or IsWord (went.top ∷ went.second ∷ went.rest) 1 went.second (omega arith) words in
-      branched s to q (IfIcmpeq z) z (went.second == went.top) went.rest 9 7 0x9F (omega arith) (omega arith) h n.reads.0 refl refl j.is went.leads
-      (λ t. ap (λ (b : Bool). if b then 10 else 8) (taken_is ∙ t)) (λ t. ap (λ (b : Bool). if b then 10 else 8) (taken_is ∙ t))
-      (λ t. icmpeq_taken program has o map law s q.state q.world q.stalls h (law.inside v o s _ loads n) went.top went.second went.rest n.reads.0 went.are ly lx t j.inside)
-      (λ t. icmpeq_not program has o map law s q.state q.world q.stalls h (law.inside v o s _ loads n) went.top went.second went.rest n.reads.0 went.are ly lx t)
-  goes s to q i is fine n h went = absurd is
+  goes to (Goto z) is fine n went =
+      let lands = law.lands v o s z a.loads n.reads.1 (n.finds.inside (target s.at z) (inr (z, refl, refl))) in
+      let j = jumps a.stands.ready.low a.counts lands.inside in
+      arrives a (Goto z) 0xA7 0 Goes (steps 3)
+      (byte_in o.words (jump o.words s.at) ∷ []) n.reads.0 refl refl refl (omega arith) (ap (moved s s.running.operands) lands.is ∙ went) (assumption)
+      (at_boundary o _ _ _ (stays a.loads a.holds _) j.behind.is (omega (arith, lands.inside)) refl refl refl refl refl) (sym (add-zero q.stalls))
+  goes to (Ifeq z) is fine n went =
+      let lands = law.lands v o s z a.loads n.reads.1 (n.finds.inside (target s.at z) (inr (z, refl, refl))) in
+      let j = jumps a.stands.ready.low a.counts lands.inside in
+      let l = popped a.loads a.holds went.are in
+      let b = branches_by a.loads a.holds (λ y. y == 0) lands went in
+      elim (cases_Bool (m.tos == 0)) [
+        | inl t ↦
+            let on = ap branch t in
+            arrives a (Ifeq z) 0x99 0 Goes (steps 7)
+            (257 ∷ byte_in o.words (jump o.words s.at) ∷ []) n.reads.0 refl refl (ap (λ (e : Bool). if e then 8 else 6) (b.taken t).1) (omega arith) (b.taken t).0 (assumption)
+            (at_boundary o _ _ _ (l.leaves _) j.behind.is (omega (arith, lands.inside)) refl refl refl refl refl) (sym (add-zero q.stalls))
+        | inr t ↦
+            let on = ap branch t in
+            arrives a (Ifeq z) 0x99 0 Goes (steps 5)
+            (1 ∷ byte_in o.words (s.at + 3) ∷ []) n.reads.0 refl refl (ap (λ (e : Bool). if e then 8 else 6) (b.falls t).1) (omega arith) (b.falls t).0 (assumption)
+            (at_boundary o _ _ _ (l.leaves _) (omega (arith, a.counts.p21.is)) (omega (arith, a.inside)) refl refl refl refl refl) (sym (add-zero q.stalls))
+      ]
+  goes to (Iflt z) is fine n went =
+      let lands = law.lands v o s z a.loads n.reads.1 (n.finds.inside (target s.at z) (inr (z, refl, refl))) in
+      let j = jumps a.stands.ready.low a.counts lands.inside in
+      let l = popped a.loads a.holds went.are in
+      let b = branches_by a.loads a.holds is_negative lands went in
+      elim (cases_Bool (is_negative m.tos)) [
+        | inl t ↦
+            let on = ap branch t in
+            arrives a (Iflt z) 0x9B 0 Goes (steps 7)
+            (257 ∷ byte_in o.words (jump o.words s.at) ∷ []) n.reads.0 refl refl (ap (λ (e : Bool). if e then 8 else 6) (b.taken t).1) (omega arith) (b.taken t).0 (assumption)
+            (at_boundary o _ _ _ (l.leaves _) j.behind.is (omega (arith, lands.inside)) refl refl refl refl refl) (sym (add-zero q.stalls))
+        | inr t ↦
+            let on = ap branch t in
+            arrives a (Iflt z) 0x9B 0 Goes (steps 5)
+            (1 ∷ byte_in o.words (s.at + 3) ∷ []) n.reads.0 refl refl (ap (λ (e : Bool). if e then 8 else 6) (b.falls t).1) (omega arith) (b.falls t).0 (assumption)
+            (at_boundary o _ _ _ (l.leaves _) (omega (arith, a.counts.p21.is)) (omega (arith, a.inside)) refl refl refl refl refl) (sym (add-zero q.stalls))
+      ]
+  goes to (IfIcmpeq z) is fine n went =
+      let lands = law.lands v o s z a.loads n.reads.1 (n.finds.inside (target s.at z) (inr (z, refl, refl))) in
+      let j = jumps a.stands.ready.low a.counts lands.inside in
+      let l = popped_two a.loads a.holds went.are in
+      let b = branches_equal a.loads a.holds fine lands went in
+      elim (cases_Bool (minus m.tos (read_value (length o.words) q.world.words q.world.untaken (before m.sp)) == 0)) [
+        | inl t ↦
+            let on = ap branch t in
+            arrives a (IfIcmpeq z) 0x9F 0 Goes (steps 9)
+            (257 ∷ byte_in o.words (jump o.words s.at) ∷ []) n.reads.0 refl refl (ap (λ (e : Bool). if e then 10 else 8) (b.taken t).1) (omega arith) (b.taken t).0 (assumption)
+            (at_boundary o _ _ _ (l.leaves _) j.behind.is (omega (arith, lands.inside)) refl refl refl refl refl) (sym (add-zero q.stalls))
+        | inr t ↦
+            let on = ap branch t in
+            arrives a (IfIcmpeq z) 0x9F 0 Goes (steps 7)
+            (1 ∷ byte_in o.words (s.at + 3) ∷ []) n.reads.0 refl refl (ap (λ (e : Bool). if e then 10 else 8) (b.falls t).1) (omega arith) (b.falls t).0 (assumption)
+            (at_boundary o _ _ _ (l.leaves _) (omega (arith, a.counts.p21.is)) (omega (arith, a.inside)) refl refl refl refl refl) (sym (add-zero q.stalls))
+      ]
+  goes to i is fine n went = absurd is
 
-  limits : (s left : State) (q : Moment Micro) (i : Instr) → IsJump i → Fine v s → IsNext v o s i → Stands o s q.state q.world → Overran v.image v.map.stack_end s left i →
+  limits : (left : State) (i : Instr) → IsJump i → IsNext v o s i → Overran v.image v.map.stack_end s left i →
       OverrunsWithStalls program o q (stalls_of v.image i) left
-  limits s left q (Goto z) is fine n h over = absurd over
-  limits s left q i is fine n h over = absurd (assumption)
+  limits left (Goto z) is n over = absurd over
+  limits left i is n over = absurd (assumption)
 
-  pub jumping : TakesWithStalls program o v IsJump
-  jumping = record { goes = goes; limits = limits }
+pub jumping : (program : List ℕ) → Known program → (o : Origin) (v : VerifiedView) → Loads v o → TakesWithStalls program o v IsJump
+jumping program has o v loads = record {
+  goes = λ s to q i is fine n h went. goes (at i has loads n h) to i is fine n went;
+  limits = λ s left q i is fine n h over. limits (at i has loads n h) left i is n over;
+}

@@ -10,12 +10,13 @@ use Rattle.mic3_interpreter.specs.Stands.{Stands}
 use Rattle.mic3_interpreter.proofs.Store.{Known}
 use Rattle.mic2_fetch_unit.specs.Held.{Jumped, WaitsFirst}
 use Rattle.mic3_interpreter.proofs.Guided.{Issues, HeldUp, Lacks, Short, moment_of, clocked, Arrives, IsSmooth, pass-clocked}
-use Rattle.mic3_interpreter.proofs.Boundaries.{ReachesBoundary, at_boundary, stands_at, Place, place_at, place_on}
+use Rattle.mic3_interpreter.proofs.Boundaries.{at_boundary, stands_at}
 use Rattle.ijvm_simulation.specs.Stands.{Origin, IsMemory}
 use Rattle.ijvm_simulation.specs.Stack.{IsMapEnd, StackLaw}
 use Rattle.ijvm_simulation.specs.Passes.{Moment, pass}
 use Rattle.ijvm_simulation.specs.Law.{Boots, reset_moment}
 use Rattle.ijvm_simulation.specs.Verified.{Loads}
+use Rattle.ijvm_simulation.proofs.Places.{Place, place_at, place_on}
 use Rattle.verifier_facts.specs.Accepted.{VerifiedView}
 
 module _ (program : List ℕ) (has : Known program) (o : Origin) (v : VerifiedView) (loads : Loads v o) (law : StackLaw) (input : List ℕ) where
@@ -30,8 +31,8 @@ module _ (program : List ℕ) (has : Known program) (o : Origin) (v : VerifiedVi
   starts = λ i. record { state = record start.state { micro = record start.state.micro { unit = has.queue.start o.words i } }; world = start.world; stalls = 0 }
 
   -- three cycles issue nothing: one lacks the first word of the text, and two wait until the first dispatch retires
-  pub boot : ReachesBoundary program o 3 start (start_of v.main_locals input)
-  boot =
+  pub boots : Boots mic3_meaning program (Stands o) o.given mic3_timing start (start_of v.main_locals input)
+  boots =
       let map : IsMapEnd (length o.words) = law.map v o loads in
       let p0 : Place o.words 0 0 = place_at o.words 0 0 refl (omega arith) in
       let p1 : Place o.words (plus 0 1) 1 = place_on o.words 0 0 1 1 p0 (omega arith) (omega arith) in
@@ -41,20 +42,15 @@ module _ (program : List ℕ) (has : Known program) (o : Origin) (v : VerifiedVi
       let a : Arrives o.words (pass mic3_meaning program 3 (moment_of o.words reset 0)) t =
       pass-clocked program has o.words map.low (Lacks WaitsFirst) (Issues ∷ HeldUp ∷ HeldUp ∷ []) (byte_in o.words 0 ∷ []) reset 0 memory refl smooth in
       record {
-        to = moment_of o.words t a.have;
-        passes = ap (pass mic3_meaning program 3) starts ∙ a.is;
-        stands = stands_at has.queue o (start_of v.main_locals input) t a.have
-            (at_boundary o _ _ _
-            (law.first v o input _ _ loads (omega arith))
-            p1.is (omega arith) refl refl refl refl refl refl refl)
-            a.held;
-      }
-
-  -- a reset is no boundary
-  pub boots : Boots mic3_meaning program (Stands o) o.given mic3_timing start (start_of v.main_locals input)
-  boots =
-      let c : ReachesBoundary program o 3 start (start_of v.main_locals input) = boot in
-      record {
         off = refl;
-        moves = record { n = 3; spent_is = refl; short = omega arith; begins = record { no_halt = refl; no_err = refl }; there = c.to; passes = c.passes; stands = c.stands };
+        moves = record {
+          n = 3;
+          spent_is = refl;
+          short = omega arith;
+          begins = record { no_halt = refl; no_err = refl };
+          there = moment_of o.words t a.have;
+          passes = ap (pass mic3_meaning program 3) starts ∙ a.is;
+          stands = stands_at has.queue o (start_of v.main_locals input) t a.have
+              (at_boundary o _ _ _ (law.first v o input _ _ loads (omega arith)) p1.is (omega arith) refl refl refl refl refl refl refl) a.held;
+        };
       }

@@ -1,8 +1,8 @@
 -- Mic-3 at instruction boundaries, and its symbolic runs from one to the next.
-use Rattle.std.proofs.Common.{◌++◌, ◌≡◌, ℕ, ◌+◌, ◌*◌, ◌<◌, ◌≤◌, true, false, Some, None, List, [], ◌∷◌, length, arith, sym, ◌∙◌, ap, ap₂, subst}
+use Rattle.std.proofs.Common.{◌++◌, ◌≡◌, ℕ, ◌+◌, ◌<◌, ◌≤◌, true, false, Some, None, List, [], ◌∷◌, length, arith, sym, ◌∙◌, ap, subst}
 use Rattle.std.specs.Prelude.{nat_le, nat_lt, ◌==◌}
 use Rattle.std.proofs.lemmas.Bool.Decides.{nat_tests}
-use Rattle.mic_words.specs.Arithmetic.{wrap, plus, signed_pair}
+use Rattle.mic_words.specs.Arithmetic.{wrap}
 use Rattle.console_port.specs.World.{World, StackLimit, byte_in}
 use Rattle.ijvm_meaning.specs.Frames.{State}
 use Rattle.mic2_fetch_unit.specs.Place.{StandsAt}
@@ -16,9 +16,11 @@ use Rattle.mic2_fetch_unit.specs.QueueLaw.{QueueLaw}
 use Rattle.mic2_fetch_unit.specs.Held.{Held, AtLeast, IsHeld, Bounds}
 use Rattle.mic3_interpreter.proofs.Guided.{Short, Turn, standing, moment_of, issue_of, clocked, IsTurn, IsSmooth, Arrives, pass-clocked, outcome_is, cycle-refused}
 use Rattle.ijvm_simulation.specs.Stands.{Origin, RegistersStand}
-use Rattle.ijvm_simulation.specs.Stack.{IsMapEnd}
 use Rattle.ijvm_simulation.specs.Passes.{Moment, is_inside, pass}
+use Rattle.ijvm_simulation.specs.Verified.{Loads, IsNext}
 use Rattle.ijvm_simulation.specs.Law.{ShowsState, HasWord, Moves, Overruns}
+use Rattle.ijvm_simulation.proofs.Stack.{law}
+use Rattle.ijvm_simulation.proofs.Places.{Counts, counts}
 use Rattle.verifier_facts.specs.Accepted.{VerifiedView}
 use Rattle.ijvm_instr.specs.declared.instr.Instr.{Instr}
 use Rattle.ijvm_meaning.specs.Cost.{cost}
@@ -63,12 +65,6 @@ module _ (queue : QueueLaw) (o : Origin) (s : State) (p : Pipeline) (w : World) 
       subst (λ (a : ℕ). Bounds 2 a many) (sym h.ready.micro.pc) (queue.bounds o.words (s.at + 1) p.micro.unit h.ready.micro.unit h.ready.micro.two) in
       record { least = h.ready.three; few = b.few; aligned = b.aligned }
 
--- n + 1 cycles come to the next boundary, which stands for this state
-pub record ReachesBoundary (program : List ℕ) (o : Origin) (n : ℕ) (p : Moment Pipeline) (s : State) : Type 0 where
-  pub to : Moment Pipeline
-  pub passes : pass mic3_meaning program n p ≡ Some to
-  pub stands : Stands o s to.state to.world
-
 -- a symbolic state at a boundary that stands for this state
 pub record IsThere (o : Origin) (s : State) (t : Short) : Type 0 where
   pub holds : RegistersStand o s t.state.micro.sp t.state.micro.lv t.state.micro.cpp t.state.micro.tos t.world
@@ -107,75 +103,6 @@ stands_at queue o s t have there held =
         operand = there.operand;
         result = there.result;
       };
-    }
-
-pub comes : (program : List ℕ) (has : Known program) (o : Origin) (map : IsMapEnd (length o.words)) (k : Turn) (ks : List Turn) (gs : List ℕ)
-    (p : Pipeline) (w : World) (stalls code : ℕ) (s s' : State) →
-    Stands o s p w → byte_in o.words s.at ≡ code → IsSmooth o.words (k ∷ ks) gs (at_opcode code p.micro w stalls) → IsThere o s'
-    (clocked o.words (k ∷ ks) gs (at_opcode code p.micro w stalls)) →
-    ReachesBoundary program o (length ks) (record { state = p; world = w; stalls = stalls }) s'
-comes program has o map k ks gs p w stalls code s s' h is smooth there =
-    let a : Arrives o.words (pass mic3_meaning program (length ks) (moment_of o.words (at_opcode code p.micro w stalls) (length p.micro.unit.bytes)))
-    (clocked o.words (k ∷ ks) gs (at_opcode code p.micro w stalls)) =
-    pass-clocked program has o.words map.low k ks gs (at_opcode code p.micro w stalls) (length p.micro.unit.bytes) h.holds.memory
-    (starts_held has.queue o s p w stalls h) smooth in
-    record {
-      to = moment_of o.words (clocked o.words (k ∷ ks) gs (at_opcode code p.micro w stalls)) a.have;
-      passes = ap (pass mic3_meaning program (length ks)) (starts has.queue o s p w stalls h code is) ∙ a.is;
-      stands = stands_at has.queue o s' (clocked o.words (k ∷ ks) gs (at_opcode code p.micro w stalls)) a.have there a.held;
-    }
-
--- a place of the text: a number of the machine is this address, and the bytes there
-pub record Place (words : List ℕ) (x a : ℕ) : Type 0 where
-  pub is : x ≡ a
-  pub near : x < 0x1FF00
-  pub byte : byte_in words x ≡ byte_in words a
-  pub second : byte_in words (x + 1) ≡ byte_in words (a + 1)
-
-pub place_at : (words : List ℕ) (x a : ℕ) → x ≡ a → a < 0x1FF00 → Place words x a
-place_at words x a e l =
-    let on : x + 1 ≡ a + 1 = omega arith in
-    record { is = e; near = omega arith; byte = ap (byte_in words) e; second = ap (byte_in words) on }
-
--- the place this many bytes further on
-pub place_on : (words : List ℕ) (x a d b : ℕ) → Place words x a → a + d ≡ b → b < 0x1FF00 → Place words (plus x d) b
-unfolding wrap
-place_on words x a d b p e l = place_at words (plus x d) b (omega (arith, p.is)) l
-
--- PC, and what it becomes as bytes are taken
-pub record Counts (o : Origin) (s : State) (m : Micro) : Type 0 where
-  pub p0 : Place o.words m.pc (s.at + 1)
-  pub p1 : Place o.words (plus m.pc 1) (s.at + 2)
-  pub p2 : Place o.words (plus m.pc 2) (s.at + 3)
-  pub p11 : Place o.words (plus (plus m.pc 1) 1) (s.at + 3)
-  pub p111 : Place o.words (plus (plus (plus m.pc 1) 1) 1) (s.at + 4)
-  pub p21 : Place o.words (plus (plus m.pc 2) 1) (s.at + 4)
-  pub p12 : Place o.words (plus (plus m.pc 1) 2) (s.at + 4)
-  pub p121 : Place o.words (plus (plus (plus m.pc 1) 2) 1) (s.at + 5)
-  pub p122 : Place o.words (plus (plus (plus m.pc 1) 2) 2) (s.at + 6)
-  pub p1221 : Place o.words (plus (plus (plus (plus m.pc 1) 2) 2) 1) (s.at + 7)
-
-pub counts : (o : Origin) (s : State) (p : Pipeline) (w : World) → Stands o s p w → s.at < 0x10000 → Counts o s p.micro
-counts o s p w h inside =
-    let m : Micro = p.micro in
-    let p0 : Place o.words m.pc (s.at + 1) = place_at o.words m.pc (s.at + 1) h.ready.micro.pc (omega arith) in
-    let p1 : Place o.words (plus m.pc 1) (s.at + 2) = place_on o.words m.pc (s.at + 1) 1 (s.at + 2) p0 (omega arith) (omega arith) in
-    let p2 : Place o.words (plus m.pc 2) (s.at + 3) = place_on o.words m.pc (s.at + 1) 2 (s.at + 3) p0 (omega arith) (omega arith) in
-    let p11 : Place o.words (plus (plus m.pc 1) 1) (s.at + 3) = place_on o.words (plus m.pc 1) (s.at + 2) 1 (s.at + 3) p1 (omega arith) (omega arith) in
-    let p12 : Place o.words (plus (plus m.pc 1) 2) (s.at + 4) = place_on o.words (plus m.pc 1) (s.at + 2) 2 (s.at + 4) p1 (omega arith) (omega arith) in
-    let p122 : Place o.words (plus (plus (plus m.pc 1) 2) 2) (s.at + 6) =
-    place_on o.words (plus (plus m.pc 1) 2) (s.at + 4) 2 (s.at + 6) p12 (omega arith) (omega arith) in
-    record {
-      p0 = p0;
-      p1 = p1;
-      p2 = p2;
-      p11 = p11;
-      p111 = place_on o.words (plus (plus m.pc 1) 1) (s.at + 3) 1 (s.at + 4) p11 (omega arith) (omega arith);
-      p21 = place_on o.words (plus m.pc 2) (s.at + 3) 1 (s.at + 4) p2 (omega arith) (omega arith);
-      p12 = p12;
-      p121 = place_on o.words (plus (plus m.pc 1) 2) (s.at + 4) 1 (s.at + 5) p12 (omega arith) (omega arith);
-      p122 = p122;
-      p1221 = place_on o.words (plus (plus (plus m.pc 1) 2) 2) (s.at + 6) 1 (s.at + 7) p122 (omega arith) (omega arith);
     }
 
 -- a symbolic state at a boundary, by what the machine has besides what it holds
@@ -218,23 +145,6 @@ begins o s p w code h is no_halt no_err =
     let e : p.micro.mpc ≡ code = h.ready.micro.mpc ∙ is in
     record { no_halt = ap (λ (k : ℕ). k == 255) e ∙ no_halt; no_err = ap (λ (k : ℕ). k == 254) e ∙ no_err }
 
-module _ (program : List ℕ) (o : Origin) (v : VerifiedView) where
-  -- a pass to the next boundary, where it takes the instruction's cycles
-  pub moves : (s to a : State) (q : Moment Pipeline) (i : Instr) (n code : ℕ) → Stands o s q.state q.world → byte_in o.words s.at ≡ code →
-      (code == 255) ≡ false → (code == 254) ≡ false →
-      cost v.image mic3_timing i s ≡ n + 1 → n < 1024 → a ≡ to → ReachesBoundary program o n q a → Moves mic3_meaning program (Stands o) o.given q
-      (cost v.image mic3_timing i s) to
-  moves s to a q i n code h is no_halt no_err spent short same c =
-      record {
-        n = n;
-        spent_is = spent;
-        short = short;
-        begins = begins o s q.state q.world code h is no_halt no_err;
-        there = c.to;
-        passes = c.passes;
-        stands = subst (λ (t : State). Stands o t c.to.state c.to.world) same c.stands;
-      }
-
 -- the statement that retires in the next cycle of a symbolic run has its access refused
 abbrev pub IsFull : Origin → Turn → List ℕ → Short → ℕ → Type 0
 IsFull o k gs t x =
@@ -242,43 +152,71 @@ IsFull o k gs t x =
     IsTurn o.words k s gs t
     × (memory_refusal (length o.words) (mem_in t.state.result) (settled (issue_of o.words k s gs t.state) t.state).mar ≡ Some (StackLimit x))
 
--- some cycles of a symbolic run, and then a write that is refused
-pub overruns : (program : List ℕ) (has : Known program) (o : Origin) (map : IsMapEnd (length o.words)) (s left : State) (q : Moment Pipeline)
-    (k : Turn) (ks : List Turn) (gs : List ℕ) (l : Turn) (code x : ℕ) →
-    Stands o s q.state q.world → byte_in o.words s.at ≡ code → (code == 255) ≡ false → (code == 254) ≡ false → length ks < 1023 →
-    IsSmooth o.words (k ∷ ks) gs (at_opcode code q.state.micro q.world q.stalls) →
-    is_inside mic3_meaning (clocked o.words (k ∷ ks) gs (at_opcode code q.state.micro q.world q.stalls)).state ≡ true →
-    nat_lt (clocked o.words (k ∷ ks) gs (at_opcode code q.state.micro q.world q.stalls)).state.micro.mpc 512 ≡ true →
-    IsFull o l [] (clocked o.words (k ∷ ks) gs (at_opcode code q.state.micro q.world q.stalls)) x →
-    (clocked o.words (k ∷ ks) gs (at_opcode code q.state.micro q.world q.stalls)).world.untaken ≡ left.untaken →
-    (clocked o.words (k ∷ ks) gs (at_opcode code q.state.micro q.world q.stalls)).world.given ≡ o.given ++ left.given →
-    Overruns mic3_meaning program (Stands o) o.given q left
-overruns program has o map s left q k ks gs l code x h is no_halt no_err short smooth inside low full untaken given =
-    let t : Short = clocked o.words (k ∷ ks) gs (at_opcode code q.state.micro q.world q.stalls) in
-    let a : Arrives o.words
-    (pass mic3_meaning program (length ks) (moment_of o.words (at_opcode code q.state.micro q.world q.stalls) (length q.state.micro.unit.bytes))) t =
-    pass-clocked program has o.words map.low k ks gs (at_opcode code q.state.micro q.world q.stalls) (length q.state.micro.unit.bytes) h.holds.memory
-    (starts_held has.queue o s q.state q.world q.stalls h) smooth in
-    record {
-      n = length ks;
-      short = short;
-      begins = begins o s q.state q.world code h is no_halt no_err;
-      there = moment_of o.words t a.have;
-      passes = ap (pass mic3_meaning program (length ks)) (starts has.queue o s q.state q.world q.stalls h code is) ∙ a.is;
-      inside = inside;
-      at = x;
-      refused = outcome_is program has o.words map.low (moment_of o.words t a.have) (grind (arith, nat_tests))
-          ∙ cycle-refused o.words has.queue l (shipped t.state.micro.mpc) [] t a.have (StackLimit x) a.memory a.held full.0 full.1;
-      untaken = untaken;
-      given = given;
-    }
+-- what is known at a boundary where an instruction comes next
+pub record At (program : List ℕ) (o : Origin) (v : VerifiedView) (s : State) (q : Moment Pipeline) : Type 0 where
+  pub has : Known program
+  pub loads : Loads v o
+  pub stands : Stands o s q.state q.world
+  pub holds : RegistersStand o s q.state.micro.sp q.state.micro.lv q.state.micro.cpp q.state.micro.tos q.world
+  pub inside : s.at < 0x10000
+  pub counts : Counts o.words s.at q.state.micro.pc
 
--- the number that the two bytes at a place make
-pub pair_at : (words : List ℕ) (x a b : ℕ) → Place words x a → a + 1 ≡ b →
-    256 * byte_in words x + byte_in words (x + 1) ≡ 256 * byte_in words a + byte_in words b
-pair_at words x a b p e = ap₂ (λ (i : ℕ) (j : ℕ). 256 * i + j) p.byte (p.second ∙ ap (byte_in words) e)
+pub at : {program : List ℕ} {o : Origin} {v : VerifiedView} {s : State} {q : Moment Pipeline} (i : Instr) → Known program → Loads v o → IsNext v o s i →
+    Stands o s q.state q.world → At program o v s q
+at {o = o} {v} {s} {q} i has loads n h =
+    let inside : s.at < 0x10000 = law.inside v o s i loads n in
+    record { has = has; loads = loads; stands = h; holds = h.holds; inside = inside; counts = counts o.words s.at q.state.micro.pc h.ready.micro.pc inside }
 
--- the signed number that the two bytes at a place make
-pub signed_pair_at : (words : List ℕ) (x a b : ℕ) → Place words x a → a + 1 ≡ b →
-    signed_pair (byte_in words x) (byte_in words (x + 1)) ≡ signed_pair (byte_in words a) (byte_in words b)
-signed_pair_at words x a b p e = ap₂ signed_pair p.byte (p.second ∙ ap (byte_in words) e)
+module _ {program : List ℕ} {o : Origin} {v : VerifiedView} {s : State} {q : Moment Pipeline} (a : At program o v s q) where
+  abbrev start : ℕ → Short
+  start code = at_opcode code q.state.micro q.world q.stalls
+
+  abbrev after : ℕ → List Turn → List ℕ → Short
+  after code plan gs = clocked o.words plan gs (start code)
+
+  arrived : (code : ℕ) (k : Turn) (ks : List Turn) (gs : List ℕ) → IsSmooth o.words (k ∷ ks) gs (start code) →
+      Arrives o.words (pass mic3_meaning program (length ks) (moment_of o.words (start code) (length q.state.micro.unit.bytes))) (after code (k ∷ ks) gs)
+  arrived code k ks gs smooth =
+      pass-clocked program a.has o.words (law.map v o a.loads).low k ks gs (start code) (length q.state.micro.unit.bytes) a.holds.memory
+      (starts_held a.has.queue o s q.state q.world q.stalls a.stands) smooth
+
+  -- some cycles come to the next boundary, which stands for the state that the instruction leads to
+  pub arrives : {t to : State} (i : Instr) (code : ℕ) (k : Turn) (ks : List Turn) (gs : List ℕ) → byte_in o.words s.at ≡ code →
+      (code == 255) ≡ false → (code == 254) ≡ false → cost v.image mic3_timing i s ≡ length ks + 1 → length ks < 1024 → t ≡ to →
+      IsSmooth o.words (k ∷ ks) gs (start code) → IsThere o t (after code (k ∷ ks) gs) → Moves mic3_meaning program (Stands o) o.given q (cost v.image mic3_timing i s) to
+  arrives {t} i code k ks gs is no_halt no_err spent short same smooth there =
+      let x : Arrives o.words (pass mic3_meaning program (length ks) (moment_of o.words (start code) (length q.state.micro.unit.bytes))) (after code (k ∷ ks) gs) =
+      arrived code k ks gs smooth in
+      let to : Moment Pipeline = moment_of o.words (after code (k ∷ ks) gs) x.have in
+      record {
+        n = length ks;
+        spent_is = spent;
+        short = short;
+        begins = begins o s q.state q.world code a.stands is no_halt no_err;
+        there = to;
+        passes = ap (pass mic3_meaning program (length ks)) (starts a.has.queue o s q.state q.world q.stalls a.stands code is) ∙ x.is;
+        stands = subst (λ (y : State). Stands o y to.state to.world) same (stands_at a.has.queue o t (after code (k ∷ ks) gs) x.have there x.held);
+      }
+
+  -- some cycles, and then a write that is refused
+  pub overruns : (left : State) (code x : ℕ) (k : Turn) (ks : List Turn) (gs : List ℕ) (l : Turn) → byte_in o.words s.at ≡ code →
+      (code == 255) ≡ false → (code == 254) ≡ false → length ks < 1023 → IsSmooth o.words (k ∷ ks) gs (start code) →
+      is_inside mic3_meaning (after code (k ∷ ks) gs).state ≡ true → nat_lt (after code (k ∷ ks) gs).state.micro.mpc 512 ≡ true →
+      IsFull o l [] (after code (k ∷ ks) gs) x → (after code (k ∷ ks) gs).world.untaken ≡ left.untaken → (after code (k ∷ ks) gs).world.given ≡ o.given ++ left.given →
+      Overruns mic3_meaning program (Stands o) o.given q left
+  overruns left code x k ks gs l is no_halt no_err short smooth inside low full untaken given =
+      let t : Short = after code (k ∷ ks) gs in
+      let y : Arrives o.words (pass mic3_meaning program (length ks) (moment_of o.words (start code) (length q.state.micro.unit.bytes))) t = arrived code k ks gs smooth in
+      record {
+        n = length ks;
+        short = short;
+        begins = begins o s q.state q.world code a.stands is no_halt no_err;
+        there = moment_of o.words t y.have;
+        passes = ap (pass mic3_meaning program (length ks)) (starts a.has.queue o s q.state q.world q.stalls a.stands code is) ∙ y.is;
+        inside = inside;
+        at = x;
+        refused = outcome_is program a.has o.words (law.map v o a.loads).low (moment_of o.words t y.have) (grind (arith, nat_tests))
+            ∙ cycle-refused o.words a.has.queue l (shipped t.state.micro.mpc) [] t y.have (StackLimit x) y.memory y.held full.0 full.1;
+        untaken = untaken;
+        given = given;
+      }

@@ -18,5 +18,5 @@ pub returns-clause-takes : goal.returns-clause-takes
 returns-clause-takes c = λ store o v shipped loads.
     let has : Known store = known store shipped c.queue_law.ensures in
     let law : StackLaw = c.stack_law.ensures in
-    c.groups_are_all.ensures.stalls store 0x002 (timing_of Mic2) stalls_of v o (operands store has o v loads law) (locals store has o v loads law)
-    (jumping store has o v loads law) (calls store has o v loads law) (consoles store has o v loads law)
+    c.groups_are_all.ensures.stalls store 0x002 (timing_of Mic2) stalls_of v o (operands store has o v loads) (locals store has o v loads)
+    (jumping store has o v loads) (calls store has o v loads) (consoles store has o v loads)

@@ -20,7 +20,7 @@ returns-clause-law c = λ store o v shipped loads.
     record {
       shows = shows store o;
       takes = c.groups_are_all.ensures.takes store 0x002 (timing_of Mic1) v o (operands store has o v loads) (locals store has o v loads)
-          (jumping store has o v loads) (calls store has o v loads law) (consoles store has o v loads);
+          (jumping store has o v loads) (calls store has o v loads) (consoles store has o v loads);
       ends = ends store has o v loads law;
     }
 

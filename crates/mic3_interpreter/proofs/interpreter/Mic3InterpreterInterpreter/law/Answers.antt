@@ -18,8 +18,8 @@ returns-clause-law c = λ store o v shipped loads.
     let law : StackLaw = c.stack_law.ensures in
     record {
       shows = shows store o;
-      takes = c.groups_are_all.ensures.takes store 0x002 mic3_timing v o (operands store has o v loads law) (locals store has o v loads law)
-          (jumping store has o v loads law) (calls store has o v loads law) (consoles store has o v loads law);
+      takes = c.groups_are_all.ensures.takes store 0x002 mic3_timing v o (operands store has o v loads) (locals store has o v loads)
+          (jumping store has o v loads) (calls store has o v loads) (consoles store has o v loads);
       ends = ends store o v;
     }
 
