@@ -1,5 +1,6 @@
 -- What a call and a return access, and what they leave in the registers and the world, on any machine.
-use Rattle.std.proofs.Common.{◌≡◌, ℕ, suc, ◌+◌, ◌-◌, ◌*◌, ◌<◌, ◌≤◌, ◌⊎◌, inl, inr, None, Some, Option, List, ◌∷◌, ◌++◌, length, take, drop, replicate, refl, arith, sym, ◌∙◌, ap, ap₂, subst}
+use Rattle.std.proofs.Common.{◌≡◌, ℕ, suc, ◌+◌, ◌-◌, ◌*◌, ◌<◌, ◌≤◌, ◌⊎◌, inl, inr, None, Some, Option}
+use Rattle.std.proofs.Common.{List, ◌∷◌, ◌++◌, length, take, drop, replicate, refl, arith, sym, ◌∙◌, ap, ap₂, subst}
 use Rattle.std.specs.Prelude.{slice_index, slice_set, slice_get}
 use Rattle.std.proofs.lemmas.Bool.{cases_lt}
 use Rattle.std.proofs.lemmas.Option.{same_Some}
@@ -17,7 +18,8 @@ use Rattle.ijvm_simulation.specs.Outcomes.{WithMethod, Returns, Fits, Overflows}
 use Rattle.ijvm_simulation.specs.Verified.{Loads, IsNext}
 use Rattle.ijvm_simulation.proofs.Stack.{law}
 
-module _ {v : VerifiedView} {o : Origin} {s : State} {sp lv cpp tos : ℕ} {w : World} (loads : Loads v o) (h : RegistersStand o s sp lv cpp tos w) where
+module _ {v : VerifiedView} {o : Origin} {s : State} {sp lv cpp tos : ℕ} {w : World} (loads : Loads v o)
+    (h : RegistersStand o s sp lv cpp tos w) where
   abbrev map : IsMapEnd (length o.words)
   map = law.map v o loads
 
@@ -55,7 +57,11 @@ module _ {v : VerifiedView} {o : Origin} {s : State} {sp lv cpp tos : ℕ} {w : 
     pub leaves : RegistersStand o to lv caller cpp tos (after_write top (after_read top w2 (next link_word)) lv tos)
 
   pub returned : {to : State} → IsNext v o s Ireturn → (went : Returns s to) →
-      Returned went.back (record s { running = record went.caller { operands = went.with_top.top ∷ went.caller.operands }; callers = went.above; at = went.back })
+      Returned went.back (record s {
+        running = record went.caller { operands = went.with_top.top ∷ went.caller.operands };
+        callers = went.above;
+        at = went.back;
+      })
   returned n went =
       let y : ℕ = went.with_top.top in
       let rest : List ℕ = went.with_top.rest in
@@ -77,7 +83,8 @@ module _ {v : VerifiedView} {o : Origin} {s : State} {sp lv cpp tos : ℕ} {w : 
       let at : slice_index w.words lv' ≡ lv' + many = rw (← same) link.0 in
       let b : IsWordAccess top w1 link_word (lv' + many) = law.access top w1 link_word (lv' + many) (a.value ∙ at) (omega arith) in
       let d : IsWordAccess top w2 (next link_word) (lv' + many + 1) =
-      law.access top w2 (next link_word) (lv' + many + 1) (law.words.next_is link_word (lv' + many + 1) (omega (arith, b.is)) (omega arith)) (omega arith) in
+      law.access top w2 (next link_word) (lv' + many + 1) (law.words.next_is link_word (lv' + many + 1) (omega (arith, b.is)) (omega arith))
+      (omega arith) in
       record {
         first = a.read;
         second = b.read;
@@ -86,7 +93,8 @@ module _ {v : VerifiedView} {o : Origin} {s : State} {sp lv cpp tos : ℕ} {w : 
         high = omega (arith, a.is);
         back = b.value ∙ (rw same at link.1);
         inside = omega (arith, to_is, to.5, loads.image.limits.text_fits);
-        leaves = here.returns y rest f fs went.back lv caller cpp tos (after_write top (after_read top w2 (next link_word)) lv tos) went.with_top.are went.callers_are
+        leaves = here.returns y rest f fs went.back lv caller cpp tos
+            (after_write top (after_read top w2 (next link_word)) lv tos) went.with_top.are went.callers_are
             (d.value ∙ ((rw same at link.2) ∙ ap caller_lv went.callers_are)) refl a.is t.tos_is (ap₂ (slice_set w.words) a.is t.tos_is)
             (d.untaken ∙ (b.untaken ∙ (a.untaken ∙ h.untaken))) (a.given _ _);
       }
@@ -155,7 +163,8 @@ module _ {v : VerifiedView} {o : Origin} {s : State} {sp lv cpp tos : ℕ} {w : 
     pub leaves : (tos' : ℕ) → RegistersStand o to (next link) at cpp tos'
         (after_write top (after_write top (after_write top (after_read top w a) at link) link back) (next link) lv)
 
-  pub called : {a k count own link back : ℕ} {to : State} → (went : WithMethod v.image s k (λ m n. Fits v.map.stack_end (in_method s m n) to)) → Named a k went.method →
+  pub called : {a k count own link back : ℕ} {to : State} → (went : WithMethod v.image s k (λ m n. Fits v.map.stack_end (in_method s m n) to)) →
+      Named a k went.method →
       count ≡ went.method.params → own ≡ went.method.others → link ≡ next (sp + own) → back ≡ s.at + 3 →
       Called a (next (minus sp count)) link back (in_method s went.method went.others)
   called {a} {k} {count} {own} {link} {back} went f count_is own_is is returns =
@@ -177,7 +186,8 @@ module _ {v : VerifiedView} {o : Origin} {s : State} {sp lv cpp tos : ℕ} {w : 
       let d : IsWordAccess top w link (at + many) = law.access top w link (at + many) link_is (omega arith) in
       let e : IsWordAccess top w (next link) (at + many + 1) =
       law.access top w (next link) (at + many + 1) (law.words.next_is link (at + many + 1) (omega arith) (omega arith)) (omega arith) in
-      let same : slice_set (slice_set (slice_set w.words (next (minus sp count)) link) link back) (next link) lv ≡ linked_words w.words at many (s.at + 3) (base s.callers) =
+      let same : slice_set (slice_set (slice_set w.words (next (minus sp count)) link) link back) (next link) lv ≡ linked_words w.words at many
+      (s.at + 3) (base s.callers) =
       λ j. slice_set (slice_set (slice_set w.words (b.is j) (d.is j)) (d.is j) (returns j)) (e.is j) (h.lv_is j) in
       record {
         first = b.write;
@@ -204,7 +214,8 @@ module _ {v : VerifiedView} {o : Origin} {s : State} {sp lv cpp tos : ℕ} {w : 
     pub refused : write_refusal top (next link) ≡ Some (StackLimit (next link))
     pub given : (back : ℕ) → given_after top (given_after top w.given at link) link back ≡ o.given ++ left.given
 
-  pub cut_off : {a k count own link : ℕ} {left : State} → (over : WithMethod v.image s k (λ m n. Overflows v.map.stack_end (in_method s m n) s left)) → Named a k over.method →
+  pub cut_off : {a k count own link : ℕ} {left : State} → (over : WithMethod v.image s k
+      (λ m n. Overflows v.map.stack_end (in_method s m n) s left)) → Named a k over.method →
       count ≡ over.method.params → own ≡ over.method.others → link ≡ next (sp + own) →
       CutOff a (next (minus sp count)) link left × ((write_refusal top link ≡ Some (StackLimit link)) ⊎ CutLate (next (minus sp count)) link left)
   cut_off {a} {k} {count} {own} {link} {left} over f count_is own_is is =

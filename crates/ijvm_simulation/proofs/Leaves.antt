@@ -1,6 +1,7 @@
 -- What each instruction accesses, and what it leaves in the registers and the world, on any machine: a machine that has left these
 -- stands for the state after the instruction.
-use Rattle.std.proofs.Common.{◌≡◌, ◌≢◌, ℕ, suc, ◌+◌, ◌%◌, ◌<◌, ◌≤◌, ◌==◌, Bool, true, false, None, Some, List, [], ◌∷◌, ◌++◌, length, drop, refl, arith, sym, ◌∙◌, ap, ap₂, subst, append_assoc, All}
+use Rattle.std.proofs.Common.{◌≡◌, ◌≢◌, ℕ, suc, ◌+◌, ◌%◌, ◌<◌, ◌≤◌, ◌==◌, Bool, true, false, None, Some, List}
+use Rattle.std.proofs.Common.{[], ◌∷◌, ◌++◌, length, drop, refl, arith, sym, ◌∙◌, ap, ap₂, subst, append_assoc, All}
 use Rattle.std.specs.Prelude.{slice_set, slice_get, ℤ}
 use Rattle.std.proofs.lemmas.List.{set_comm}
 use Rattle.std.proofs.lemmas.List.Elements.{All-get_or}
@@ -17,7 +18,8 @@ use Rattle.ijvm_simulation.specs.Outcomes.{WithTop, WithTwo, WithLocal, WithCons
 use Rattle.ijvm_simulation.specs.Verified.{Loads, Fine}
 use Rattle.ijvm_simulation.proofs.Stack.{law}
 
-module _ {v : VerifiedView} {o : Origin} {s : State} {sp lv cpp tos : ℕ} {w : World} (loads : Loads v o) (h : RegistersStand o s sp lv cpp tos w) where
+module _ {v : VerifiedView} {o : Origin} {s : State} {sp lv cpp tos : ℕ} {w : World} (loads : Loads v o)
+    (h : RegistersStand o s sp lv cpp tos w) where
   abbrev map : IsMapEnd (length o.words)
   map = law.map v o loads
 
@@ -53,7 +55,8 @@ module _ {v : VerifiedView} {o : Origin} {s : State} {sp lv cpp tos : ℕ} {w : 
   pub bipush : {x y at : ℕ} {to : State} → Fits v.map.stack_end (push s y at) to → x ≡ y → Pushed x w.untaken (push s y at)
   bipush {x} {y} {at} went is = pushed x y at w.untaken s.untaken (omega (arith, went.fits, loads.long)) is h.untaken
 
-  pub dup : {at : ℕ} {to : State} → (went : WithTop s.running.operands (λ y rest. Fits v.map.stack_end (push s y at) to)) → Pushed tos w.untaken (push s went.top at)
+  pub dup : {at : ℕ} {to : State} → (went : WithTop s.running.operands (λ y rest. Fits v.map.stack_end (push s y at) to)) → Pushed tos w.untaken
+      (push s went.top at)
   dup went = bipush went.leads (here.top went.top went.rest went.are).tos_is
 
   -- A word is pushed that was read at a.
@@ -78,7 +81,8 @@ module _ {v : VerifiedView} {o : Origin} {s : State} {sp lv cpp tos : ℕ} {w : 
       law.access top w a (0x4000 + k) (is ∙ law.words.plus_is h.cpp_is refl refl (omega (arith, c.small))) (omega (arith, c.small, map.low))
 
   -- LDC_W
-  pub constant_pushed : {a k at : ℕ} {to : State} → (went : WithConstant v.image.pool k (λ y. Fits v.map.stack_end (push s y at) to)) → a ≡ plus cpp k →
+  pub constant_pushed : {a k at : ℕ} {to : State} → (went : WithConstant v.image.pool k (λ y. Fits v.map.stack_end (push s y at) to)) →
+      a ≡ plus cpp k →
       PushedFrom a (push s went.value at)
   constant_pushed {a} {k} {at} went is =
       let c : IsConstant o k went.value = law.constant v o loads k went.value went.found in
@@ -133,22 +137,34 @@ module _ {v : VerifiedView} {o : Origin} {s : State} {sp lv cpp tos : ℕ} {w : 
     pub from : read_refusal top a ≡ None
     pub full : Full (untaken_after top w.untaken a) left
 
-  pub constant_full : {a k at : ℕ} {left : State} → WithConstant v.image.pool k (λ y. Overflows v.map.stack_end (push s y at) s left) → a ≡ plus cpp k → FullFrom a left
+  pub constant_full : {a k at : ℕ} {left : State} → WithConstant v.image.pool k (λ y. Overflows v.map.stack_end (push s y at) s left) →
+      a ≡ plus cpp k → FullFrom a left
   constant_full {a} {k} {left = left} over is =
       let r : IsWordAccess top w a (0x4000 + k) = constant k over.found is in
-      record { from = r.read; full = full (untaken_after top w.untaken a) s.untaken left (omega (arith, over.leads.over, loads.long)) (r.untaken ∙ h.untaken) over.leads.leaves }
+      record {
+        from = r.read;
+        full = full (untaken_after top w.untaken a) s.untaken left (omega (arith, over.leads.over, loads.long))
+            (r.untaken ∙ h.untaken) over.leads.leaves;
+      }
 
-  pub local_full : {a k at : ℕ} {left : State} → WithLocal s.running.locals k (λ y. Overflows v.map.stack_end (push s y at) s left) → a ≡ plus lv k → FullFrom a left
+  pub local_full : {a k at : ℕ} {left : State} → WithLocal s.running.locals k (λ y. Overflows v.map.stack_end (push s y at) s left) →
+      a ≡ plus lv k → FullFrom a left
   local_full {a} {k} {left = left} over is =
       let r : IsWordAccess top w a (base s.callers + k) = local_set k over.set is in
-      record { from = r.read; full = full (untaken_after top w.untaken a) s.untaken left (omega (arith, over.leads.over, loads.long)) (r.untaken ∙ h.untaken) over.leads.leaves }
+      record {
+        from = r.read;
+        full = full (untaken_after top w.untaken a) s.untaken left (omega (arith, over.leads.over, loads.long))
+            (r.untaken ∙ h.untaken) over.leads.leaves;
+      }
 
-  pub taken_full : {at : ℕ} {left : State} → Overflows v.map.stack_end (push (taken s) (next_byte s.untaken) at) (taken s) left → FullFrom console_address left
+  pub taken_full : {at : ℕ} {left : State} → Overflows v.map.stack_end (push (taken s) (next_byte s.untaken) at) (taken s) left →
+      FullFrom console_address left
   taken_full {left = left} over =
       let p : IsConsoleAccess top w = law.port top w map h.memory.long in
       record {
         from = p.read;
-        full = full (untaken_after top w.untaken console_address) (drop 1 s.untaken) left (omega (arith, over.over, loads.long)) (p.untaken ∙ ap (drop 1) h.untaken) over.leaves;
+        full = full (untaken_after top w.untaken console_address) (drop 1 s.untaken) left (omega (arith, over.over, loads.long))
+            (p.untaken ∙ ap (drop 1) h.untaken) over.leaves;
       }
 
   -- POP, IFEQ and IFLT: the last operand is taken off.
@@ -161,7 +177,8 @@ module _ {v : VerifiedView} {o : Origin} {s : State} {sp lv cpp tos : ℕ} {w : 
       let t : Top o s sp lv cpp tos w y rest = here.top y rest are in
       record {
         down = t.down.read;
-        leaves = λ at. here.drops rest at (before sp) lv cpp (read (before sp)) (after_read top w (before sp)) s.given t.frames (omega (arith, t.below))
+        leaves = λ at. here.drops rest at (before sp) lv cpp (read (before sp)) (after_read top w (before sp)) s.given t.frames
+            (omega (arith, t.below))
             refl refl (omega (arith, t.down.is, t.above)) t.next_top refl (t.down.untaken ∙ h.untaken) h.given;
       }
 
@@ -170,7 +187,8 @@ module _ {v : VerifiedView} {o : Origin} {s : State} {sp lv cpp tos : ℕ} {w : 
     pub down : read_refusal top (before sp) ≡ None
     pub below : read_refusal top (before (before sp)) ≡ None
     pub leaves : (at : ℕ) → RegistersStand o (moved s rest at) (before (before sp)) lv cpp
-        (read_value top w.words (untaken_after top w.untaken (before sp)) (before (before sp))) (after_read top (after_read top w (before sp)) (before (before sp)))
+        (read_value top w.words (untaken_after top w.untaken (before sp)) (before (before sp)))
+        (after_read top (after_read top w (before sp)) (before (before sp)))
 
   pub popped_two : {y x : ℕ} {rest : List ℕ} → s.running.operands ≡ y ∷ x ∷ rest → PoppedTwo rest
   popped_two {y} {x} {rest} are =
@@ -180,7 +198,8 @@ module _ {v : VerifiedView} {o : Origin} {s : State} {sp lv cpp tos : ℕ} {w : 
       record {
         down = t.at.read;
         below = t.down.read;
-        leaves = λ at. here.drops rest at a lv cpp (read_value top w.words (untaken_after top w.untaken (before sp)) a) (after_read top (after_read top w (before sp)) a)
+        leaves = λ at. here.drops rest at a lv cpp (read_value top w.words (untaken_after top w.untaken (before sp)) a)
+            (after_read top (after_read top w (before sp)) a)
             s.given t.frames (omega (arith, t.at.below)) refl refl (omega (arith, t.down.is))
             (subst (λ (n : ℕ). IsTop n rest) (sym (ap (λ (u : List ℕ). read_value top w.words u a) t.at.untaken)) t.next_top)
             refl (ap (λ (u : List ℕ). untaken_after top u a) t.at.untaken ∙ (t.down.untaken ∙ h.untaken)) h.given;
@@ -191,20 +210,23 @@ module _ {v : VerifiedView} {o : Origin} {s : State} {sp lv cpp tos : ℕ} {w : 
     pub taken : test ≡ true → (moved s rest (jump o.words s.at) ≡ to) × (tested ≡ true)
     pub falls : test ≡ false → (moved s rest (s.at + 3) ≡ to) × (tested ≡ false)
 
-  branches : (test is tested : Bool) (z : ℤ) (rest : List ℕ) (to : State) → Lands o s z → test ≡ is → tested ≡ is → moved s rest (way s.at z is) ≡ to → Branches test tested rest to
+  branches : (test is tested : Bool) (z : ℤ) (rest : List ℕ) (to : State) → Lands o s z → test ≡ is → tested ≡ is →
+      moved s rest (way s.at z is) ≡ to → Branches test tested rest to
   branches test is tested z rest to j same counted goes =
       record {
         taken = λ e. (ap (moved s rest) (j.is ∙ ap (way s.at z) (sym e ∙ same)) ∙ goes, counted ∙ (sym same ∙ e));
         falls = λ e. (ap (moved s rest) (ap (way s.at z) (sym e ∙ same)) ∙ goes, counted ∙ (sym same ∙ e));
       }
 
-  pub branches_by : (test : ℕ → Bool) {z : ℤ} {to : State} → Lands o s z → (went : WithTop s.running.operands (λ y rest. moved s rest (way s.at z (test y)) ≡ to)) →
+  pub branches_by : (test : ℕ → Bool) {z : ℤ} {to : State} → Lands o s z →
+      (went : WithTop s.running.operands (λ y rest. moved s rest (way s.at z (test y)) ≡ to)) →
       Branches (test tos) (tests test s.running.operands) went.rest to
   branches_by test {z} {to} j went =
       branches (test tos) (test went.top) (tests test s.running.operands) z went.rest to j (ap test (here.top went.top went.rest went.are).tos_is)
       (ap (tests test) went.are) went.leads
 
-  pub branches_equal : {z : ℤ} {to : State} → Fine v s → Lands o s z → (went : WithTwo s.running.operands (λ y x rest. moved s rest (way s.at z (x == y)) ≡ to)) →
+  pub branches_equal : {z : ℤ} {to : State} → Fine v s → Lands o s z →
+      (went : WithTwo s.running.operands (λ y x rest. moved s rest (way s.at z (x == y)) ≡ to)) →
       Branches (minus tos (read (before sp)) == 0) (are_equal s.running.operands) went.rest to
   branches_equal {z} {to} fine j went =
       let t : Two o s sp lv cpp tos w went.top went.second went.rest = here.two went.top went.second went.rest went.are in
@@ -212,7 +234,8 @@ module _ {v : VerifiedView} {o : Origin} {s : State} {sp lv cpp tos : ℕ} {w : 
       let ly : IsWord went.top = All-get_or IsWord (went.top ∷ went.second ∷ went.rest) 0 went.top (omega arith) words in
       let lx : IsWord went.second = All-get_or IsWord (went.top ∷ went.second ∷ went.rest) 1 went.second (omega arith) words in
       branches (minus tos (read (before sp)) == 0) (went.second == went.top) (are_equal s.running.operands) z went.rest to j
-      (ap₂ (λ (i : ℕ) (k : ℕ). minus i k == 0) t.tos_is t.second ∙ law.words.difference_zero went.top went.second ly lx) (ap are_equal went.are) went.leads
+      (ap₂ (λ (i : ℕ) (k : ℕ). minus i k == 0) t.tos_is t.second ∙ law.words.difference_zero went.top went.second ly lx)
+      (ap are_equal went.are) went.leads
 
   -- Two operands become the word that the machine has at x.
   pub record Operated (x : ℕ) (to : State) : Type 0 where
@@ -230,7 +253,8 @@ module _ {v : VerifiedView} {o : Origin} {s : State} {sp lv cpp tos : ℕ} {w : 
         down = t.at.read;
         write = t.at.write;
         high = omega (arith, law.above s.callers, t.at.is);
-        leaves = here.pushes went.rest (f went.second went.top) at (before sp) lv cpp x (after_write top (after_read top w (before sp)) (before sp) x) s.untaken
+        leaves = here.pushes went.rest (f went.second went.top) at (before sp) lv cpp x
+            (after_write top (after_read top w (before sp)) (before sp) x) s.untaken
             t.frames t.at.below refl refl t.at.is e (ap₂ (slice_set w.words) t.at.is e) (t.at.untaken ∙ h.untaken) (t.at.given w.given x);
       }
 
@@ -241,7 +265,8 @@ module _ {v : VerifiedView} {o : Origin} {s : State} {sp lv cpp tos : ℕ} {w : 
 
   -- by a machine that has the operands the other way round
   pub operated_turned : (f : ℕ → ℕ → ℕ) {at : ℕ} {to : State} → ((i j : ℕ) → f i j ≡ f j i) →
-      (went : WithTwo s.running.operands (λ y x rest. moved s (f x y ∷ rest) at ≡ to)) → Operated (f tos (read (before sp))) (moved s (f went.second went.top ∷ went.rest) at)
+      (went : WithTwo s.running.operands (λ y x rest. moved s (f x y ∷ rest) at ≡ to)) → Operated (f tos (read (before sp)))
+      (moved s (f went.second went.top ∷ went.rest) at)
   operated_turned f {at} turns went = operates f (f tos (read (before sp))) at went (turns tos (read (before sp)))
 
   pub record Swapped (to : State) : Type 0 where
@@ -250,9 +275,11 @@ module _ {v : VerifiedView} {o : Origin} {s : State} {sp lv cpp tos : ℕ} {w : 
     pub second : write_refusal top (before sp) ≡ None
     pub high : 0x8000 ≤ sp
     pub high' : 0x8000 ≤ before sp
-    pub leaves : RegistersStand o to sp lv cpp (read (before sp)) (after_write top (after_write top (after_read top w (before sp)) sp (read (before sp))) (before sp) tos)
+    pub leaves : RegistersStand o to sp lv cpp (read (before sp))
+        (after_write top (after_write top (after_read top w (before sp)) sp (read (before sp))) (before sp) tos)
 
-  pub swapped : {at : ℕ} {to : State} → (went : WithTwo s.running.operands (λ y x rest. moved s (x ∷ y ∷ rest) at ≡ to)) → Swapped (moved s (went.second ∷ went.top ∷ went.rest) at)
+  pub swapped : {at : ℕ} {to : State} → (went : WithTwo s.running.operands (λ y x rest. moved s (x ∷ y ∷ rest) at ≡ to)) → Swapped
+      (moved s (went.second ∷ went.top ∷ went.rest) at)
   swapped {at} went =
       let y : ℕ = went.top in
       let x : ℕ = went.second in
@@ -262,15 +289,18 @@ module _ {v : VerifiedView} {o : Origin} {s : State} {sp lv cpp tos : ℕ} {w : 
       let len : length s.running.operands ≡ suc (suc (length rest)) = ap length went.are in
       let last : IsWordAccess top w sp (place_behind s rest + 1) = law.access top w sp (place_behind s rest + 1) t.sp_is (omega (arith, h.fits)) in
       let apart : place_behind s rest + 1 ≢ place_behind s rest = omega arith in
-      let same : slice_set (slice_set w.words sp (read (before sp))) (before sp) tos ≡ slice_set (slice_set w.words (place_behind s rest) y) (place_behind s rest + 1) x =
-      (λ j. slice_set (slice_set w.words (last.is j) (t.second j)) (t.at.is j) (t.tos_is j)) ∙ set_comm w.words (place_behind s rest + 1) (place_behind s rest) x y apart in
+      let same : slice_set (slice_set w.words sp (read (before sp))) (before sp) tos ≡ slice_set (slice_set w.words (place_behind s rest) y)
+      (place_behind s rest + 1) x =
+      (λ j. slice_set (slice_set w.words (last.is j) (t.second j)) (t.at.is j) (t.tos_is j)) ∙ set_comm w.words (place_behind s rest + 1)
+      (place_behind s rest) x y apart in
       record {
         down = t.at.read;
         first = last.write;
         second = t.at.write;
         high = omega (arith, t.sp_is);
         high' = omega (arith, t.at.is);
-        leaves = here.swaps y x rest at sp lv cpp (read (before sp)) (after_write top (after_write top (after_read top w (before sp)) sp (read (before sp))) (before sp) tos)
+        leaves = here.swaps y x rest at sp lv cpp (read (before sp))
+            (after_write top (after_write top (after_read top w (before sp)) sp (read (before sp))) (before sp) tos)
             t refl refl refl t.second same (t.at.untaken ∙ h.untaken) (t.at.given _ _ ∙ last.given _ _);
       }
 
@@ -279,9 +309,11 @@ module _ {v : VerifiedView} {o : Origin} {s : State} {sp lv cpp tos : ℕ} {w : 
     pub write : write_refusal top a ≡ None
     pub high : 0x8000 ≤ a
     pub down : read_refusal top (before sp) ≡ None
-    pub leaves : RegistersStand o to (before sp) lv cpp (read_value top (slice_set w.words a tos) w.untaken (before sp)) (after_read top (after_write top w a tos) (before sp))
+    pub leaves : RegistersStand o to (before sp) lv cpp (read_value top (slice_set w.words a tos) w.untaken (before sp))
+        (after_read top (after_write top w a tos) (before sp))
 
-  pub stored : {a k at : ℕ} {to : State} → (went : WithTop s.running.operands (λ y rest. Stores s k y rest at to)) → a ≡ plus lv k → Stored a (with_local s k went.top went.rest at)
+  pub stored : {a k at : ℕ} {to : State} → (went : WithTop s.running.operands (λ y rest. Stores s k y rest at to)) → a ≡ plus lv k → Stored a
+      (with_local s k went.top went.rest at)
   stored {a} {k} {at} went is =
       let t : Top o s sp lv cpp tos w went.top went.rest = here.top went.top went.rest went.are in
       let r : IsWordAccess top w a (base s.callers + k) = local went.leads.inside is in
@@ -289,7 +321,8 @@ module _ {v : VerifiedView} {o : Origin} {s : State} {sp lv cpp tos : ℕ} {w : 
         write = r.write;
         high = omega (arith, law.above s.callers, r.is);
         down = t.down.read;
-        leaves = here.stores k went.top went.rest at (before sp) lv cpp (read_value top (slice_set w.words a tos) w.untaken (before sp)) (after_read top (after_write top w a tos) (before sp))
+        leaves = here.stores k went.top went.rest at (before sp) lv cpp (read_value top (slice_set w.words a tos) w.untaken (before sp))
+            (after_read top (after_write top w a tos) (before sp))
             t went.leads.inside went.leads.own refl refl refl refl (ap₂ (slice_set w.words) r.is t.tos_is) (t.down.untaken ∙ h.untaken) (r.given _ _);
       }
 
@@ -311,7 +344,8 @@ module _ {v : VerifiedView} {o : Origin} {s : State} {sp lv cpp tos : ℕ} {w : 
         from = r.read;
         write = r.write;
         high = omega (arith, law.above s.callers, r.is);
-        leaves = here.changes k y at sp lv cpp tos (after_write top (after_read top w a) a x) (slice_get_within s.running.locals k (Some went.value) went.set) own
+        leaves = here.changes k y at sp lv cpp tos (after_write top (after_read top w a) a x)
+            (slice_get_within s.running.locals k (Some went.value) went.set) own
             refl refl refl refl (ap₂ (slice_set w.words) r.is e) (r.untaken ∙ h.untaken) (r.given _ _);
       }
 
@@ -334,7 +368,8 @@ module _ {v : VerifiedView} {o : Origin} {s : State} {sp lv cpp tos : ℕ} {w : 
     pub leaves : RegistersStand o to (before sp) lv cpp (read_value top (slice_set w.words console_address tos) w.untaken (before sp))
         (after_read top (after_write top w console_address tos) (before sp))
 
-  pub gives : {at : ℕ} {to : State} → (went : WithTop s.running.operands (λ y rest. record (moved s rest at) { given = s.given ++ (y % 256) ∷ [] } ≡ to)) →
+  pub gives : {at : ℕ} {to : State} → (went : WithTop s.running.operands
+      (λ y rest. record (moved s rest at) { given = s.given ++ (y % 256) ∷ [] } ≡ to)) →
       Given (record (moved s went.rest at) { given = s.given ++ (went.top % 256) ∷ [] })
   gives {at} went =
       let y : ℕ = went.top in

@@ -24,11 +24,13 @@ unfolding wrap
 place_on words x a d b p e l = place_at words (plus x d) b (omega (arith, p.is)) l
 
 -- the number that the two bytes at a place make
-pub pair_at : (words : List ℕ) (x a b : ℕ) → Place words x a → a + 1 ≡ b → 256 * byte_in words x + byte_in words (x + 1) ≡ 256 * byte_in words a + byte_in words b
+pub pair_at : (words : List ℕ) (x a b : ℕ) → Place words x a → a + 1 ≡ b →
+    256 * byte_in words x + byte_in words (x + 1) ≡ 256 * byte_in words a + byte_in words b
 pair_at words x a b p e = ap₂ (λ (i : ℕ) (j : ℕ). 256 * i + j) p.byte (p.second ∙ ap (byte_in words) e)
 
 -- the signed number that the two bytes at a place make
-pub signed_pair_at : (words : List ℕ) (x a b : ℕ) → Place words x a → a + 1 ≡ b → signed_pair (byte_in words x) (byte_in words (x + 1)) ≡ signed_pair (byte_in words a) (byte_in words b)
+pub signed_pair_at : (words : List ℕ) (x a b : ℕ) → Place words x a → a + 1 ≡ b →
+    signed_pair (byte_in words x) (byte_in words (x + 1)) ≡ signed_pair (byte_in words a) (byte_in words b)
 signed_pair_at words x a b p e = ap₂ signed_pair p.byte (p.second ∙ ap (byte_in words) e)
 
 -- PC after the opcode at this address, and what it becomes
@@ -51,7 +53,8 @@ counts words at pc is inside =
     let p2 : Place words (plus pc 2) (at + 3) = place_on words pc (at + 1) 2 (at + 3) p0 (omega arith) (omega arith) in
     let p11 : Place words (plus (plus pc 1) 1) (at + 3) = place_on words (plus pc 1) (at + 2) 1 (at + 3) p1 (omega arith) (omega arith) in
     let p12 : Place words (plus (plus pc 1) 2) (at + 4) = place_on words (plus pc 1) (at + 2) 2 (at + 4) p1 (omega arith) (omega arith) in
-    let p122 : Place words (plus (plus (plus pc 1) 2) 2) (at + 6) = place_on words (plus (plus pc 1) 2) (at + 4) 2 (at + 6) p12 (omega arith) (omega arith) in
+    let p122 : Place words (plus (plus (plus pc 1) 2) 2) (at + 6) = place_on words (plus (plus pc 1) 2) (at + 4) 2 (at + 6) p12 (omega arith)
+    (omega arith) in
     record {
       p0 = p0;
       p1 = p1;
@@ -84,7 +87,8 @@ jumps {words} {at} {pc} low c to =
 
 -- The address of a local or a constant, as the bytes after the opcode name it: one byte, two, or two after a second opcode.
 
-pub byte_after : {words : List ℕ} {at pc k : ℕ} (from : ℕ) → Counts words at pc → k ≡ byte_in words (at + 1) → plus from (byte_in words pc) ≡ plus from k
+pub byte_after : {words : List ℕ} {at pc k : ℕ} (from : ℕ) → Counts words at pc → k ≡ byte_in words (at + 1) →
+    plus from (byte_in words pc) ≡ plus from k
 byte_after from c index = ap (plus from) (c.p0.byte ∙ sym index)
 
 pub pair_after : {words : List ℕ} {at pc k : ℕ} (from : ℕ) → Counts words at pc → k ≡ 256 * byte_in words (at + 1) + byte_in words (at + 2) →
@@ -104,7 +108,8 @@ pub record Entry (words : List ℕ) (x : ℕ) (m : Method) : Type 0 where
   pub params : 256 * byte_in words x + byte_in words (x + 1) ≡ m.params
   pub others : 256 * byte_in words (plus x 2) + byte_in words (plus x 2 + 1) ≡ m.others
 
-pub entry_at : {words : List ℕ} {x : ℕ} (m : Method) → x ≡ m.entry → m.entry + 4 < 0x10000 → m.params ≡ 256 * byte_in words m.entry + byte_in words (m.entry + 1) →
+pub entry_at : {words : List ℕ} {x : ℕ} (m : Method) → x ≡ m.entry → m.entry + 4 < 0x10000 →
+    m.params ≡ 256 * byte_in words m.entry + byte_in words (m.entry + 1) →
     m.others ≡ 256 * byte_in words (m.entry + 2) + byte_in words (m.entry + 3) → Entry words x m
 entry_at {words} {x} m is whole params others =
     let e : ℕ = m.entry in

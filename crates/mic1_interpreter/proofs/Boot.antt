@@ -32,9 +32,11 @@ module _ (program : List ℕ) (has : HasStatements program) (o : Origin) (v : Ve
   abbrev pub start : MicroRun Micro
   start = start_run mic1_meaning 0x002 (0x8000 + v.main_locals - 1) world
 
-  pub boots : Boots mic1_meaning program (Stands o) o.given (timing_of Mic1) (reset_moment mic1_meaning 0x002 v.main_locals o input) (start_of v.main_locals input)
+  pub boots : Boots mic1_meaning program (Stands o) o.given (timing_of Mic1) (reset_moment mic1_meaning 0x002 v.main_locals o input)
+      (start_of v.main_locals input)
   boots =
-      let fetch : fetch_refusal (length o.words) (next 4294967295) ≡ None = fetch_ok (length o.words) (law.map v o loads) first_address (omega arith) in
+      let fetch : fetch_refusal (length o.words) (next 4294967295) ≡ None = fetch_ok (length o.words) (law.map v o loads) first_address
+      (omega arith) in
       let p : Moment Micro = record { state = start.state; world = world; stalls = 0 } in
       record {
         off = refl;
@@ -45,6 +47,7 @@ module _ (program : List ℕ) (has : HasStatements program) (o : Origin) (v : Ve
           begins = record { no_halt = refl; no_err = refl };
           there = clocked (length o.words) (0 ∷ []) 1 p;
           passes = pass-clocked program has (length o.words) (0 ∷ []) 1 p refl (assumption);
-          stands = at_boundary o _ _ _ (law.first v o input _ _ loads (omega arith)) first_address (ap (byte_in o.words) first_address) refl refl refl refl refl;
+          stands = at_boundary o _ _ _ (law.first v o input _ _ loads (omega arith)) first_address
+              (ap (byte_in o.words) first_address) refl refl refl refl refl;
         };
       }

@@ -29,9 +29,21 @@ use Rattle.ijvm_simulation.proofs.Stack.{law}
 abbrev pub at_main : Micro → World → ℕ → Moment Micro
 at_main m w stalls = record { state = record m { mpc = 2; word = None; byte = None; entry = 2; clocked = true }; world = w; stalls = stalls }
 
-pub starts : (o : Origin) (s : State) (m : Micro) (w : World) (stalls : ℕ) → Stands o s m w → record { state = m; world = w; stalls = stalls } ≡ at_main m w stalls
+pub starts : (o : Origin) (s : State) (m : Micro) (w : World) (stalls : ℕ) → Stands o s m w →
+    record { state = m; world = w; stalls = stalls } ≡ at_main m w stalls
 starts o s m w stalls h =
-    λ i. record { state = record m { mpc = (h.ready.mpc ∙ h.ready.entry) i; word = h.ready.word i; byte = h.ready.byte i; entry = h.ready.entry i; clocked = h.ready.clocked i }; world = w; stalls = stalls }
+    λ i. record {
+      state = record m {
+        mpc = (h.ready.mpc ∙ h.ready.entry) i;
+        word = h.ready.word i;
+        byte = h.ready.byte i;
+        entry =
+            h.ready.entry i;
+        clocked = h.ready.clocked i;
+      };
+      world = w;
+      stalls = stalls;
+    }
 
 -- the program counter, and what is fetched there
 pub record Counts (o : Origin) (s : State) (m : Micro) (w : World) : Type 0 where
@@ -61,7 +73,8 @@ counts o map s m w h inside =
     let e3 : next (next (next m.pc)) ≡ s.at + 3 = next_is (next (next m.pc)) (s.at + 3) (omega arith) (omega arith) in
     let e4 : next (next (next (next m.pc))) ≡ s.at + 4 = next_is (next (next (next m.pc))) (s.at + 4) (omega arith) (omega arith) in
     let e5 : next (next (next (next (next m.pc)))) ≡ s.at + 5 = next_is (next (next (next (next m.pc)))) (s.at + 5) (omega arith) (omega arith) in
-    let e6 : next (next (next (next (next (next m.pc))))) ≡ s.at + 6 = next_is (next (next (next (next (next m.pc))))) (s.at + 6) (omega arith) (omega arith) in
+    let e6 : next (next (next (next (next (next m.pc))))) ≡ s.at + 6 = next_is (next (next (next (next (next m.pc))))) (s.at + 6) (omega arith)
+    (omega arith) in
     let kept = h.holds.memory.kept in
     record {
       pc1 = e1;
@@ -92,12 +105,14 @@ at_boundary o s m w holds pc mbr mpc entry clocked word byte =
 
 -- one whose byte was fetched from the memory as it is left
 pub at_text : (o : Origin) (s : State) (m : Micro) (w : World) → RegistersStand o s m.sp m.lv m.cpp m.tos w →
-    m.pc ≡ s.at → s.at < 0x20000 → m.mbr ≡ byte_in w.words m.pc → m.mpc ≡ 2 → m.entry ≡ 2 → m.clocked ≡ true → m.word ≡ None → m.byte ≡ None → Stands o s m w
+    m.pc ≡ s.at → s.at < 0x20000 → m.mbr ≡ byte_in w.words m.pc → m.mpc ≡ 2 → m.entry ≡ 2 → m.clocked ≡ true → m.word ≡ None → m.byte ≡ None →
+    Stands o s m w
 at_text o s m w holds pc text mbr mpc entry clocked word byte =
     at_boundary o s m w holds pc (mbr ∙ byte_kept w.words o.words holds.memory.kept pc text) mpc entry clocked word byte
 
 -- what a Mic-1 shows at a boundary
-pub shows : (program : List ℕ) (o : Origin) (s : State) (m : Micro) (w : World) → Stands o s m w → ShowsState mic1_meaning program (Stands o) o.given s m w
+pub shows : (program : List ℕ) (o : Origin) (s : State) (m : Micro) (w : World) → Stands o s m w →
+    ShowsState mic1_meaning program (Stands o) o.given s m w
 shows program o s m w h =
     record {
       boundary = let e : m.mpc ≡ m.entry = h.ready.mpc in let on : m.clocked ≡ true = h.ready.clocked in rw on (grind (arith, nat_tests));
@@ -122,11 +137,20 @@ pub record At (program : List ℕ) (o : Origin) (v : VerifiedView) (s : State) (
   pub inside : s.at < 0x10000
   pub counts : Counts o s q.state q.world
 
-pub at : {program : List ℕ} {o : Origin} {v : VerifiedView} {s : State} {q : Moment Micro} (i : Instr) → HasStatements program → Loads v o → IsNext v o s i →
+pub at : {program : List ℕ} {o : Origin} {v : VerifiedView} {s : State} {q : Moment Micro} (i : Instr) → HasStatements program → Loads v o →
+    IsNext v o s i →
     Stands o s q.state q.world → At program o v s q
 at {program} {o} {v} {s} {q} i has loads n h =
     let inside : s.at < 0x10000 = law.inside v o s i loads n in
-    record { has = has; loads = loads; stands = h; holds = h.holds; inside = inside; counts = counts o (law.map v o loads) s q.state q.world h inside }
+    record {
+      has = has;
+      loads = loads;
+      stands = h;
+      holds = h.holds;
+      inside = inside;
+      counts = counts o
+          (law.map v o loads) s q.state q.world h inside;
+    }
 
 module _ {program : List ℕ} {o : Origin} {v : VerifiedView} {s : State} {q : Moment Micro} (a : At program o v s q) where
   -- the byte at PC
@@ -162,7 +186,8 @@ module _ {program : List ℕ} {o : Origin} {v : VerifiedView} {s : State} {q : M
   -- n + 1 microsteps, and then a write that is refused
   pub overruns : (left : State) (n x : ℕ) (gs : List ℕ) → n < 1023 → IsSmooth (length o.words) gs n start →
       is_inside mic1_meaning (after n gs).state ≡ true → nat_lt (after n gs).state.mpc 512 ≡ true → length (after n gs).world.words ≡ length o.words →
-      memory_refusal (length o.words) (shipped (after n gs).state.mpc).part.mem (settled (shipped (after n gs).state.mpc).part (after n gs).state).mar ≡ Some (StackLimit x) →
+      memory_refusal (length o.words) (shipped (after n gs).state.mpc).part.mem
+      (settled (shipped (after n gs).state.mpc).part (after n gs).state).mar ≡ Some (StackLimit x) →
       (after n gs).world.untaken ≡ left.untaken → (after n gs).world.given ≡ o.given ++ left.given →
       Overruns mic1_meaning program (Stands o) o.given q left
   overruns left n x gs short smooth inside low long refused untaken given =

@@ -79,45 +79,47 @@ module _ {program : List ℕ} {o : Origin} {v : VerifiedView} {s : State} {q : M
         fetch_2 = fetch_ok (length o.words) map e2 (omega arith);
         fetch_3 = fetch_ok (length o.words) map e3 (omega arith);
         fetch_4 = fetch_ok (length o.words) map e4 (omega arith);
-        params = pair_is o.words e (e + 1) (byte_kept words o.words kept e0 (omega arith)) (byte_kept words o.words kept e1 (omega arith)) named.params;
-        others = pair_is o.words (e + 2) (e + 3) (byte_kept words o.words kept e2 (omega arith)) (byte_kept words o.words kept e3 (omega arith)) named.others;
+        params = pair_is o.words e (e + 1) (byte_kept words o.words kept e0 (omega arith))
+            (byte_kept words o.words kept e1 (omega arith)) named.params;
+        others = pair_is o.words (e + 2) (e + 3) (byte_kept words o.words kept e2 (omega arith))
+            (byte_kept words o.words kept e3 (omega arith)) named.others;
       }
 
   goes : (to : State) (i : Instr) → IsCall i → IsNext v o s i → Went v.image v.map.stack_end s to i →
       Moves mic1_meaning program (Stands o) o.given q (cost v.image (timing_of Mic1) i s) to
   goes to Ireturn is n went =
-      let op = opcode a n.reads in
       let l = returned a.loads a.holds n went in
       let fetch = fetch_ok (length o.words) map l.back (omega (arith, l.inside)) in
-      arrives a Ireturn 8 (0xAC ∷ []) refl (omega arith) went.with_top.leads (assumption)
+      arrives a Ireturn 8 (0xAC ∷ []) refl (omega arith) went.with_top.leads (assumption (opcode a n.reads))
       (at_boundary o _ _ _ l.leaves l.back (byte_kept words o.words a.holds.memory.kept l.back (omega (arith, l.inside))) refl refl refl refl refl)
   goes to (Invokevirtual k) is n went =
-      let op = opcode a n.reads.0 in
       let f = named a.loads a.holds k went.found (constant_after a n.reads.1) in
       let e = entering went.method f in
       let l = called a.loads a.holds went f e.params e.others (ap next (add_comm own m.sp)) a.counts.pc3 in
-      arrives a (Invokevirtual k) 22 (0xB6 ∷ []) refl (omega arith) went.leads.goes (assumption)
+      arrives a (Invokevirtual k) 22 (0xB6 ∷ []) refl (omega arith) went.leads.goes (assumption (opcode a n.reads.0))
       (at_text o _ _ _ (l.leaves _) e.e4 (omega (arith, f.whole)) refl refl refl refl refl refl)
   goes to i is n went = absurd is
 
   limits : (left : State) (i : Instr) → IsCall i → IsNext v o s i → Overran v.image v.map.stack_end s left i →
       Overruns mic1_meaning program (Stands o) o.given q left
   limits left (Invokevirtual k) is n over =
-      let op = opcode a n.reads.0 in
       let f = named a.loads a.holds k over.found (constant_after a n.reads.1) in
       let e = entering over.method f in
       let link : ℕ = next (own + m.sp) in
       let l = cut_off a.loads a.holds over f e.params e.others (ap next (add_comm own m.sp)) in
       elim l.1 [
         | inl refused ↦
-            overruns a left 17 link (0xB6 ∷ []) (omega arith) (assumption) refl refl (length-set _ _ _ ∙ a.holds.memory.long) refused l.0.untaken l.0.given
+            overruns a left 17 link (0xB6 ∷ []) (omega arith) (assumption (opcode a n.reads.0)) refl refl
+            (length-set _ _ _ ∙ a.holds.memory.long) refused l.0.untaken l.0.given
         | inr late ↦
-            overruns a left 19 (next link) (0xB6 ∷ []) (omega arith) (assumption) refl refl (length-set _ _ _ ∙ (length-set _ _ _ ∙ a.holds.memory.long))
+            overruns a left 19 (next link) (0xB6 ∷ []) (omega arith) (assumption (opcode a n.reads.0)) refl refl
+            (length-set _ _ _ ∙ (length-set _ _ _ ∙ a.holds.memory.long))
             late.refused l.0.untaken (late.given _)
       ]
   limits left i is n over = absurd (assumption)
 
-pub calls : (program : List ℕ) → HasStatements program → (o : Origin) (v : VerifiedView) → Loads v o → Takes mic1_meaning program (Stands o) o.given (timing_of Mic1) v o IsCall
+pub calls : (program : List ℕ) → HasStatements program → (o : Origin) (v : VerifiedView) → Loads v o →
+    Takes mic1_meaning program (Stands o) o.given (timing_of Mic1) v o IsCall
 calls program has o v loads = record {
   goes = λ s to q i is fine n h went. goes (at i has loads n h) to i is n went;
   limits = λ s left q i is fine n h over. limits (at i has loads n h) left i is n over;

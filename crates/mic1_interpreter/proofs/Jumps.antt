@@ -58,57 +58,53 @@ module _ {program : List ℕ} {o : Origin} {v : VerifiedView} {s : State} {q : M
   goes : (to : State) (i : Instr) → IsJump i → Fine v s → IsNext v o s i → Went v.image v.map.stack_end s to i →
       Moves mic1_meaning program (Stands o) o.given q (cost v.image (timing_of Mic1) i s) to
   goes to (Goto z) is fine n went =
-      let op = opcode a n.reads.0 in
       let lands = law.lands v o s z a.loads n.reads.1 (n.finds.inside (target s.at z) (inr (z, refl, refl))) in
       let j = jumps lands in
-      arrives a (Goto z) 6 (0xA7 ∷ []) refl (omega arith) (ap (moved s s.running.operands) lands.is ∙ went) (assumption)
+      arrives a (Goto z) 6 (0xA7 ∷ []) refl (omega arith) (ap (moved s s.running.operands) lands.is ∙ went) (assumption (opcode a n.reads.0))
       (at_boundary o _ _ _ (stays a.loads a.holds _) j.is j.byte refl refl refl refl refl)
   goes to (Ifeq z) is fine n went =
-      let op = opcode a n.reads.0 in
       let lands = law.lands v o s z a.loads n.reads.1 (n.finds.inside (target s.at z) (inr (z, refl, refl))) in
       let j = jumps lands in
       let l = popped a.loads a.holds went.are in
       let b = branches_by a.loads a.holds (λ y. y == 0) lands went in
       elim (cases_Bool (m.tos == 0)) [
         | inl t ↦
-            let on = ap branch t in
-            arrives a (Ifeq z) 10 (0x99 ∷ 257 ∷ []) (ap (λ (e : Bool). if e then 11 else 8) (b.taken t).1) (omega arith) (b.taken t).0 (assumption)
+            arrives a (Ifeq z) 10 (0x99 ∷ 257 ∷ []) (ap (λ (e : Bool). if e then 11 else 8) (b.taken t).1) (omega arith) (b.taken t).0
+            (assumption (opcode a n.reads.0, ap branch t))
             (at_boundary o _ _ _ (l.leaves _) j.is j.byte refl refl refl refl refl)
         | inr t ↦
-            let on = ap branch t in
-            arrives a (Ifeq z) 7 (0x99 ∷ 1 ∷ []) (ap (λ (e : Bool). if e then 11 else 8) (b.falls t).1) (omega arith) (b.falls t).0 (assumption)
+            arrives a (Ifeq z) 7 (0x99 ∷ 1 ∷ []) (ap (λ (e : Bool). if e then 11 else 8) (b.falls t).1) (omega arith) (b.falls t).0
+            (assumption (opcode a n.reads.0, ap branch t))
             (at_boundary o _ _ _ (l.leaves _) a.counts.pc3 a.counts.byte3 refl refl refl refl refl)
       ]
   goes to (Iflt z) is fine n went =
-      let op = opcode a n.reads.0 in
       let lands = law.lands v o s z a.loads n.reads.1 (n.finds.inside (target s.at z) (inr (z, refl, refl))) in
       let j = jumps lands in
       let l = popped a.loads a.holds went.are in
       let b = branches_by a.loads a.holds is_negative lands went in
       elim (cases_Bool (is_negative m.tos)) [
         | inl t ↦
-            let on = ap branch t in
-            arrives a (Iflt z) 10 (0x9B ∷ 257 ∷ []) (ap (λ (e : Bool). if e then 11 else 8) (b.taken t).1) (omega arith) (b.taken t).0 (assumption)
+            arrives a (Iflt z) 10 (0x9B ∷ 257 ∷ []) (ap (λ (e : Bool). if e then 11 else 8) (b.taken t).1) (omega arith) (b.taken t).0
+            (assumption (opcode a n.reads.0, ap branch t))
             (at_boundary o _ _ _ (l.leaves _) j.is j.byte refl refl refl refl refl)
         | inr t ↦
-            let on = ap branch t in
-            arrives a (Iflt z) 7 (0x9B ∷ 1 ∷ []) (ap (λ (e : Bool). if e then 11 else 8) (b.falls t).1) (omega arith) (b.falls t).0 (assumption)
+            arrives a (Iflt z) 7 (0x9B ∷ 1 ∷ []) (ap (λ (e : Bool). if e then 11 else 8) (b.falls t).1) (omega arith) (b.falls t).0
+            (assumption (opcode a n.reads.0, ap branch t))
             (at_boundary o _ _ _ (l.leaves _) a.counts.pc3 a.counts.byte3 refl refl refl refl refl)
       ]
   goes to (IfIcmpeq z) is fine n went =
-      let op = opcode a n.reads.0 in
       let lands = law.lands v o s z a.loads n.reads.1 (n.finds.inside (target s.at z) (inr (z, refl, refl))) in
       let j = jumps lands in
       let l = popped_two a.loads a.holds went.are in
       let b = branches_equal a.loads a.holds fine lands went in
       elim (cases_Bool (minus m.tos (read_value (length o.words) q.world.words q.world.untaken (before m.sp)) == 0)) [
         | inl t ↦
-            let on = ap branch t in
-            arrives a (IfIcmpeq z) 12 (0x9F ∷ 257 ∷ []) (ap (λ (e : Bool). if e then 13 else 10) (b.taken t).1) (omega arith) (b.taken t).0 (assumption)
+            arrives a (IfIcmpeq z) 12 (0x9F ∷ 257 ∷ []) (ap (λ (e : Bool). if e then 13 else 10) (b.taken t).1) (omega arith) (b.taken t).0
+            (assumption (opcode a n.reads.0, ap branch t))
             (at_boundary o _ _ _ (l.leaves _) j.is j.byte refl refl refl refl refl)
         | inr t ↦
-            let on = ap branch t in
-            arrives a (IfIcmpeq z) 9 (0x9F ∷ 1 ∷ []) (ap (λ (e : Bool). if e then 13 else 10) (b.falls t).1) (omega arith) (b.falls t).0 (assumption)
+            arrives a (IfIcmpeq z) 9 (0x9F ∷ 1 ∷ []) (ap (λ (e : Bool). if e then 13 else 10) (b.falls t).1) (omega arith) (b.falls t).0
+            (assumption (opcode a n.reads.0, ap branch t))
             (at_boundary o _ _ _ (l.leaves _) a.counts.pc3 a.counts.byte3 refl refl refl refl refl)
       ]
   goes to i is fine n went = absurd is
@@ -118,7 +114,8 @@ module _ {program : List ℕ} {o : Origin} {v : VerifiedView} {s : State} {q : M
   limits left (Goto z) is n over = absurd over
   limits left i is n over = absurd (assumption)
 
-pub jumping : (program : List ℕ) → HasStatements program → (o : Origin) (v : VerifiedView) → Loads v o → Takes mic1_meaning program (Stands o) o.given (timing_of Mic1) v o IsJump
+pub jumping : (program : List ℕ) → HasStatements program → (o : Origin) (v : VerifiedView) → Loads v o →
+    Takes mic1_meaning program (Stands o) o.given (timing_of Mic1) v o IsJump
 jumping program has o v loads = record {
   goes = λ s to q i is fine n h went. goes (at i has loads n h) to i is fine n went;
   limits = λ s left q i is fine n h over. limits (at i has loads n h) left i is n over;

@@ -52,65 +52,55 @@ module _ {program : List ℕ} {o : Origin} {v : VerifiedView} {s : State} {q : M
   goes : (to : State) (i : Instr) → IsOfLocals i → IsNext v o s i → Went v.image v.map.stack_end s to i →
       Moves mic1_meaning program (Stands o) o.given q (cost v.image (timing_of Mic1) i s) to
   goes to (LdcW k) is n went =
-      let op = opcode a n.reads.0 in
       let l = constant_pushed a.loads a.holds went (constant_after n.reads.1) in
-      arrives a (LdcW k) 7 (0x13 ∷ []) refl (omega arith) went.leads.goes (assumption)
+      arrives a (LdcW k) 7 (0x13 ∷ []) refl (omega arith) went.leads.goes (assumption (opcode a n.reads.0))
       (at_text o _ _ _ l.push.leaves a.counts.pc3 (omega arith) refl refl refl refl refl refl)
   goes to (Iload k) is n went =
-      let op = opcode a n.reads.0 in
       let l = local_pushed a.loads a.holds went (byte_after n.reads.1) in
-      arrives a (Iload k) 5 (0x15 ∷ []) refl (omega arith) went.leads.goes (assumption)
+      arrives a (Iload k) 5 (0x15 ∷ []) refl (omega arith) went.leads.goes (assumption (opcode a n.reads.0))
       (at_text o _ _ _ l.push.leaves a.counts.pc2 (omega arith) refl refl refl refl refl refl)
   goes to (Istore k) is n went =
-      let op = opcode a n.reads.0 in
       let l = stored a.loads a.holds went (byte_after n.reads.1) in
-      arrives a (Istore k) 6 (0x36 ∷ []) refl (omega arith) went.leads.goes (assumption)
+      arrives a (Istore k) 6 (0x36 ∷ []) refl (omega arith) went.leads.goes (assumption (opcode a n.reads.0))
       (at_text o _ _ _ l.leaves a.counts.pc2 (omega arith) refl refl refl refl refl refl)
   goes to (Iinc k b) is n went =
-      let op = opcode a n.reads.0 in
       let l = changed a.loads a.holds (word_of b) (n.finds.named k (inl refl)).1 went (byte_after n.reads.1)
       (ap signed_byte a.counts.byte2 ∙ sym n.reads.2) in
-      arrives a (Iinc k b) 6 (0x84 ∷ []) refl (omega arith) went.leads (assumption)
+      arrives a (Iinc k b) 6 (0x84 ∷ []) refl (omega arith) went.leads (assumption (opcode a n.reads.0))
       (at_boundary o _ _ _ l.leaves a.counts.pc3 a.counts.byte3 refl refl refl refl refl)
   goes to (WideIload k) is n went =
-      let op = opcode a n.reads.0 in
-      let op2 = second n.reads.1 in
       let l = local_pushed a.loads a.holds went (wide_after n.reads.2) in
-      arrives a (WideIload k) 8 (0xC4 ∷ 0x115 ∷ []) refl (omega arith) went.leads.goes (assumption)
+      arrives a (WideIload k) 8 (0xC4 ∷ 0x115 ∷ []) refl (omega arith) went.leads.goes (assumption (opcode a n.reads.0, second n.reads.1))
       (at_text o _ _ _ l.push.leaves a.counts.pc4 (omega arith) refl refl refl refl refl refl)
   goes to (WideIstore k) is n went =
-      let op = opcode a n.reads.0 in
-      let op2 = second n.reads.1 in
       let l = stored a.loads a.holds went (wide_after n.reads.2) in
-      arrives a (WideIstore k) 9 (0xC4 ∷ 0x136 ∷ []) refl (omega arith) went.leads.goes (assumption)
+      arrives a (WideIstore k) 9 (0xC4 ∷ 0x136 ∷ []) refl (omega arith) went.leads.goes (assumption (opcode a n.reads.0, second n.reads.1))
       (at_text o _ _ _ l.leaves a.counts.pc4 (omega arith) refl refl refl refl refl refl)
   goes to (WideIinc k z) is n went =
-      let op = opcode a n.reads.0 in
-      let op2 = second n.reads.1 in
       let l = changed_turned a.loads a.holds (word_of z) (n.finds.named k (inl refl)).1 went (wide_after n.reads.2)
       (signed_pair_is o.words (s.at + 4) (s.at + 5) a.counts.byte4 a.counts.byte5 ∙ sym n.reads.3) in
-      arrives a (WideIinc k z) 11 (0xC4 ∷ 0x184 ∷ []) refl (omega arith) went.leads (assumption)
+      arrives a (WideIinc k z) 11 (0xC4 ∷ 0x184 ∷ []) refl (omega arith) went.leads (assumption (opcode a n.reads.0, second n.reads.1))
       (at_boundary o _ _ _ l.leaves a.counts.pc6 a.counts.byte6 refl refl refl refl refl)
   goes to i is n went = absurd is
 
   limits : (left : State) (i : Instr) → IsOfLocals i → IsNext v o s i → Overran v.image v.map.stack_end s left i →
       Overruns mic1_meaning program (Stands o) o.given q left
   limits left (LdcW k) is n over =
-      let op = opcode a n.reads.0 in
       let l = constant_full a.loads a.holds over (constant_after n.reads.1) in
-      overruns a left 5 (next m.sp) (0x13 ∷ []) (omega arith) (assumption) refl refl a.holds.memory.long l.full.refused l.full.untaken l.full.given
+      overruns a left 5 (next m.sp) (0x13 ∷ []) (omega arith)
+      (assumption (opcode a n.reads.0)) refl refl a.holds.memory.long l.full.refused l.full.untaken l.full.given
   limits left (Iload k) is n over =
-      let op = opcode a n.reads.0 in
       let l = local_full a.loads a.holds over (byte_after n.reads.1) in
-      overruns a left 3 (next m.sp) (0x15 ∷ []) (omega arith) (assumption) refl refl a.holds.memory.long l.full.refused l.full.untaken l.full.given
+      overruns a left 3 (next m.sp) (0x15 ∷ []) (omega arith)
+      (assumption (opcode a n.reads.0)) refl refl a.holds.memory.long l.full.refused l.full.untaken l.full.given
   limits left (WideIload k) is n over =
-      let op = opcode a n.reads.0 in
-      let op2 = second n.reads.1 in
       let l = local_full a.loads a.holds over (wide_after n.reads.2) in
-      overruns a left 6 (next m.sp) (0xC4 ∷ 0x115 ∷ []) (omega arith) (assumption) refl refl a.holds.memory.long l.full.refused l.full.untaken l.full.given
+      overruns a left 6 (next m.sp) (0xC4 ∷ 0x115 ∷ []) (omega arith)
+      (assumption (opcode a n.reads.0, second n.reads.1)) refl refl a.holds.memory.long l.full.refused l.full.untaken l.full.given
   limits left i is n over = absurd (assumption)
 
-pub locals : (program : List ℕ) → HasStatements program → (o : Origin) (v : VerifiedView) → Loads v o → Takes mic1_meaning program (Stands o) o.given (timing_of Mic1) v o IsOfLocals
+pub locals : (program : List ℕ) → HasStatements program → (o : Origin) (v : VerifiedView) → Loads v o →
+    Takes mic1_meaning program (Stands o) o.given (timing_of Mic1) v o IsOfLocals
 locals program has o v loads = record {
   goes = λ s to q i is fine n h went. goes (at i has loads n h) to i is n went;
   limits = λ s left q i is fine n h over. limits (at i has loads n h) left i is n over;

@@ -27,54 +27,44 @@ module _ {program : List ℕ} {o : Origin} {v : VerifiedView} {s : State} {q : M
   goes : (to : State) (i : Instr) → IsOfOperands i → IsNext v o s i → Went v.image v.map.stack_end s to i →
       Moves mic1_meaning program (Stands o) o.given q (cost v.image (timing_of Mic1) i s) to
   goes to Nop is n went =
-      let op = opcode a n.reads in
-      arrives a Nop 1 (0 ∷ []) refl (omega arith) went (assumption)
+      arrives a Nop 1 (0 ∷ []) refl (omega arith) went (assumption (opcode a n.reads))
       (at_boundary o _ _ _ (stays a.loads a.holds _) a.counts.pc1 a.counts.byte1 refl refl refl refl refl)
   goes to (Bipush b) is n went =
-      let op = opcode a n.reads.0 in
       let l = bipush a.loads a.holds went (ap signed_byte a.counts.byte1 ∙ sym n.reads.1) in
-      arrives a (Bipush b) 3 (0x10 ∷ []) refl (omega arith) went.goes (assumption)
+      arrives a (Bipush b) 3 (0x10 ∷ []) refl (omega arith) went.goes (assumption (opcode a n.reads.0))
       (at_boundary o _ _ _ l.leaves a.counts.pc2 a.counts.byte2 refl refl refl refl refl)
   goes to Pop is n went =
-      let op = opcode a n.reads in
       let l = popped a.loads a.holds went.are in
-      arrives a Pop 3 (0x57 ∷ []) refl (omega arith) went.leads (assumption)
+      arrives a Pop 3 (0x57 ∷ []) refl (omega arith) went.leads (assumption (opcode a n.reads))
       (at_boundary o _ _ _ (l.leaves _) a.counts.pc1 a.counts.byte1 refl refl refl refl refl)
   goes to Dup is n went =
-      let op = opcode a n.reads in
       let l = dup a.loads a.holds went in
-      arrives a Dup 2 (0x59 ∷ []) refl (omega arith) went.leads.goes (assumption)
+      arrives a Dup 2 (0x59 ∷ []) refl (omega arith) went.leads.goes (assumption (opcode a n.reads))
       (at_boundary o _ _ _ l.leaves a.counts.pc1 a.counts.byte1 refl refl refl refl refl)
   goes to Swap is n went =
-      let op = opcode a n.reads in
       let l = swapped a.loads a.holds went in
-      arrives a Swap 6 (0x5F ∷ []) refl (omega arith) went.leads (assumption)
+      arrives a Swap 6 (0x5F ∷ []) refl (omega arith) went.leads (assumption (opcode a n.reads))
       (at_boundary o _ _ _ l.leaves a.counts.pc1 a.counts.byte1 refl refl refl refl refl)
   goes to Iadd is n went =
-      let op = opcode a n.reads in
       let l = operated_turned a.loads a.holds plus plus_comm went in
-      arrives a Iadd 3 (0x60 ∷ []) refl (omega arith) went.leads (assumption)
+      arrives a Iadd 3 (0x60 ∷ []) refl (omega arith) went.leads (assumption (opcode a n.reads))
       (at_boundary o _ _ _ l.leaves a.counts.pc1 a.counts.byte1 refl refl refl refl refl)
   goes to Isub is n went =
-      let op = opcode a n.reads in
       let l = operated a.loads a.holds minus went in
-      arrives a Isub 3 (0x64 ∷ []) refl (omega arith) went.leads (assumption)
+      arrives a Isub 3 (0x64 ∷ []) refl (omega arith) went.leads (assumption (opcode a n.reads))
       (at_boundary o _ _ _ l.leaves a.counts.pc1 a.counts.byte1 refl refl refl refl refl)
   goes to Iand is n went =
-      let op = opcode a n.reads in
       let l = operated_turned a.loads a.holds bit_and and_comm went in
-      arrives a Iand 3 (0x7E ∷ []) refl (omega arith) went.leads (assumption)
+      arrives a Iand 3 (0x7E ∷ []) refl (omega arith) went.leads (assumption (opcode a n.reads))
       (at_boundary o _ _ _ l.leaves a.counts.pc1 a.counts.byte1 refl refl refl refl refl)
   goes to Ior is n went =
       let l = operated_turned a.loads a.holds bit_or or_comm went in
       elim n.reads [
         | inl code ↦
-            let op = opcode a code in
-            arrives a Ior 3 (0xB0 ∷ []) refl (omega arith) went.leads (assumption)
+            arrives a Ior 3 (0xB0 ∷ []) refl (omega arith) went.leads (assumption (opcode a code))
             (at_boundary o _ _ _ l.leaves a.counts.pc1 a.counts.byte1 refl refl refl refl refl)
         | inr code ↦
-            let op = opcode a code in
-            arrives a Ior 3 (0x80 ∷ []) refl (omega arith) went.leads (assumption)
+            arrives a Ior 3 (0x80 ∷ []) refl (omega arith) went.leads (assumption (opcode a code))
             (at_boundary o _ _ _ l.leaves a.counts.pc1 a.counts.byte1 refl refl refl refl refl)
       ]
   goes to i is n went = absurd is
@@ -82,16 +72,17 @@ module _ {program : List ℕ} {o : Origin} {v : VerifiedView} {s : State} {q : M
   limits : (left : State) (i : Instr) → IsOfOperands i → IsNext v o s i → Overran v.image v.map.stack_end s left i →
       Overruns mic1_meaning program (Stands o) o.given q left
   limits left (Bipush b) is n over =
-      let op = opcode a n.reads.0 in
       let l = push_full a.loads a.holds over in
-      overruns a left 2 (next q.state.sp) (0x10 ∷ []) (omega arith) (assumption) refl refl a.holds.memory.long l.refused l.untaken l.given
+      overruns a left 2 (next q.state.sp) (0x10 ∷ []) (omega arith)
+      (assumption (opcode a n.reads.0)) refl refl a.holds.memory.long l.refused l.untaken l.given
   limits left Dup is n over =
-      let op = opcode a n.reads in
       let l = push_full a.loads a.holds over.leads in
-      overruns a left 1 (next q.state.sp) (0x59 ∷ []) (omega arith) (assumption) refl refl a.holds.memory.long l.refused l.untaken l.given
+      overruns a left 1 (next q.state.sp) (0x59 ∷ []) (omega arith)
+      (assumption (opcode a n.reads)) refl refl a.holds.memory.long l.refused l.untaken l.given
   limits left i is n over = absurd (assumption)
 
-pub operands : (program : List ℕ) → HasStatements program → (o : Origin) (v : VerifiedView) → Loads v o → Takes mic1_meaning program (Stands o) o.given (timing_of Mic1) v o IsOfOperands
+pub operands : (program : List ℕ) → HasStatements program → (o : Origin) (v : VerifiedView) → Loads v o →
+    Takes mic1_meaning program (Stands o) o.given (timing_of Mic1) v o IsOfOperands
 operands program has o v loads = record {
   goes = λ s to q i is fine n h went. goes (at i has loads n h) to i is n went;
   limits = λ s left q i is fine n h over. limits (at i has loads n h) left i is n over;

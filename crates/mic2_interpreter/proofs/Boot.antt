@@ -41,7 +41,8 @@ module _ (program : List ℕ) (has : Known program) (o : Origin) (v : VerifiedVi
       let memory : IsMemory o.words o.words = record { kept = λ a l. refl; long = refl } in
       let smooth : IsSmooth o.words (Lacks Waits ∷ Goes ∷ []) (byte_in o.words 0 ∷ []) reset = assumption in
       let t : Short = clocked o.words (Lacks Waits ∷ Goes ∷ []) (byte_in o.words 0 ∷ []) reset in
-      let a : Arrives o.words (pass mic2_meaning program 1 (moment_of o.words reset 0)) t = pass-clocked program has o.words map.low (Lacks Waits) (Goes ∷ []) (byte_in o.words 0 ∷ []) reset 0 memory refl smooth in
+      let a : Arrives o.words (pass mic2_meaning program 1 (moment_of o.words reset 0)) t = pass-clocked program has o.words map.low
+      (Lacks Waits) (Goes ∷ []) (byte_in o.words 0 ∷ []) reset 0 memory refl smooth in
       record {
         moves = record {
           n = 1;

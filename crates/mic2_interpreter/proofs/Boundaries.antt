@@ -47,7 +47,12 @@ module _ (queue : QueueLaw) (o : Origin) (s : State) (m : Micro) (w : World) (st
 
   pub starts : (code : ℕ) → byte_in o.words s.at ≡ code → record { state = m; world = w; stalls = stalls } ≡ moment_of o.words (at_opcode code m w stalls) many
   starts code e =
-      λ i. record { state = record m { mpc = (h.ready.mpc ∙ e) i; word = h.ready.word i; unit = unit_is i; begins = h.ready.begins i }; world = w; stalls = stalls }
+      λ i. record {
+        state = record m { mpc = (h.ready.mpc ∙ e) i; word = h.ready.word i; unit = unit_is i; begins = h.ready.begins i };
+        world =
+            w;
+        stalls = stalls;
+      }
 
   pub starts_held : Bounds 2 m.pc many
   starts_held = subst (λ (p : ℕ). Bounds 2 p many) (sym h.ready.pc) (queue.bounds o.words (s.at + 1) m.unit h.ready.unit h.ready.two)
@@ -64,7 +69,8 @@ pub record IsThere (o : Origin) (s : State) (t : Short) : Type 0 where
   pub queue : t.queue ≡ AtLeast least
   pub two : nat_le 2 least ≡ true
 
-pub stands_at : (queue : QueueLaw) (o : Origin) (s : State) (t : Short) (have : ℕ) → IsThere o s t → IsHeld t.queue t.state.pc have → Stands o s (standing o.words t.state have) t.world
+pub stands_at : (queue : QueueLaw) (o : Origin) (s : State) (t : Short) (have : ℕ) → IsThere o s t → IsHeld t.queue t.state.pc have →
+    Stands o s (standing o.words t.state have) t.world
 stands_at queue o s t have there held =
     let b : Bounds there.least t.state.pc have = subst (λ (q : Held). IsHeld q t.state.pc have) there.queue held in
     let test : nat_le 2 there.least ≡ true = there.two in
@@ -86,12 +92,14 @@ stands_at queue o s t have there held =
 
 -- a symbolic state at a boundary, by what the machine has besides what it holds
 pub at_boundary : (o : Origin) (s : State) (t : Short) (least : ℕ) → RegistersStand o s t.state.sp t.state.lv t.state.cpp t.state.tos t.world →
-    t.state.pc ≡ s.at + 1 → s.at < 0x1FE00 → t.state.mpc ≡ byte_in o.words s.at → t.state.word ≡ None → t.state.begins ≡ true → t.queue ≡ AtLeast least → nat_le 2 least ≡ true → IsThere o s t
+    t.state.pc ≡ s.at + 1 → s.at < 0x1FE00 → t.state.mpc ≡ byte_in o.words s.at → t.state.word ≡ None → t.state.begins ≡ true →
+    t.queue ≡ AtLeast least → nat_le 2 least ≡ true → IsThere o s t
 at_boundary o s t least holds pc near mpc word begins queue two =
     record { holds = holds; pc = pc; near = near; mpc = mpc; word = word; begins = begins; least = least; queue = queue; two = two }
 
 -- what a Mic-2 shows at a boundary
-pub shows : (program : List ℕ) (o : Origin) (s : State) (m : Micro) (w : World) → Stands o s m w → ShowsState mic2_meaning program (Stands o) o.given s m w
+pub shows : (program : List ℕ) (o : Origin) (s : State) (m : Micro) (w : World) → Stands o s m w →
+    ShowsState mic2_meaning program (Stands o) o.given s m w
 unfolding wrap
 shows program o s m w h =
     record {
@@ -104,7 +112,8 @@ shows program o s m w h =
     }
 
 -- no instruction but HALT and ERR begins at an end
-pub begins : (o : Origin) (s : State) (m : Micro) (w : World) (code : ℕ) → Stands o s m w → byte_in o.words s.at ≡ code → (code == 255) ≡ false → (code == 254) ≡ false → HasWord mic2_meaning m
+pub begins : (o : Origin) (s : State) (m : Micro) (w : World) (code : ℕ) → Stands o s m w → byte_in o.words s.at ≡ code → (code == 255) ≡ false →
+    (code == 254) ≡ false → HasWord mic2_meaning m
 begins o s m w code h is no_halt no_err =
     let e : m.mpc ≡ code = h.ready.mpc ∙ is in
     record { no_halt = ap (λ (k : ℕ). k == 255) e ∙ no_halt; no_err = ap (λ (k : ℕ). k == 254) e ∙ no_err }
@@ -150,7 +159,8 @@ module _ {program : List ℕ} {o : Origin} {v : VerifiedView} {s : State} {q : M
       IsSmooth o.words (b ∷ bs) gs (start code) → IsThere o t (after code (b ∷ bs) gs) → (after code (b ∷ bs) gs).stalls ≡ q.stalls + waits →
       MovesWithStalls program o q (cost v.image (timing_of Mic2) i s) waits to
   arrives {t} i code waits b bs gs is no_halt no_err spent short same smooth there stalls =
-      let x : Arrives o.words (pass mic2_meaning program (length bs) (moment_of o.words (start code) (length q.state.unit.bytes))) (after code (b ∷ bs) gs) =
+      let x : Arrives o.words (pass mic2_meaning program (length bs) (moment_of o.words (start code) (length q.state.unit.bytes)))
+      (after code (b ∷ bs) gs) =
       arrived code b bs gs smooth in
       let to : Moment Micro = moment_of o.words (after code (b ∷ bs) gs) x.have in
       record {
@@ -170,11 +180,13 @@ module _ {program : List ℕ} {o : Origin} {v : VerifiedView} {s : State} {q : M
   pub overruns : (left : State) (code waits x : ℕ) (b : Turn) (bs : List Turn) (gs : List ℕ) → byte_in o.words s.at ≡ code →
       (code == 255) ≡ false → (code == 254) ≡ false → length bs < 1023 → IsSmooth o.words (b ∷ bs) gs (start code) →
       is_inside mic2_meaning (after code (b ∷ bs) gs).state ≡ true → nat_lt (after code (b ∷ bs) gs).state.mpc 512 ≡ true →
-      IsFull o (after code (b ∷ bs) gs) x → (after code (b ∷ bs) gs).world.untaken ≡ left.untaken → (after code (b ∷ bs) gs).world.given ≡ o.given ++ left.given →
+      IsFull o (after code (b ∷ bs) gs) x → (after code (b ∷ bs) gs).world.untaken ≡ left.untaken →
+      (after code (b ∷ bs) gs).world.given ≡ o.given ++ left.given →
       (after code (b ∷ bs) gs).stalls ≡ q.stalls + waits → OverrunsWithStalls program o q waits left
   overruns left code waits x b bs gs is no_halt no_err short smooth inside low full untaken given stalls =
       let t : Short = after code (b ∷ bs) gs in
-      let y : Arrives o.words (pass mic2_meaning program (length bs) (moment_of o.words (start code) (length q.state.unit.bytes))) t = arrived code b bs gs smooth in
+      let y : Arrives o.words (pass mic2_meaning program (length bs) (moment_of o.words (start code) (length q.state.unit.bytes))) t =
+      arrived code b bs gs smooth in
       record {
         overruns = record {
           n = length bs;

@@ -65,14 +65,14 @@ module _ {program : List ℕ} {o : Origin} {v : VerifiedView} {s : State} {q : M
       let late = ap (λ (j : ℕ). j % 4 == 3) (f.entry ∙ sym f.pool) in
       elim (cases_Bool (slice_index v.image.pool k % 4 == 3)) [
         | inl t ↦
-            let lateness = late ∙ t in
-            arrives a (Invokevirtual k) 0xB6 (stalls_of v.image (Invokevirtual k)) Goes (plan true (steps 8)) (byte_in o.words (went.method.entry + 4) ∷ [])
-            n.reads.0 refl refl (ap (λ (b : Bool). if b then 13 else 12) t) (omega arith) went.leads.goes (assumption)
+            arrives a (Invokevirtual k) 0xB6 (stalls_of v.image (Invokevirtual k)) Goes (plan true (steps 8))
+            (byte_in o.words (went.method.entry + 4) ∷ [])
+            n.reads.0 refl refl (ap (λ (b : Bool). if b then 13 else 12) t) (omega arith) went.leads.goes (assumption (late ∙ t))
             (at_boundary o _ _ _ (l.leaves _) (omega (arith, e.e5.is)) (omega (arith, f.whole)) refl refl refl refl refl) (stalls_twice q.stalls t)
         | inr t ↦
-            let lateness = late ∙ t in
-            arrives a (Invokevirtual k) 0xB6 (stalls_of v.image (Invokevirtual k)) Goes (plan false (steps 8)) (byte_in o.words (went.method.entry + 4) ∷ [])
-            n.reads.0 refl refl (ap (λ (b : Bool). if b then 13 else 12) t) (omega arith) went.leads.goes (assumption)
+            arrives a (Invokevirtual k) 0xB6 (stalls_of v.image (Invokevirtual k)) Goes (plan false (steps 8))
+            (byte_in o.words (went.method.entry + 4) ∷ [])
+            n.reads.0 refl refl (ap (λ (b : Bool). if b then 13 else 12) t) (omega arith) went.leads.goes (assumption (late ∙ t))
             (at_boundary o _ _ _ (l.leaves _) (omega (arith, e.e5.is)) (omega (arith, f.whole)) refl refl refl refl refl) (stalls_once q.stalls t)
       ]
   goes to i is n went = absurd is
@@ -87,23 +87,25 @@ module _ {program : List ℕ} {o : Origin} {v : VerifiedView} {s : State} {q : M
       let late = ap (λ (j : ℕ). j % 4 == 3) (f.entry ∙ sym f.pool) in
       elim (cases_Bool (slice_index v.image.pool k % 4 == 3)) [
         | inl t ↦
-            let lateness = late ∙ t in
             elim l.1 [
               | inl refused ↦
-                  overruns a left 0xB6 (stalls_of v.image (Invokevirtual k)) link Goes (plan true (steps 4)) [] n.reads.0 refl refl (omega arith) (assumption) refl refl (refl, refused)
+                  overruns a left 0xB6 (stalls_of v.image (Invokevirtual k)) link Goes (plan true (steps 4)) [] n.reads.0 refl refl (omega arith)
+                  (assumption (late ∙ t)) refl refl (refl, refused)
                   l.0.untaken l.0.given (stalls_twice q.stalls t)
               | inr cut ↦
-                  overruns a left 0xB6 (stalls_of v.image (Invokevirtual k)) (next link) Goes (plan true (steps 6)) [] n.reads.0 refl refl (omega arith) (assumption) refl refl (refl, cut.refused)
+                  overruns a left 0xB6 (stalls_of v.image (Invokevirtual k)) (next link) Goes (plan true (steps 6)) [] n.reads.0 refl refl
+                  (omega arith) (assumption (late ∙ t)) refl refl (refl, cut.refused)
                   l.0.untaken (cut.given _) (stalls_twice q.stalls t)
             ]
         | inr t ↦
-            let lateness = late ∙ t in
             elim l.1 [
               | inl refused ↦
-                  overruns a left 0xB6 (stalls_of v.image (Invokevirtual k)) link Goes (plan false (steps 4)) [] n.reads.0 refl refl (omega arith) (assumption) refl refl (refl, refused)
+                  overruns a left 0xB6 (stalls_of v.image (Invokevirtual k)) link Goes (plan false (steps 4)) [] n.reads.0 refl refl
+                  (omega arith) (assumption (late ∙ t)) refl refl (refl, refused)
                   l.0.untaken l.0.given (stalls_once q.stalls t)
               | inr cut ↦
-                  overruns a left 0xB6 (stalls_of v.image (Invokevirtual k)) (next link) Goes (plan false (steps 6)) [] n.reads.0 refl refl (omega arith) (assumption) refl refl (refl, cut.refused)
+                  overruns a left 0xB6 (stalls_of v.image (Invokevirtual k)) (next link) Goes (plan false (steps 6)) [] n.reads.0 refl refl
+                  (omega arith) (assumption (late ∙ t)) refl refl (refl, cut.refused)
                   l.0.untaken (cut.given _) (stalls_once q.stalls t)
             ]
       ]

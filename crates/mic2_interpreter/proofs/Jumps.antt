@@ -50,15 +50,16 @@ module _ {program : List ℕ} {o : Origin} {v : VerifiedView} {s : State} {q : M
       let b = branches_by a.loads a.holds (λ y. y == 0) lands went in
       elim (cases_Bool (m.tos == 0)) [
         | inl t ↦
-            let on = ap branch t in
             arrives a (Ifeq z) 0x99 0 Goes (steps 7)
-            (257 ∷ byte_in o.words (jump o.words s.at) ∷ []) n.reads.0 refl refl (ap (λ (e : Bool). if e then 8 else 6) (b.taken t).1) (omega arith) (b.taken t).0 (assumption)
+            (257 ∷ byte_in o.words (jump o.words s.at) ∷ []) n.reads.0 refl refl (ap (λ (e : Bool). if e then 8 else 6) (b.taken t).1)
+            (omega arith) (b.taken t).0 (assumption (ap branch t))
             (at_boundary o _ _ _ (l.leaves _) j.behind.is (omega (arith, lands.inside)) refl refl refl refl refl) (sym (add-zero q.stalls))
         | inr t ↦
-            let on = ap branch t in
             arrives a (Ifeq z) 0x99 0 Goes (steps 5)
-            (1 ∷ byte_in o.words (s.at + 3) ∷ []) n.reads.0 refl refl (ap (λ (e : Bool). if e then 8 else 6) (b.falls t).1) (omega arith) (b.falls t).0 (assumption)
-            (at_boundary o _ _ _ (l.leaves _) (omega (arith, a.counts.p21.is)) (omega (arith, a.inside)) refl refl refl refl refl) (sym (add-zero q.stalls))
+            (1 ∷ byte_in o.words (s.at + 3) ∷ []) n.reads.0 refl refl (ap (λ (e : Bool). if e then 8 else 6) (b.falls t).1) (omega arith)
+            (b.falls t).0 (assumption (ap branch t))
+            (at_boundary o _ _ _ (l.leaves _) (omega (arith, a.counts.p21.is)) (omega (arith, a.inside)) refl refl refl refl refl)
+            (sym (add-zero q.stalls))
       ]
   goes to (Iflt z) is fine n went =
       let lands = law.lands v o s z a.loads n.reads.1 (n.finds.inside (target s.at z) (inr (z, refl, refl))) in
@@ -67,15 +68,16 @@ module _ {program : List ℕ} {o : Origin} {v : VerifiedView} {s : State} {q : M
       let b = branches_by a.loads a.holds is_negative lands went in
       elim (cases_Bool (is_negative m.tos)) [
         | inl t ↦
-            let on = ap branch t in
             arrives a (Iflt z) 0x9B 0 Goes (steps 7)
-            (257 ∷ byte_in o.words (jump o.words s.at) ∷ []) n.reads.0 refl refl (ap (λ (e : Bool). if e then 8 else 6) (b.taken t).1) (omega arith) (b.taken t).0 (assumption)
+            (257 ∷ byte_in o.words (jump o.words s.at) ∷ []) n.reads.0 refl refl (ap (λ (e : Bool). if e then 8 else 6) (b.taken t).1)
+            (omega arith) (b.taken t).0 (assumption (ap branch t))
             (at_boundary o _ _ _ (l.leaves _) j.behind.is (omega (arith, lands.inside)) refl refl refl refl refl) (sym (add-zero q.stalls))
         | inr t ↦
-            let on = ap branch t in
             arrives a (Iflt z) 0x9B 0 Goes (steps 5)
-            (1 ∷ byte_in o.words (s.at + 3) ∷ []) n.reads.0 refl refl (ap (λ (e : Bool). if e then 8 else 6) (b.falls t).1) (omega arith) (b.falls t).0 (assumption)
-            (at_boundary o _ _ _ (l.leaves _) (omega (arith, a.counts.p21.is)) (omega (arith, a.inside)) refl refl refl refl refl) (sym (add-zero q.stalls))
+            (1 ∷ byte_in o.words (s.at + 3) ∷ []) n.reads.0 refl refl (ap (λ (e : Bool). if e then 8 else 6) (b.falls t).1) (omega arith)
+            (b.falls t).0 (assumption (ap branch t))
+            (at_boundary o _ _ _ (l.leaves _) (omega (arith, a.counts.p21.is)) (omega (arith, a.inside)) refl refl refl refl refl)
+            (sym (add-zero q.stalls))
       ]
   goes to (IfIcmpeq z) is fine n went =
       let lands = law.lands v o s z a.loads n.reads.1 (n.finds.inside (target s.at z) (inr (z, refl, refl))) in
@@ -84,15 +86,16 @@ module _ {program : List ℕ} {o : Origin} {v : VerifiedView} {s : State} {q : M
       let b = branches_equal a.loads a.holds fine lands went in
       elim (cases_Bool (minus m.tos (read_value (length o.words) q.world.words q.world.untaken (before m.sp)) == 0)) [
         | inl t ↦
-            let on = ap branch t in
             arrives a (IfIcmpeq z) 0x9F 0 Goes (steps 9)
-            (257 ∷ byte_in o.words (jump o.words s.at) ∷ []) n.reads.0 refl refl (ap (λ (e : Bool). if e then 10 else 8) (b.taken t).1) (omega arith) (b.taken t).0 (assumption)
+            (257 ∷ byte_in o.words (jump o.words s.at) ∷ []) n.reads.0 refl refl (ap (λ (e : Bool). if e then 10 else 8) (b.taken t).1)
+            (omega arith) (b.taken t).0 (assumption (ap branch t))
             (at_boundary o _ _ _ (l.leaves _) j.behind.is (omega (arith, lands.inside)) refl refl refl refl refl) (sym (add-zero q.stalls))
         | inr t ↦
-            let on = ap branch t in
             arrives a (IfIcmpeq z) 0x9F 0 Goes (steps 7)
-            (1 ∷ byte_in o.words (s.at + 3) ∷ []) n.reads.0 refl refl (ap (λ (e : Bool). if e then 10 else 8) (b.falls t).1) (omega arith) (b.falls t).0 (assumption)
-            (at_boundary o _ _ _ (l.leaves _) (omega (arith, a.counts.p21.is)) (omega (arith, a.inside)) refl refl refl refl refl) (sym (add-zero q.stalls))
+            (1 ∷ byte_in o.words (s.at + 3) ∷ []) n.reads.0 refl refl (ap (λ (e : Bool). if e then 10 else 8) (b.falls t).1) (omega arith)
+            (b.falls t).0 (assumption (ap branch t))
+            (at_boundary o _ _ _ (l.leaves _) (omega (arith, a.counts.p21.is)) (omega (arith, a.inside)) refl refl refl refl refl)
+            (sym (add-zero q.stalls))
       ]
   goes to i is fine n went = absurd is
 

@@ -35,37 +35,38 @@ module _ {program : List ℕ} {o : Origin} {v : VerifiedView} {s : State} {q : M
   goes to (LdcW k) is n went =
       let l = constant_pushed a.loads a.holds went (pair_after m.cpp a.counts n.reads.1) in
       arrives a (LdcW k) 0x13 0 Goes (steps 2) (byte_in o.words (s.at + 3) ∷ []) n.reads.0 refl refl refl (omega arith) went.leads.goes (assumption)
-      (at_boundary o _ _ _ l.push.leaves (omega (arith, a.counts.p21.is)) (omega (arith, a.inside)) refl refl refl refl refl) (sym (add-zero q.stalls))
+      (at_boundary o _ _ _ l.push.leaves (omega (arith, a.counts.p21.is)) (omega (arith, a.inside)) refl refl refl refl refl)
+      (sym (add-zero q.stalls))
   goes to (Iload k) is n went =
       let l = local_pushed a.loads a.holds went (byte_after m.lv a.counts n.reads.1) in
       arrives a (Iload k) 0x15 0 Goes (steps 2) (byte_in o.words (s.at + 2) ∷ []) n.reads.0 refl refl refl (omega arith) went.leads.goes (assumption)
-      (at_boundary o _ _ _ l.push.leaves (omega (arith, a.counts.p11.is)) (omega (arith, a.inside)) refl refl refl refl refl) (sym (add-zero q.stalls))
+      (at_boundary o _ _ _ l.push.leaves (omega (arith, a.counts.p11.is)) (omega (arith, a.inside)) refl refl refl refl refl)
+      (sym (add-zero q.stalls))
   goes to (Istore k) is n went =
       let l = stored a.loads a.holds went (byte_after m.lv a.counts n.reads.1) in
       arrives a (Istore k) 0x36 0 Goes (steps 4) (byte_in o.words (s.at + 2) ∷ []) n.reads.0 refl refl refl (omega arith) went.leads.goes (assumption)
       (at_boundary o _ _ _ l.leaves (omega (arith, a.counts.p11.is)) (omega (arith, a.inside)) refl refl refl refl refl) (sym (add-zero q.stalls))
   goes to (Iinc k b) is n went =
-      let l = changed a.loads a.holds (word_of b) (n.finds.named k (inl refl)).1 went (byte_after m.lv a.counts n.reads.1) (ap signed_byte a.counts.p1.byte ∙ sym n.reads.2) in
+      let l = changed a.loads a.holds (word_of b) (n.finds.named k (inl refl)).1 went (byte_after m.lv a.counts n.reads.1)
+      (ap signed_byte a.counts.p1.byte ∙ sym n.reads.2) in
       arrives a (Iinc k b) 0x84 0 Goes (steps 2) (byte_in o.words (s.at + 3) ∷ []) n.reads.0 refl refl refl (omega arith) went.leads (assumption)
       (at_boundary o _ _ _ l.leaves (omega (arith, a.counts.p111.is)) (omega (arith, a.inside)) refl refl refl refl refl) (sym (add-zero q.stalls))
   goes to (WideIload k) is n went =
-      let op2 = second n.reads.1 in
       let l = local_pushed a.loads a.holds went (wide_after m.lv a.counts n.reads.2) in
       arrives a (WideIload k) 0xC4 0 Goes (steps 3)
-      (0x115 ∷ byte_in o.words (s.at + 4) ∷ []) n.reads.0 refl refl refl (omega arith) went.leads.goes (assumption)
-      (at_boundary o _ _ _ l.push.leaves (omega (arith, a.counts.p121.is)) (omega (arith, a.inside)) refl refl refl refl refl) (sym (add-zero q.stalls))
+      (0x115 ∷ byte_in o.words (s.at + 4) ∷ []) n.reads.0 refl refl refl (omega arith) went.leads.goes (assumption (second n.reads.1))
+      (at_boundary o _ _ _ l.push.leaves (omega (arith, a.counts.p121.is)) (omega (arith, a.inside)) refl refl refl refl refl)
+      (sym (add-zero q.stalls))
   goes to (WideIstore k) is n went =
-      let op2 = second n.reads.1 in
       let l = stored a.loads a.holds went (wide_after m.lv a.counts n.reads.2) in
       arrives a (WideIstore k) 0xC4 0 Goes (steps 5)
-      (0x136 ∷ byte_in o.words (s.at + 4) ∷ []) n.reads.0 refl refl refl (omega arith) went.leads.goes (assumption)
+      (0x136 ∷ byte_in o.words (s.at + 4) ∷ []) n.reads.0 refl refl refl (omega arith) went.leads.goes (assumption (second n.reads.1))
       (at_boundary o _ _ _ l.leaves (omega (arith, a.counts.p121.is)) (omega (arith, a.inside)) refl refl refl refl refl) (sym (add-zero q.stalls))
   goes to (WideIinc k z) is n went =
-      let op2 = second n.reads.1 in
       let l = changed a.loads a.holds (word_of z) (n.finds.named k (inl refl)).1 went (wide_after m.lv a.counts n.reads.2)
       (signed_pair_at o.words (plus (plus m.pc 1) 2) (s.at + 4) (s.at + 5) a.counts.p12 (omega arith) ∙ sym n.reads.3) in
       arrives a (WideIinc k z) 0xC4 0 Goes (steps 4)
-      (0x184 ∷ byte_in o.words (s.at + 6) ∷ []) n.reads.0 refl refl refl (omega arith) went.leads (assumption)
+      (0x184 ∷ byte_in o.words (s.at + 6) ∷ []) n.reads.0 refl refl refl (omega arith) went.leads (assumption (second n.reads.1))
       (at_boundary o _ _ _ l.leaves (omega (arith, a.counts.p1221.is)) (omega (arith, a.inside)) refl refl refl refl refl) (sym (add-zero q.stalls))
   goes to i is n went = absurd is
 
@@ -80,9 +81,9 @@ module _ {program : List ℕ} {o : Origin} {v : VerifiedView} {s : State} {q : M
       overruns a left 0x15 0 (next m.sp) Goes (steps 1) [] n.reads.0 refl refl (omega arith) (assumption) refl refl (refl, l.full.refused)
       l.full.untaken l.full.given (sym (add-zero q.stalls))
   limits left (WideIload k) is n over =
-      let op2 = second n.reads.1 in
       let l = local_full a.loads a.holds over (wide_after m.lv a.counts n.reads.2) in
-      overruns a left 0xC4 0 (next m.sp) Goes (steps 2) (0x115 ∷ []) n.reads.0 refl refl (omega arith) (assumption) refl refl (refl, l.full.refused)
+      overruns a left 0xC4 0 (next m.sp) Goes (steps 2) (0x115 ∷ []) n.reads.0 refl refl (omega arith) (assumption (second n.reads.1)) refl refl
+      (refl, l.full.refused)
       l.full.untaken l.full.given (sym (add-zero q.stalls))
   limits left i is n over = absurd (assumption)
 

@@ -29,7 +29,8 @@ module _ {program : List ℕ} {o : Origin} {v : VerifiedView} {s : State} {q : M
       MovesWithStalls program o q (cost v.image (timing_of Mic2) i s) (stalls_of v.image i) to
   goes to Nop is n went =
       arrives a Nop 0x00 0 Goes (steps 0) (byte_in o.words (s.at + 1) ∷ []) n.reads refl refl refl (omega arith) went (assumption)
-      (at_boundary o _ _ _ (stays a.loads a.holds _) (omega (arith, a.counts.p1.is)) (omega (arith, a.inside)) refl refl refl refl refl) (sym (add-zero q.stalls))
+      (at_boundary o _ _ _ (stays a.loads a.holds _) (omega (arith, a.counts.p1.is)) (omega (arith, a.inside)) refl refl refl refl refl)
+      (sym (add-zero q.stalls))
   goes to (Bipush b) is n went =
       let l = bipush a.loads a.holds went (ap signed_byte a.counts.p0.byte ∙ sym n.reads.1) in
       arrives a (Bipush b) 0x10 0 Goes (steps 1) (byte_in o.words (s.at + 2) ∷ []) n.reads.0 refl refl refl (omega arith) went.goes (assumption)
@@ -63,10 +64,12 @@ module _ {program : List ℕ} {o : Origin} {v : VerifiedView} {s : State} {q : M
       elim n.reads [
         | inl code ↦
             arrives a Ior 0xB0 0 Goes (steps 2) (byte_in o.words (s.at + 1) ∷ []) code refl refl refl (omega arith) went.leads (assumption)
-            (at_boundary o _ _ _ l.leaves (omega (arith, a.counts.p1.is)) (omega (arith, a.inside)) refl refl refl refl refl) (sym (add-zero q.stalls))
+            (at_boundary o _ _ _ l.leaves (omega (arith, a.counts.p1.is)) (omega (arith, a.inside)) refl refl refl refl refl)
+            (sym (add-zero q.stalls))
         | inr code ↦
             arrives a Ior 0x80 0 Goes (steps 2) (byte_in o.words (s.at + 1) ∷ []) code refl refl refl (omega arith) went.leads (assumption)
-            (at_boundary o _ _ _ l.leaves (omega (arith, a.counts.p1.is)) (omega (arith, a.inside)) refl refl refl refl refl) (sym (add-zero q.stalls))
+            (at_boundary o _ _ _ l.leaves (omega (arith, a.counts.p1.is)) (omega (arith, a.inside)) refl refl refl refl refl)
+            (sym (add-zero q.stalls))
       ]
   goes to i is n went = absurd is
 

@@ -28,7 +28,12 @@ module _ (program : List ℕ) (has : Known program) (o : Origin) (v : VerifiedVi
   reset = record { state = start.state; queue = Jumped; world = start.world; stalls = 0 }
 
   starts : start ≡ moment_of o.words reset 0
-  starts = λ i. record { state = record start.state { micro = record start.state.micro { unit = has.queue.start o.words i } }; world = start.world; stalls = 0 }
+  starts = λ i. record {
+    state = record start.state { micro = record start.state.micro { unit = has.queue.start o.words i } };
+    world =
+        start.world;
+    stalls = 0;
+  }
 
   -- three cycles issue nothing: one lacks the first word of the text, and two wait until the first dispatch retires
   pub boots : Boots mic3_meaning program (Stands o) o.given mic3_timing start (start_of v.main_locals input)
@@ -40,7 +45,8 @@ module _ (program : List ℕ) (has : Known program) (o : Origin) (v : VerifiedVi
       let smooth : IsSmooth o.words (Lacks WaitsFirst ∷ Issues ∷ HeldUp ∷ HeldUp ∷ []) (byte_in o.words 0 ∷ []) reset = assumption in
       let t : Short = clocked o.words (Lacks WaitsFirst ∷ Issues ∷ HeldUp ∷ HeldUp ∷ []) (byte_in o.words 0 ∷ []) reset in
       let a : Arrives o.words (pass mic3_meaning program 3 (moment_of o.words reset 0)) t =
-      pass-clocked program has o.words map.low (Lacks WaitsFirst) (Issues ∷ HeldUp ∷ HeldUp ∷ []) (byte_in o.words 0 ∷ []) reset 0 memory refl smooth in
+      pass-clocked program has o.words map.low (Lacks WaitsFirst) (Issues ∷ HeldUp ∷ HeldUp ∷ [])
+      (byte_in o.words 0 ∷ []) reset 0 memory refl smooth in
       record {
         off = refl;
         moves = record {

@@ -94,7 +94,8 @@ stands_at queue o s t have there held =
           pc = there.pc;
           low = omega (arith, there.near, there.pc);
           mpc = there.mpc;
-          unit = subst (λ (a : ℕ). StandsAt o.words a (unit_at o.words t.state.micro.pc have)) there.pc (queue.stands o.words t.state.micro.pc have two);
+          unit = subst (λ (a : ℕ). StandsAt o.words a (unit_at o.words t.state.micro.pc have)) there.pc
+              (queue.stands o.words t.state.micro.pc have two);
           two = omega (arith, two.least);
           begins = there.begins;
           word = there.word;
@@ -108,7 +109,8 @@ stands_at queue o s t have there held =
 -- a symbolic state at a boundary, by what the machine has besides what it holds
 pub at_boundary : (o : Origin) (s : State) (t : Short) (least : ℕ) →
     RegistersStand o s t.state.micro.sp t.state.micro.lv t.state.micro.cpp t.state.micro.tos t.world →
-    t.state.micro.pc ≡ s.at + 1 → s.at < 0x1FE00 → t.state.micro.mpc ≡ byte_in o.words s.at → t.state.micro.word ≡ None → t.state.micro.begins ≡ true →
+    t.state.micro.pc ≡ s.at + 1 → s.at < 0x1FE00 → t.state.micro.mpc ≡ byte_in o.words s.at → t.state.micro.word ≡ None →
+    t.state.micro.begins ≡ true →
     t.state.operand ≡ None → t.state.result ≡ None → t.queue ≡ AtLeast least → nat_le 3 least ≡ true → IsThere o s t
 at_boundary o s t least holds pc near mpc word begins operand result queue three =
     record {
@@ -126,7 +128,8 @@ at_boundary o s t least holds pc near mpc word begins operand result queue three
     }
 
 -- what a Mic-3 shows at a boundary
-pub shows : (program : List ℕ) (o : Origin) (s : State) (p : Pipeline) (w : World) → Stands o s p w → ShowsState mic3_meaning program (Stands o) o.given s p w
+pub shows : (program : List ℕ) (o : Origin) (s : State) (p : Pipeline) (w : World) → Stands o s p w →
+    ShowsState mic3_meaning program (Stands o) o.given s p w
 unfolding wrap
 shows program o s p w h =
     record {
@@ -161,11 +164,20 @@ pub record At (program : List ℕ) (o : Origin) (v : VerifiedView) (s : State) (
   pub inside : s.at < 0x10000
   pub counts : Counts o.words s.at q.state.micro.pc
 
-pub at : {program : List ℕ} {o : Origin} {v : VerifiedView} {s : State} {q : Moment Pipeline} (i : Instr) → Known program → Loads v o → IsNext v o s i →
+pub at : {program : List ℕ} {o : Origin} {v : VerifiedView} {s : State} {q : Moment Pipeline} (i : Instr) → Known program → Loads v o →
+    IsNext v o s i →
     Stands o s q.state q.world → At program o v s q
 at {o = o} {v} {s} {q} i has loads n h =
     let inside : s.at < 0x10000 = law.inside v o s i loads n in
-    record { has = has; loads = loads; stands = h; holds = h.holds; inside = inside; counts = counts o.words s.at q.state.micro.pc h.ready.micro.pc inside }
+    record {
+      has = has;
+      loads = loads;
+      stands = h;
+      holds = h.holds;
+      inside = inside;
+      counts =
+          counts o.words s.at q.state.micro.pc h.ready.micro.pc inside;
+    }
 
 module _ {program : List ℕ} {o : Origin} {v : VerifiedView} {s : State} {q : Moment Pipeline} (a : At program o v s q) where
   abbrev start : ℕ → Short
@@ -175,7 +187,8 @@ module _ {program : List ℕ} {o : Origin} {v : VerifiedView} {s : State} {q : M
   after code plan gs = clocked o.words plan gs (start code)
 
   arrived : (code : ℕ) (k : Turn) (ks : List Turn) (gs : List ℕ) → IsSmooth o.words (k ∷ ks) gs (start code) →
-      Arrives o.words (pass mic3_meaning program (length ks) (moment_of o.words (start code) (length q.state.micro.unit.bytes))) (after code (k ∷ ks) gs)
+      Arrives o.words (pass mic3_meaning program (length ks) (moment_of o.words (start code) (length q.state.micro.unit.bytes)))
+      (after code (k ∷ ks) gs)
   arrived code k ks gs smooth =
       pass-clocked program a.has o.words (law.map v o a.loads).low k ks gs (start code) (length q.state.micro.unit.bytes) a.holds.memory
       (starts_held a.has.queue o s q.state q.world q.stalls a.stands) smooth
@@ -183,9 +196,11 @@ module _ {program : List ℕ} {o : Origin} {v : VerifiedView} {s : State} {q : M
   -- some cycles come to the next boundary, which stands for the state that the instruction leads to
   pub arrives : {t to : State} (i : Instr) (code : ℕ) (k : Turn) (ks : List Turn) (gs : List ℕ) → byte_in o.words s.at ≡ code →
       (code == 255) ≡ false → (code == 254) ≡ false → cost v.image mic3_timing i s ≡ length ks + 1 → length ks < 1024 → t ≡ to →
-      IsSmooth o.words (k ∷ ks) gs (start code) → IsThere o t (after code (k ∷ ks) gs) → Moves mic3_meaning program (Stands o) o.given q (cost v.image mic3_timing i s) to
+      IsSmooth o.words (k ∷ ks) gs (start code) → IsThere o t (after code (k ∷ ks) gs) →
+      Moves mic3_meaning program (Stands o) o.given q (cost v.image mic3_timing i s) to
   arrives {t} i code k ks gs is no_halt no_err spent short same smooth there =
-      let x : Arrives o.words (pass mic3_meaning program (length ks) (moment_of o.words (start code) (length q.state.micro.unit.bytes))) (after code (k ∷ ks) gs) =
+      let x : Arrives o.words (pass mic3_meaning program (length ks) (moment_of o.words (start code) (length q.state.micro.unit.bytes)))
+      (after code (k ∷ ks) gs) =
       arrived code k ks gs smooth in
       let to : Moment Pipeline = moment_of o.words (after code (k ∷ ks) gs) x.have in
       record {
@@ -202,11 +217,13 @@ module _ {program : List ℕ} {o : Origin} {v : VerifiedView} {s : State} {q : M
   pub overruns : (left : State) (code x : ℕ) (k : Turn) (ks : List Turn) (gs : List ℕ) (l : Turn) → byte_in o.words s.at ≡ code →
       (code == 255) ≡ false → (code == 254) ≡ false → length ks < 1023 → IsSmooth o.words (k ∷ ks) gs (start code) →
       is_inside mic3_meaning (after code (k ∷ ks) gs).state ≡ true → nat_lt (after code (k ∷ ks) gs).state.micro.mpc 512 ≡ true →
-      IsFull o l [] (after code (k ∷ ks) gs) x → (after code (k ∷ ks) gs).world.untaken ≡ left.untaken → (after code (k ∷ ks) gs).world.given ≡ o.given ++ left.given →
+      IsFull o l [] (after code (k ∷ ks) gs) x → (after code (k ∷ ks) gs).world.untaken ≡ left.untaken →
+      (after code (k ∷ ks) gs).world.given ≡ o.given ++ left.given →
       Overruns mic3_meaning program (Stands o) o.given q left
   overruns left code x k ks gs l is no_halt no_err short smooth inside low full untaken given =
       let t : Short = after code (k ∷ ks) gs in
-      let y : Arrives o.words (pass mic3_meaning program (length ks) (moment_of o.words (start code) (length q.state.micro.unit.bytes))) t = arrived code k ks gs smooth in
+      let y : Arrives o.words (pass mic3_meaning program (length ks) (moment_of o.words (start code) (length q.state.micro.unit.bytes))) t =
+      arrived code k ks gs smooth in
       record {
         n = length ks;
         short = short;

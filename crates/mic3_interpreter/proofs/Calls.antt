@@ -57,7 +57,8 @@ module _ {program : List ℕ} {o : Origin} {v : VerifiedView} {s : State} {q : M
       let l = returned a.loads a.holds n went in
       let there = place_at o.words _ went.back l.back (omega (arith, l.inside)) in
       let behind = place_on o.words _ went.back 1 (went.back + 1) there refl (omega (arith, l.inside)) in
-      arrives a Ireturn 0xAC Issues (Issues ∷ HeldUp ∷ HeldUp ∷ Issues ∷ HeldUp ∷ HeldUp ∷ Issues ∷ HeldUp ∷ HeldUp ∷ Issues ∷ Issues ∷ HeldUp ∷ HeldUp ∷ Issues ∷ Issues ∷ HeldUp ∷ HeldUp ∷ [])
+      arrives a Ireturn 0xAC Issues (Issues ∷ HeldUp ∷ HeldUp ∷ Issues ∷ HeldUp ∷ HeldUp ∷ Issues ∷ HeldUp ∷ HeldUp ∷ Issues ∷ Issues ∷ HeldUp ∷
+      HeldUp ∷ Issues ∷ Issues ∷ HeldUp ∷ HeldUp ∷ [])
       (byte_in o.words went.back ∷ []) n.reads refl refl refl (omega arith) went.with_top.leads (assumption)
       (at_boundary o _ _ _ l.leaves behind.is (omega (arith, l.inside)) refl refl refl refl refl refl refl)
   goes to (Invokevirtual k) is n went =
@@ -67,14 +68,12 @@ module _ {program : List ℕ} {o : Origin} {v : VerifiedView} {s : State} {q : M
       let late = ap (λ (j : ℕ). j % 4 == 3) (f.entry ∙ sym f.pool) in
       elim (cases_Bool (slice_index v.image.pool k % 4 == 3)) [
         | inl t ↦
-            let lateness = late ∙ t in
             arrives a (Invokevirtual k) 0xB6 Issues (plan true rest_of_call) (byte_in o.words (went.method.entry + 4) ∷ [])
-            n.reads.0 refl refl (ap (λ (b : Bool). if b then 24 else 23) t) (omega arith) went.leads.goes (assumption)
+            n.reads.0 refl refl (ap (λ (b : Bool). if b then 24 else 23) t) (omega arith) went.leads.goes (assumption (late ∙ t))
             (at_boundary o _ _ _ (l.leaves _) (omega (arith, e.e5.is)) (omega (arith, f.whole)) refl refl refl refl refl refl refl)
         | inr t ↦
-            let lateness = late ∙ t in
             arrives a (Invokevirtual k) 0xB6 Issues (plan false rest_of_call) (byte_in o.words (went.method.entry + 4) ∷ [])
-            n.reads.0 refl refl (ap (λ (b : Bool). if b then 24 else 23) t) (omega arith) went.leads.goes (assumption)
+            n.reads.0 refl refl (ap (λ (b : Bool). if b then 24 else 23) t) (omega arith) went.leads.goes (assumption (late ∙ t))
             (at_boundary o _ _ _ (l.leaves _) (omega (arith, e.e5.is)) (omega (arith, f.whole)) refl refl refl refl refl refl refl)
       ]
   goes to i is n went = absurd is
@@ -89,29 +88,30 @@ module _ {program : List ℕ} {o : Origin} {v : VerifiedView} {s : State} {q : M
       let late = ap (λ (j : ℕ). j % 4 == 3) (f.entry ∙ sym f.pool) in
       elim (cases_Bool (slice_index v.image.pool k % 4 == 3)) [
         | inl t ↦
-            let lateness = late ∙ t in
             elim l.1 [
               | inl refused ↦
                   overruns a left 0xB6 link Issues (plan true []) [] Issues
-                  n.reads.0 refl refl (omega arith) (assumption) refl refl ((refl, refl, refl), refused) l.0.untaken l.0.given
+                  n.reads.0 refl refl (omega arith) (assumption (late ∙ t)) refl refl ((refl, refl, refl), refused) l.0.untaken l.0.given
               | inr cut ↦
-                  overruns a left 0xB6 (next link) Issues (plan true (Issues ∷ Issues ∷ Issues ∷ [])) (byte_in o.words (plus (plus entry 2) 2) ∷ []) HeldUp
-                  n.reads.0 refl refl (omega arith) (assumption) refl refl (refl, cut.refused) l.0.untaken (cut.given _)
+                  overruns a left 0xB6 (next link) Issues (plan true (Issues ∷ Issues ∷ Issues ∷ []))
+                  (byte_in o.words (plus (plus entry 2) 2) ∷ []) HeldUp
+                  n.reads.0 refl refl (omega arith) (assumption (late ∙ t)) refl refl (refl, cut.refused) l.0.untaken (cut.given _)
             ]
         | inr t ↦
-            let lateness = late ∙ t in
             elim l.1 [
               | inl refused ↦
                   overruns a left 0xB6 link Issues (plan false []) [] Issues
-                  n.reads.0 refl refl (omega arith) (assumption) refl refl ((refl, refl, refl), refused) l.0.untaken l.0.given
+                  n.reads.0 refl refl (omega arith) (assumption (late ∙ t)) refl refl ((refl, refl, refl), refused) l.0.untaken l.0.given
               | inr cut ↦
-                  overruns a left 0xB6 (next link) Issues (plan false (Issues ∷ Issues ∷ Issues ∷ [])) (byte_in o.words (plus (plus entry 2) 2) ∷ []) HeldUp
-                  n.reads.0 refl refl (omega arith) (assumption) refl refl (refl, cut.refused) l.0.untaken (cut.given _)
+                  overruns a left 0xB6 (next link) Issues (plan false (Issues ∷ Issues ∷ Issues ∷ []))
+                  (byte_in o.words (plus (plus entry 2) 2) ∷ []) HeldUp
+                  n.reads.0 refl refl (omega arith) (assumption (late ∙ t)) refl refl (refl, cut.refused) l.0.untaken (cut.given _)
             ]
       ]
   limits left i is n over = absurd (assumption)
 
-pub calls : (program : List ℕ) → Known program → (o : Origin) (v : VerifiedView) → Loads v o → Takes mic3_meaning program (Stands o) o.given mic3_timing v o IsCall
+pub calls : (program : List ℕ) → Known program → (o : Origin) (v : VerifiedView) → Loads v o →
+    Takes mic3_meaning program (Stands o) o.given mic3_timing v o IsCall
 calls program has o v loads = record {
   goes = λ s to q i is fine n h went. goes (at i has loads n h) to i is n went;
   limits = λ s left q i is fine n h over. limits (at i has loads n h) left i is n over;

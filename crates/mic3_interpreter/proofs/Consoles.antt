@@ -36,7 +36,8 @@ module _ {program : List ℕ} {o : Origin} {v : VerifiedView} {s : State} {q : M
       (at_boundary o _ _ _ l.push.leaves (omega (arith, a.counts.p1.is)) (omega (arith, a.inside)) refl refl refl refl refl refl refl)
   goes to Out is n went =
       let l = gives a.loads a.holds went in
-      arrives a Out 0xFD Issues (HeldUp ∷ HeldUp ∷ Issues ∷ HeldUp ∷ HeldUp ∷ Issues ∷ Issues ∷ Issues ∷ Issues ∷ HeldUp ∷ HeldUp ∷ Issues ∷ HeldUp ∷ HeldUp ∷ [])
+      arrives a Out 0xFD Issues (HeldUp ∷ HeldUp ∷ Issues ∷ HeldUp ∷ HeldUp ∷ Issues ∷ Issues ∷ Issues ∷ Issues ∷ HeldUp ∷ HeldUp ∷ Issues ∷
+      HeldUp ∷ HeldUp ∷ [])
       (byte_in o.words (s.at + 1) ∷ []) n.reads refl refl refl (omega arith) went.leads (assumption)
       (at_boundary o _ _ _ l.leaves (omega (arith, a.counts.p1.is)) (omega (arith, a.inside)) refl refl refl refl refl refl refl)
   goes to i is n went = absurd is
@@ -45,11 +46,13 @@ module _ {program : List ℕ} {o : Origin} {v : VerifiedView} {s : State} {q : M
       Overruns mic3_meaning program (Stands o) o.given q left
   limits left In is n over =
       let l = taken_full a.loads a.holds over in
-      overruns a left 0xFC (next m.sp) Issues (HeldUp ∷ HeldUp ∷ Issues ∷ HeldUp ∷ HeldUp ∷ Issues ∷ Issues ∷ HeldUp ∷ HeldUp ∷ Issues ∷ HeldUp ∷ []) (byte_in o.words m.pc ∷ []) HeldUp
+      overruns a left 0xFC (next m.sp) Issues (HeldUp ∷ HeldUp ∷ Issues ∷ HeldUp ∷ HeldUp ∷ Issues ∷ Issues ∷ HeldUp ∷ HeldUp ∷ Issues ∷
+      HeldUp ∷ []) (byte_in o.words m.pc ∷ []) HeldUp
       n.reads refl refl (omega arith) (assumption) refl refl (refl, l.full.refused) l.full.untaken l.full.given
   limits left i is n over = absurd (assumption)
 
-pub consoles : (program : List ℕ) → Known program → (o : Origin) (v : VerifiedView) → Loads v o → Takes mic3_meaning program (Stands o) o.given mic3_timing v o IsOfConsole
+pub consoles : (program : List ℕ) → Known program → (o : Origin) (v : VerifiedView) → Loads v o →
+    Takes mic3_meaning program (Stands o) o.given mic3_timing v o IsOfConsole
 consoles program has o v loads = record {
   goes = λ s to q i is fine n h went. goes (at i has loads n h) to i is n went;
   limits = λ s left q i is fine n h over. limits (at i has loads n h) left i is n over;

@@ -54,14 +54,15 @@ module _ {program : List ℕ} {o : Origin} {v : VerifiedView} {s : State} {q : M
       let b = branches_by a.loads a.holds (λ y. y == 0) lands went in
       elim (cases_Bool (m.tos == 0)) [
         | inl t ↦
-            let on = ap branch t in
-            arrives a (Ifeq z) 0x99 Issues (Issues ∷ HeldUp ∷ HeldUp ∷ Issues ∷ Issues ∷ HeldUp ∷ Issues ∷ HeldUp ∷ HeldUp ∷ Issues ∷ Issues ∷ HeldUp ∷ Lacks WaitsFirst ∷ Issues ∷ HeldUp ∷ HeldUp ∷ [])
-            (257 ∷ byte_in o.words (jump o.words s.at) ∷ []) n.reads.0 refl refl (ap (λ (e : Bool). if e then 17 else 11) (b.taken t).1) (omega arith) (b.taken t).0 (assumption)
+            arrives a (Ifeq z) 0x99 Issues (Issues ∷ HeldUp ∷ HeldUp ∷ Issues ∷ Issues ∷ HeldUp ∷ Issues ∷ HeldUp ∷ HeldUp ∷ Issues ∷ Issues ∷
+            HeldUp ∷ Lacks WaitsFirst ∷ Issues ∷ HeldUp ∷ HeldUp ∷ [])
+            (257 ∷ byte_in o.words (jump o.words s.at) ∷ []) n.reads.0 refl refl (ap (λ (e : Bool). if e then 17 else 11) (b.taken t).1)
+            (omega arith) (b.taken t).0 (assumption (ap branch t))
             (at_boundary o _ _ _ (l.leaves _) j.behind.is (omega (arith, lands.inside)) refl refl refl refl refl refl refl)
         | inr t ↦
-            let on = ap branch t in
             arrives a (Ifeq z) 0x99 Issues (Issues ∷ HeldUp ∷ HeldUp ∷ Issues ∷ Issues ∷ HeldUp ∷ Issues ∷ Issues ∷ HeldUp ∷ HeldUp ∷ [])
-            (1 ∷ byte_in o.words (s.at + 3) ∷ []) n.reads.0 refl refl (ap (λ (e : Bool). if e then 17 else 11) (b.falls t).1) (omega arith) (b.falls t).0 (assumption)
+            (1 ∷ byte_in o.words (s.at + 3) ∷ []) n.reads.0 refl refl (ap (λ (e : Bool). if e then 17 else 11) (b.falls t).1) (omega arith)
+            (b.falls t).0 (assumption (ap branch t))
             (at_boundary o _ _ _ (l.leaves _) (omega (arith, a.counts.p21.is)) (omega (arith, a.inside)) refl refl refl refl refl refl refl)
       ]
   goes to (Iflt z) is fine n went =
@@ -71,14 +72,15 @@ module _ {program : List ℕ} {o : Origin} {v : VerifiedView} {s : State} {q : M
       let b = branches_by a.loads a.holds is_negative lands went in
       elim (cases_Bool (is_negative m.tos)) [
         | inl t ↦
-            let on = ap branch t in
-            arrives a (Iflt z) 0x9B Issues (Issues ∷ HeldUp ∷ HeldUp ∷ Issues ∷ Issues ∷ HeldUp ∷ Issues ∷ HeldUp ∷ HeldUp ∷ Issues ∷ Issues ∷ HeldUp ∷ Lacks WaitsFirst ∷ Issues ∷ HeldUp ∷ HeldUp ∷ [])
-            (257 ∷ byte_in o.words (jump o.words s.at) ∷ []) n.reads.0 refl refl (ap (λ (e : Bool). if e then 17 else 11) (b.taken t).1) (omega arith) (b.taken t).0 (assumption)
+            arrives a (Iflt z) 0x9B Issues (Issues ∷ HeldUp ∷ HeldUp ∷ Issues ∷ Issues ∷ HeldUp ∷ Issues ∷ HeldUp ∷ HeldUp ∷ Issues ∷ Issues ∷
+            HeldUp ∷ Lacks WaitsFirst ∷ Issues ∷ HeldUp ∷ HeldUp ∷ [])
+            (257 ∷ byte_in o.words (jump o.words s.at) ∷ []) n.reads.0 refl refl (ap (λ (e : Bool). if e then 17 else 11) (b.taken t).1)
+            (omega arith) (b.taken t).0 (assumption (ap branch t))
             (at_boundary o _ _ _ (l.leaves _) j.behind.is (omega (arith, lands.inside)) refl refl refl refl refl refl refl)
         | inr t ↦
-            let on = ap branch t in
             arrives a (Iflt z) 0x9B Issues (Issues ∷ HeldUp ∷ HeldUp ∷ Issues ∷ Issues ∷ HeldUp ∷ Issues ∷ Issues ∷ HeldUp ∷ HeldUp ∷ [])
-            (1 ∷ byte_in o.words (s.at + 3) ∷ []) n.reads.0 refl refl (ap (λ (e : Bool). if e then 17 else 11) (b.falls t).1) (omega arith) (b.falls t).0 (assumption)
+            (1 ∷ byte_in o.words (s.at + 3) ∷ []) n.reads.0 refl refl (ap (λ (e : Bool). if e then 17 else 11) (b.falls t).1) (omega arith)
+            (b.falls t).0 (assumption (ap branch t))
             (at_boundary o _ _ _ (l.leaves _) (omega (arith, a.counts.p21.is)) (omega (arith, a.inside)) refl refl refl refl refl refl refl)
       ]
   goes to (IfIcmpeq z) is fine n went =
@@ -88,14 +90,16 @@ module _ {program : List ℕ} {o : Origin} {v : VerifiedView} {s : State} {q : M
       let b = branches_equal a.loads a.holds fine lands went in
       elim (cases_Bool (minus m.tos (read_value (length o.words) q.world.words q.world.untaken (before m.sp)) == 0)) [
         | inl t ↦
-            let on = ap branch t in
-            arrives a (IfIcmpeq z) 0x9F Issues (HeldUp ∷ HeldUp ∷ Issues ∷ HeldUp ∷ HeldUp ∷ Issues ∷ Issues ∷ HeldUp ∷ HeldUp ∷ Issues ∷ Issues ∷ HeldUp ∷ Issues ∷ HeldUp ∷ HeldUp ∷ Issues ∷ Issues ∷ HeldUp ∷ Lacks WaitsFirst ∷ Issues ∷ HeldUp ∷ HeldUp ∷ [])
-            (257 ∷ byte_in o.words (jump o.words s.at) ∷ []) n.reads.0 refl refl (ap (λ (e : Bool). if e then 23 else 17) (b.taken t).1) (omega arith) (b.taken t).0 (assumption)
+            arrives a (IfIcmpeq z) 0x9F Issues (HeldUp ∷ HeldUp ∷ Issues ∷ HeldUp ∷ HeldUp ∷ Issues ∷ Issues ∷ HeldUp ∷ HeldUp ∷ Issues ∷
+            Issues ∷ HeldUp ∷ Issues ∷ HeldUp ∷ HeldUp ∷ Issues ∷ Issues ∷ HeldUp ∷ Lacks WaitsFirst ∷ Issues ∷ HeldUp ∷ HeldUp ∷ [])
+            (257 ∷ byte_in o.words (jump o.words s.at) ∷ []) n.reads.0 refl refl (ap (λ (e : Bool). if e then 23 else 17) (b.taken t).1)
+            (omega arith) (b.taken t).0 (assumption (ap branch t))
             (at_boundary o _ _ _ (l.leaves _) j.behind.is (omega (arith, lands.inside)) refl refl refl refl refl refl refl)
         | inr t ↦
-            let on = ap branch t in
-            arrives a (IfIcmpeq z) 0x9F Issues (HeldUp ∷ HeldUp ∷ Issues ∷ HeldUp ∷ HeldUp ∷ Issues ∷ Issues ∷ HeldUp ∷ HeldUp ∷ Issues ∷ Issues ∷ HeldUp ∷ Issues ∷ Issues ∷ HeldUp ∷ HeldUp ∷ [])
-            (1 ∷ byte_in o.words (s.at + 3) ∷ []) n.reads.0 refl refl (ap (λ (e : Bool). if e then 23 else 17) (b.falls t).1) (omega arith) (b.falls t).0 (assumption)
+            arrives a (IfIcmpeq z) 0x9F Issues (HeldUp ∷ HeldUp ∷ Issues ∷ HeldUp ∷ HeldUp ∷ Issues ∷ Issues ∷ HeldUp ∷ HeldUp ∷ Issues ∷
+            Issues ∷ HeldUp ∷ Issues ∷ Issues ∷ HeldUp ∷ HeldUp ∷ [])
+            (1 ∷ byte_in o.words (s.at + 3) ∷ []) n.reads.0 refl refl (ap (λ (e : Bool). if e then 23 else 17) (b.falls t).1) (omega arith)
+            (b.falls t).0 (assumption (ap branch t))
             (at_boundary o _ _ _ (l.leaves _) (omega (arith, a.counts.p21.is)) (omega (arith, a.inside)) refl refl refl refl refl refl refl)
       ]
   goes to i is fine n went = absurd is
@@ -105,7 +109,8 @@ module _ {program : List ℕ} {o : Origin} {v : VerifiedView} {s : State} {q : M
   limits left (Goto z) is n over = absurd over
   limits left i is n over = absurd (assumption)
 
-pub jumping : (program : List ℕ) → Known program → (o : Origin) (v : VerifiedView) → Loads v o → Takes mic3_meaning program (Stands o) o.given mic3_timing v o IsJump
+pub jumping : (program : List ℕ) → Known program → (o : Origin) (v : VerifiedView) → Loads v o →
+    Takes mic3_meaning program (Stands o) o.given mic3_timing v o IsJump
 jumping program has o v loads = record {
   goes = λ s to q i is fine n h went. goes (at i has loads n h) to i is fine n went;
   limits = λ s left q i is fine n h over. limits (at i has loads n h) left i is n over;

@@ -47,28 +47,26 @@ module _ {program : List ℕ} {o : Origin} {v : VerifiedView} {s : State} {q : M
       (byte_in o.words (s.at + 2) ∷ []) n.reads.0 refl refl refl (omega arith) went.leads.goes (assumption)
       (at_boundary o _ _ _ l.leaves (omega (arith, a.counts.p11.is)) (omega (arith, a.inside)) refl refl refl refl refl refl refl)
   goes to (Iinc k b) is n went =
-      let l = changed a.loads a.holds (word_of b) (n.finds.named k (inl refl)).1 went (byte_after m.lv a.counts n.reads.1) (ap signed_byte a.counts.p1.byte ∙ sym n.reads.2) in
+      let l = changed a.loads a.holds (word_of b) (n.finds.named k (inl refl)).1 went (byte_after m.lv a.counts n.reads.1)
+      (ap signed_byte a.counts.p1.byte ∙ sym n.reads.2) in
       arrives a (Iinc k b) 0x84 Issues (Issues ∷ HeldUp ∷ HeldUp ∷ Issues ∷ HeldUp ∷ HeldUp ∷ [])
       (byte_in o.words (s.at + 3) ∷ []) n.reads.0 refl refl refl (omega arith) went.leads (assumption)
       (at_boundary o _ _ _ l.leaves (omega (arith, a.counts.p111.is)) (omega (arith, a.inside)) refl refl refl refl refl refl refl)
   goes to (WideIload k) is n went =
-      let op2 = a.counts.p0.byte ∙ n.reads.1 in
       let l = local_pushed a.loads a.holds went (wide_after m.lv a.counts n.reads.2) in
       arrives a (WideIload k) 0xC4 Issues (Issues ∷ Issues ∷ HeldUp ∷ HeldUp ∷ Issues ∷ HeldUp ∷ HeldUp ∷ [])
-      (0x15 ∷ byte_in o.words (s.at + 4) ∷ []) n.reads.0 refl refl refl (omega arith) went.leads.goes (assumption)
+      (0x15 ∷ byte_in o.words (s.at + 4) ∷ []) n.reads.0 refl refl refl (omega arith) went.leads.goes (assumption (a.counts.p0.byte ∙ n.reads.1))
       (at_boundary o _ _ _ l.push.leaves (omega (arith, a.counts.p121.is)) (omega (arith, a.inside)) refl refl refl refl refl refl refl)
   goes to (WideIstore k) is n went =
-      let op2 = a.counts.p0.byte ∙ n.reads.1 in
       let l = stored a.loads a.holds went (wide_after m.lv a.counts n.reads.2) in
       arrives a (WideIstore k) 0xC4 Issues (Issues ∷ Issues ∷ Issues ∷ Issues ∷ HeldUp ∷ HeldUp ∷ Issues ∷ HeldUp ∷ HeldUp ∷ [])
-      (0x36 ∷ byte_in o.words (s.at + 4) ∷ []) n.reads.0 refl refl refl (omega arith) went.leads.goes (assumption)
+      (0x36 ∷ byte_in o.words (s.at + 4) ∷ []) n.reads.0 refl refl refl (omega arith) went.leads.goes (assumption (a.counts.p0.byte ∙ n.reads.1))
       (at_boundary o _ _ _ l.leaves (omega (arith, a.counts.p121.is)) (omega (arith, a.inside)) refl refl refl refl refl refl refl)
   goes to (WideIinc k z) is n went =
-      let op2 = a.counts.p0.byte ∙ n.reads.1 in
       let l = changed a.loads a.holds (word_of z) (n.finds.named k (inl refl)).1 went (wide_after m.lv a.counts n.reads.2)
       (signed_pair_at o.words (plus (plus m.pc 1) 2) (s.at + 4) (s.at + 5) a.counts.p12 (omega arith) ∙ sym n.reads.3) in
       arrives a (WideIinc k z) 0xC4 Issues (Issues ∷ Issues ∷ Issues ∷ HeldUp ∷ HeldUp ∷ Issues ∷ HeldUp ∷ HeldUp ∷ [])
-      (0x84 ∷ byte_in o.words (s.at + 6) ∷ []) n.reads.0 refl refl refl (omega arith) went.leads (assumption)
+      (0x84 ∷ byte_in o.words (s.at + 6) ∷ []) n.reads.0 refl refl refl (omega arith) went.leads (assumption (a.counts.p0.byte ∙ n.reads.1))
       (at_boundary o _ _ _ l.leaves (omega (arith, a.counts.p1221.is)) (omega (arith, a.inside)) refl refl refl refl refl refl refl)
   goes to i is n went = absurd is
 
@@ -83,13 +81,14 @@ module _ {program : List ℕ} {o : Origin} {v : VerifiedView} {s : State} {q : M
       overruns a left 0x15 (next m.sp) Issues (Issues ∷ HeldUp ∷ HeldUp ∷ Issues ∷ HeldUp ∷ []) (byte_in o.words (plus m.pc 1) ∷ []) HeldUp
       n.reads.0 refl refl (omega arith) (assumption) refl refl (refl, l.full.refused) l.full.untaken l.full.given
   limits left (WideIload k) is n over =
-      let op2 = a.counts.p0.byte ∙ n.reads.1 in
       let l = local_full a.loads a.holds over (wide_after m.lv a.counts n.reads.2) in
-      overruns a left 0xC4 (next m.sp) Issues (Issues ∷ Issues ∷ HeldUp ∷ HeldUp ∷ Issues ∷ HeldUp ∷ []) (0x15 ∷ byte_in o.words (plus (plus m.pc 1) 2) ∷ []) HeldUp
-      n.reads.0 refl refl (omega arith) (assumption) refl refl (refl, l.full.refused) l.full.untaken l.full.given
+      overruns a left 0xC4 (next m.sp) Issues (Issues ∷ Issues ∷ HeldUp ∷ HeldUp ∷ Issues ∷ HeldUp ∷ [])
+      (0x15 ∷ byte_in o.words (plus (plus m.pc 1) 2) ∷ []) HeldUp
+      n.reads.0 refl refl (omega arith) (assumption (a.counts.p0.byte ∙ n.reads.1)) refl refl (refl, l.full.refused) l.full.untaken l.full.given
   limits left i is n over = absurd (assumption)
 
-pub locals : (program : List ℕ) → Known program → (o : Origin) (v : VerifiedView) → Loads v o → Takes mic3_meaning program (Stands o) o.given mic3_timing v o IsOfLocals
+pub locals : (program : List ℕ) → Known program → (o : Origin) (v : VerifiedView) → Loads v o →
+    Takes mic3_meaning program (Stands o) o.given mic3_timing v o IsOfLocals
 locals program has o v loads = record {
   goes = λ s to q i is fine n h went. goes (at i has loads n h) to i is n went;
   limits = λ s left q i is fine n h over. limits (at i has loads n h) left i is n over;

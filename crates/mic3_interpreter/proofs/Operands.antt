@@ -94,7 +94,8 @@ module _ {program : List ℕ} {o : Origin} {v : VerifiedView} {s : State} {q : M
       n.reads refl refl (omega arith) (assumption) refl refl (refl, l.refused) l.untaken l.given
   limits left i is n over = absurd (assumption)
 
-pub operands : (program : List ℕ) → Known program → (o : Origin) (v : VerifiedView) → Loads v o → Takes mic3_meaning program (Stands o) o.given mic3_timing v o IsOfOperands
+pub operands : (program : List ℕ) → Known program → (o : Origin) (v : VerifiedView) → Loads v o →
+    Takes mic3_meaning program (Stands o) o.given mic3_timing v o IsOfOperands
 operands program has o v loads = record {
   goes = λ s to q i is fine n h went. goes (at i has loads n h) to i is n went;
   limits = λ s left q i is fine n h over. limits (at i has loads n h) left i is n over;
