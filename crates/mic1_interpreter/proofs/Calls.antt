@@ -24,7 +24,7 @@ use Rattle.ijvm_simulation.proofs.Calling.{Named, returned, named, called, cut_o
 use Rattle.mic1_interpreter.specs.Stands.{Stands}
 use Rattle.mic1_interpreter.proofs.Store.{HasStatements}
 use Rattle.mic1_interpreter.proofs.Boundaries.{At, at, opcode, arrives, overruns, at_boundary, at_text}
-use Rattle.mic1_interpreter.proofs.Locals.{constant_after}
+use Rattle.mic1_interpreter.proofs.Instructions.{constant_after}
 use Rattle.mic1_interpreter.proofs.Words.{byte_kept, fetch_ok, pair_is}
 
 module _ {program : List ℕ} {o : Origin} {v : VerifiedView} {s : State} {q : Moment Micro} (a : At program o v s q) where

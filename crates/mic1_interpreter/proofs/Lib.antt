@@ -3,10 +3,8 @@ pub mod Words
 pub mod Boundaries
 pub mod Boot
 pub mod Output
-pub mod Operands
-pub mod Consoles
+pub mod Instructions
 pub mod Jumps
-pub mod Locals
 pub mod Calls
 pub mod Ends
 pub mod Store

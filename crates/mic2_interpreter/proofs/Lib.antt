@@ -1,11 +1,9 @@
 pub mod Guided
 pub mod Boundaries
 pub mod Boot
-pub mod Operands
-pub mod Consoles
+pub mod Instructions
 pub mod Ends
 pub mod Jumps
-pub mod Locals
 pub mod Calls
 pub mod Output
 pub mod Store

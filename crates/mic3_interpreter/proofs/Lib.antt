@@ -2,11 +2,9 @@ pub mod Store
 pub mod Examples
 pub mod Guided
 pub mod Boundaries
-pub mod Operands
-pub mod Locals
+pub mod Instructions
 pub mod Jumps
 pub mod Calls
-pub mod Consoles
 pub mod Ends
 pub mod Boot
 pub mod Output

@@ -4,11 +4,9 @@ use Rattle.ijvm_simulation.specs.Stack.{StackLaw}
 use Rattle.mic1_interpreter.proofs.Store.{HasStatements, has_statements}
 use Rattle.mic1_interpreter.proofs.Boundaries.{shows}
 use Rattle.mic1_interpreter.proofs.Boot.{boots}
-use Rattle.mic1_interpreter.proofs.Operands.{operands}
-use Rattle.mic1_interpreter.proofs.Locals.{locals}
+use Rattle.mic1_interpreter.proofs.Instructions.{operands, locals, consoles}
 use Rattle.mic1_interpreter.proofs.Jumps.{jumping}
 use Rattle.mic1_interpreter.proofs.Calls.{calls}
-use Rattle.mic1_interpreter.proofs.Consoles.{consoles}
 use Rattle.mic1_interpreter.proofs.Ends.{ends}
 use Rattle.mic1_interpreter.proofs.Output.{step_grows}
 use Rattle.mic1_interpreter.proofs.interpreter.Mic1InterpreterInterpreter.law.Goals as goal

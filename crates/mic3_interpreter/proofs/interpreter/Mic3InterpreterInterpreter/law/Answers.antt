@@ -1,12 +1,9 @@
-use Rattle.ijvm_simulation.specs.Stack.{StackLaw}
 use Rattle.mic3_interpreter.proofs.Store.{Known, known}
 use Rattle.mic3_interpreter.proofs.Boundaries.{shows}
 use Rattle.mic3_interpreter.proofs.Boot.{boots}
-use Rattle.mic3_interpreter.proofs.Operands.{operands}
-use Rattle.mic3_interpreter.proofs.Locals.{locals}
+use Rattle.mic3_interpreter.proofs.Instructions.{operands, locals, consoles}
 use Rattle.mic3_interpreter.proofs.Jumps.{jumping}
 use Rattle.mic3_interpreter.proofs.Calls.{calls}
-use Rattle.mic3_interpreter.proofs.Consoles.{consoles}
 use Rattle.mic3_interpreter.proofs.Ends.{ends}
 use Rattle.mic3_interpreter.proofs.Output.{step_grows}
 use Rattle.mic3_interpreter.specs.Timing.{mic3_timing}
@@ -15,7 +12,6 @@ use Rattle.mic3_interpreter.proofs.interpreter.Mic3InterpreterInterpreter.law.Go
 pub returns-clause-law : goal.returns-clause-law
 returns-clause-law c = λ store o v shipped loads.
     let has : Known store = known store shipped c.queue_law.ensures in
-    let law : StackLaw = c.stack_law.ensures in
     record {
       shows = shows store o;
       takes = c.groups_are_all.ensures.takes store 0x002 mic3_timing v o (operands store has o v loads) (locals store has o v loads)
