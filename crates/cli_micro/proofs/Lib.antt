@@ -1,4 +1,3 @@
-mod Numbers
 mod Lined
 mod Words
 mod Answering

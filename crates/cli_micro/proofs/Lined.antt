@@ -29,9 +29,9 @@ line_added f n old new line is same added =
     added ∙ ap (λ (l : List ℕ). old ++ (l ++ 10 ∷ [])) same ∙ ap (λ (o : List ℕ). o ++ (f n ++ 10 ∷ [])) is ∙ sym (lined_more f n)
 
 -- a text of n lines after another text gets the next one
-pub line_added_behind : (f : ℕ → List ℕ) (n : ℕ) (front old new line : List ℕ) → old ≡ front ++ text_of (map f (below n)) → line ≡ f n →
+pub line_added_after : (f : ℕ → List ℕ) (n : ℕ) (front old new line : List ℕ) → old ≡ front ++ text_of (map f (below n)) → line ≡ f n →
     new ≡ old ++ (line ++ 10 ∷ []) → new ≡ front ++ text_of (map f (below (n + 1)))
-line_added_behind f n front old new line is same added =
+line_added_after f n front old new line is same added =
     added ∙ ap (λ (l : List ℕ). old ++ (l ++ 10 ∷ [])) same ∙ ap (λ (o : List ℕ). o ++ (f n ++ 10 ∷ [])) is
     ∙ append_assoc front (text_of (map f (below n))) (f n ++ 10 ∷ []) ∙ ap (λ (t : List ℕ). front ++ t) (sym (lined_more f n))
 

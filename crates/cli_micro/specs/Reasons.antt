@@ -1,5 +1,5 @@
 -- Why a microprogram or a store file is refused: what follows the file's name in the message.
-use Rattle.std.specs.Prelude.{ℕ, ◌<◌, ◌^◌, List, ◌++◌, codes, Option, Some, None, option_map, slice_get, unwrap_or}
+use Rattle.std.specs.Prelude.{ℕ, ◌<◌, List, ◌++◌, codes, Option, Some, None, option_map, slice_get, unwrap_or}
 use Rattle.std.specs.Fmt.{decimal}
 use Rattle.mic_base.specs.Digits.{hex_text}
 use Rattle.cli_outside.specs.Messages.{of_file, of_line}
@@ -54,9 +54,9 @@ NamesStatements count (place.FixedWrongHalf s) = s < count
 NamesStatements count (place.FixedClash s t) = (s < count) × (t < count)
 NamesStatements count place.NoRoom = Unit {0}
 
--- the numbers that the refusal names are those of a file, of fewer than 2 ^ 32 bytes, and of a store
+-- the address that the refusal names is one of a store
 abbrev pub NamesPlaces : StoreError → Type 0
 NamesPlaces store.BadMagic = Unit {0}
-NamesPlaces (store.BadLength length) = length < 2 ^ 32
+NamesPlaces (store.BadLength length) = Unit {0}
 NamesPlaces (store.BadWord address) = address < 512
 NamesPlaces store.OutOfMemory = Unit {0}

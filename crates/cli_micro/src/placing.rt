@@ -8,8 +8,8 @@ ghost use Rattle.cli_micro.specs.Answers.{IsMade, IsRefusedText};
 ghost use Rattle.cli_micro.specs.Texts.{counts_line, placement_text, statement_line, statements_text};
 
 use crate::lines::{add_line, store_law, word_text};
-use crate::reasons::{mal_reason, number, place_reason};
-use cli_outside::Refusal;
+use crate::reasons::{mal_reason, place_reason};
+use cli_outside::{Refusal, number, numbered};
 use mal_parser::{MalProgram, parse_mal, print_labelled};
 use mic_base::Line;
 use micro_word::{Machine, Store};
@@ -39,13 +39,9 @@ fn counts_line(program: &MalProgram, constraints: &Constraints) -> Line
     requires { constraints.now ≡ demands_of program.now }
     ensures { result ≡ counts_line program.now }
 {
-    let mut line = Line::new();
-    line.text("statements ");
-    number(&mut line, u32::from(program.len()));
-    line.text(" fixed ");
-    number(&mut line, u32::from(constraints.fixed_count()));
-    line.text(" pairs ");
-    number(&mut line, u32::from(constraints.pair_count()));
+    let mut line = numbered("statements ", u64::from(program.len()));
+    number(&mut line, " fixed ", u64::from(constraints.fixed_count()));
+    number(&mut line, " pairs ", u64::from(constraints.pair_count()));
     line
 }
 
