@@ -1,27 +1,27 @@
 -- How a command ends that first read a program and a microprogram, or failed to.
-use Rattle.std.proofs.Common.{ℕ, List, Option}
+use Rattle.std.proofs.Common.{ℕ, List}
 use Rattle.mic_words.specs.declared.machine.Machine.{Machine}
-use Rattle.console_port.specs.declared.map.MemoryMap.{MemoryMap}
 use Rattle.verifier_facts.specs.Accepted.{VerifiedView}
 use Rattle.mal_parser.specs.Program.{MalView}
 use Rattle.cli_outside.specs.Outside.{LentView, OutsideView, Over}
 use Rattle.cli_outside.specs.Work.{IsHad, IsNotHad}
 use Rattle.cli_programs.specs.Program.{IsAcceptedProgram, IsRefusedProgram}
+use Rattle.cli_boards.specs.declared.job.Job.{Job}
 use Rattle.cli_boards.specs.Own.{NoneChosen}
 use Rattle.cli_boards.specs.Prepared.{Clocked, EndsPrepared, IsPrepared, IsUnprepared, NoMicroprogram, NoProgram, Unprepared}
 
-module _ {machine : Machine} {map : MemoryMap} {file : List ℕ} {own : Option (List ℕ)} {old new : LentView} {status : ℕ} where
-  pub no_program : Over (IsNotHad (IsRefusedProgram map) file) old new status → Over (IsUnprepared machine map file own) old new status
+module _ {machine : Machine} {job : Job (List ℕ)} {old new : LentView} {status : ℕ} where
+  pub no_program : Over (IsNotHad (IsRefusedProgram job.map) job.file) old new status → Over (IsUnprepared machine job) old new status
   no_program over = record { names = over.names; does = NoProgram over.does }
 
-  pub no_microprogram : (program : VerifiedView) → IsHad (IsAcceptedProgram map) file old.seen program → Over (NoneChosen machine own) old new status →
-      Over (IsUnprepared machine map file own) old new status
+  pub no_microprogram : (program : VerifiedView) → IsHad (IsAcceptedProgram job.map) job.file old.seen program →
+      Over (NoneChosen machine job.own) old new status → Over (IsUnprepared machine job) old new status
   no_microprogram program had over = record { names = over.names; does = NoMicroprogram program had over.does }
 
   module _ {Runs : MalView → VerifiedView → OutsideView → OutsideView → ℕ → Type 0} where
-    pub unprepared : Over (IsUnprepared machine map file own) old new status → Over (EndsPrepared machine map Runs file own) old new status
+    pub unprepared : Over (IsUnprepared machine job) old new status → Over (EndsPrepared machine job Runs) old new status
     unprepared over = record { names = over.names; does = Unprepared over.does }
 
-    pub clocked : (micro : MalView) (program : VerifiedView) → IsPrepared machine map file own old.seen micro program → Over (Runs micro program) old new status →
-        Over (EndsPrepared machine map Runs file own) old new status
+    pub clocked : (micro : MalView) (program : VerifiedView) → IsPrepared machine job old.seen micro program → Over (Runs micro program) old new status →
+        Over (EndsPrepared machine job Runs) old new status
     clocked micro program prepared over = record { names = over.names; does = Clocked micro program prepared over.does }

@@ -8,14 +8,14 @@ use Rattle.cli_outside.specs.Status as exits
 use Rattle.cli_outside.specs.Outside.{Said, Says, SinkState, Unsaid}
 
 -- what is printed after a text that was put
-pub says-behind : (old mid new : SinkState) (text rest : List ℕ) (code status : ℕ) → mid.held ≡ option_map (λ held. held ++ text) old.held → mid.faults ≡ old.faults →
+pub says-after : (old mid new : SinkState) (text rest : List ℕ) (code status : ℕ) → mid.held ≡ option_map (λ held. held ++ text) old.held → mid.faults ≡ old.faults →
     Says mid new rest code status → Says old new (text ++ rest) code status
-says-behind old mid new text rest code status put quiet (Said is got flushed same) =
+says-after old mid new text rest code status put quiet (Said is got flushed same) =
     Said is (puts_then {E = Unit {0}} old.held mid.held new.held text rest (Ok (tt {0})) put got) flushed (same ∙ quiet)
-says-behind old mid new text rest code status put quiet (Unsaid is front rose) =
+says-after old mid new text rest code status put quiet (Unsaid is front rose) =
     Unsaid is (puts_then {E = Unit {0}} old.held mid.held new.held text rest (Err (tt {0})) put front) (subst (λ (n : ℕ). Rose n new.faults) quiet rose)
 
 -- nothing is printed after a text that was not put whole
-pub unsaid-behind : {E : Type 0} (old new : SinkState) (text rest : List ℕ) (code status : ℕ) (x : E) → Puts old.held text (Err x) new.held →
+pub unsaid-after : {E : Type 0} (old new : SinkState) (text rest : List ℕ) (code status : ℕ) (x : E) → Puts old.held text (Err x) new.held →
     Rose old.faults new.faults → status ≡ exits.sink → Says old new (text ++ rest) code status
-unsaid-behind old new text rest code status x put rose is = Unsaid is (puts_first {E = Unit {0}} old.held new.held text rest (tt {0}) put) rose
+unsaid-after old new text rest code status x put rose is = Unsaid is (puts_first {E = Unit {0}} old.held new.held text rest (tt {0}) put) rose

@@ -1,25 +1,25 @@
--- How the commands over a board end, from the files that they read: what is done to an outside that is lent.
-use Rattle.std.specs.Prelude.{ℕ, Bool, List, Option, None}
-use Rattle.std.specs.Borrow.{Bor}
-use Rattle.console_port.specs.declared.map.MemoryMap.{MemoryMap}
+-- How the commands over a board end, from the files that they read.
+use Rattle.std.specs.Prelude.{ℕ, Bool, List}
 use Rattle.mic_clock.specs.Meaning.{Meaning}
-use Rattle.cli_outside.specs.Outside.{LentView, Over, name_in}
+use Rattle.cli_outside.specs.Outside.{OutsideView}
+use Rattle.cli_boards.specs.declared.job.Job.{Job}
 use Rattle.cli_boards.specs.Cached.{IsCached}
 use Rattle.cli_boards.specs.OwnRun.{IsOwnRun}
 use Rattle.cli_boards.specs.Prepared.{EndsPrepared}
 use Rattle.cli_boards.specs.Profiled.{IsProfiled}
 use Rattle.cli_boards.specs.Traced.{IsTraced}
 
-module _ {M State : Type 0} (state : M → State) (m : Meaning State) (map : MemoryMap) (bound : ℕ) where
-  abbrev pub TracesOver : Bool → List ℕ → Option (Bor (List ℕ)) → LentView → LentView → ℕ → Type 0
-  TracesOver buses file own = Over (EndsPrepared m.machine map (IsTraced state m bound buses) file (name_in own))
+module _ {M State : Type 0} (state : M → State) (m : Meaning State) where
+  -- with the buses of each cycle, or without
+  abbrev pub EndsTrace : Bool → Job (List ℕ) → OutsideView → OutsideView → ℕ → Type 0
+  EndsTrace buses job = EndsPrepared m.machine job (IsTraced state m job.bound buses)
 
-  abbrev pub ProfilesOver : List ℕ → Option (Bor (List ℕ)) → LentView → LentView → ℕ → Type 0
-  ProfilesOver file own = Over (EndsPrepared m.machine map (IsProfiled state m bound) file (name_in own))
+  abbrev pub EndsProfile : Job (List ℕ) → OutsideView → OutsideView → ℕ → Type 0
+  EndsProfile job = EndsPrepared m.machine job (IsProfiled state m job.bound)
 
-  abbrev pub RunsOver : List ℕ → Option (Bor (List ℕ)) → LentView → LentView → ℕ → Type 0
-  RunsOver file own = Over (EndsPrepared m.machine map (IsOwnRun state m bound) file (name_in own))
+  abbrev pub EndsOwnRun : Job (List ℕ) → OutsideView → OutsideView → ℕ → Type 0
+  EndsOwnRun job = EndsPrepared m.machine job (IsOwnRun state m job.bound)
 
   -- with a cache of this many lines
-  abbrev pub CachesOver : ℕ → List ℕ → LentView → LentView → ℕ → Type 0
-  CachesOver lines file = Over (EndsPrepared m.machine map (IsCached state m lines bound) file None)
+  abbrev pub EndsCache : ℕ → Job (List ℕ) → OutsideView → OutsideView → ℕ → Type 0
+  EndsCache lines job = EndsPrepared m.machine job (IsCached state m lines job.bound)

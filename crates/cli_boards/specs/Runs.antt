@@ -32,8 +32,8 @@ pub record IsLeftBy (end : Option End) (old new : OutsideView) : Type 0 where
   pub flushed : IfSome end (λ e. e ≢ ends.WriteFault → StaysFlushed old.out.held old.out.passed new.out.held new.out.passed)
 
 -- A text is printed after what was put to a sink since some earlier state of it, unless that failed: both count as one printed text.
-abbrev pub SaysBehind : {K E : Type 0} → (K → Option (List ℕ)) → (K → Option (List ℕ)) → (K → ℕ) → Result Unit E → K → K → List ℕ → ℕ → ℕ → Type 0
-SaysBehind held passed faults said old new text code status =
+abbrev pub SaysAfter : {K E : Type 0} → (K → Option (List ℕ)) → (K → Option (List ℕ)) → (K → ℕ) → Result Unit E → K → K → List ℕ → ℕ → ℕ → Type 0
+SaysAfter held passed faults said old new text code status =
     (first : SinkState) (before : List ℕ) → Puts first.held before said (held old) → HasCause first.faults (faults old) said →
     Says first (sink_of held passed faults new) (before ++ text) code status
 
@@ -43,8 +43,8 @@ module _ {M State : Type 0} (state : M → State) (m : Meaning State) where
   report_on end board = report_of end board.counts (m.registers (state board.machine))
 
   -- the report of a board is printed after what was put to a sink, with the end's status
-  abbrev pub ReportsBehind : {K E : Type 0} → (K → Option (List ℕ)) → (K → Option (List ℕ)) → (K → ℕ) → Result Unit E → End → BoardView M → K → K → ℕ → Type 0
-  ReportsBehind held passed faults said end board old new = SaysBehind held passed faults said old new (report_on end board) (status_of end)
+  abbrev pub ReportsAfter : {K E : Type 0} → (K → Option (List ℕ)) → (K → Option (List ℕ)) → (K → ℕ) → Result Unit E → End → BoardView M → K → K → ℕ → Type 0
+  ReportsAfter held passed faults said end board old new = SaysAfter held passed faults said old new (report_on end board) (status_of end)
 
   -- the board at its reset from which a microprogram runs an accepted program
   pub record IsFirstBoard (micro : MalView) (l : Loaded) (program : VerifiedView) (board : BoardView M) : Type 0 where

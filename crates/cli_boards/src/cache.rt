@@ -7,7 +7,7 @@ ghost use Rattle.cli_boards.specs.Runs.{OverPrepared};
 
 use crate::microprogram::Microprogram;
 use crate::preparing::Prepared;
-use crate::report::say_behind;
+use crate::report::say_after;
 use cli_outside::{Outside, Status};
 use cli_run_texts::{clocked_report, status_of};
 use cli_watchers::{CacheWatcher, a_cache_counts_the_run, accesses_in, cache_line};
@@ -91,7 +91,7 @@ pub fn cache_program<M: Clocked + Drop, F: Files, S: Source, K: Sink, E: Sink>(
             let report = clocked_report(end, &board.counts(), &board.registers());
             let said = outside.err.put(report.bytes());
             let line = cache_line(lines, watcher.cache.counts());
-            say_behind(said, line.bytes(), status_of(end), outside.err)
+            say_after(said, line.bytes(), status_of(end), outside.err)
         }
         Err(_) => unreachable!(),
     }

@@ -2,15 +2,17 @@
 
 ghost use Rattle.std.specs.Prelude.{◌≤◌, ◌<◌, ◌^◌};
 ghost use Rattle.console_port.specs.Map.{IsMap};
-ghost use Rattle.cli_boards.specs.Commands.{CachesOver, ProfilesOver, RunsOver, TracesOver};
+ghost use Rattle.cli_outside.specs.Outside.{Over};
+ghost use Rattle.cli_boards.specs.Commands.{EndsCache, EndsOwnRun, EndsProfile, EndsTrace};
+ghost use Rattle.cli_boards.specs.Prepared.{job_in};
 
 use crate::cache::cache_program;
+use crate::job::Job;
 use crate::preparing::prepare;
 use crate::profile::profile_program;
 use crate::run::run_program;
 use crate::trace::trace_program;
 use cli_outside::{Outside, Status};
-use console_port::MemoryMap;
 use mic_base::{Files, Sink, Source};
 use mic_clock::Clocked;
 use std::alloc::Global;
@@ -19,19 +21,16 @@ use std::alloc::Global;
 pub fn trace_file<M: Clocked + Drop, F: Files, S: Source, K: Sink, E: Sink>(
     alloc: Global,
     machine: M,
-    file: &str,
-    own: Option<&str>,
-    bound: u64,
-    map: MemoryMap,
+    job: Job<&str>,
     buses: bool,
     outside: &mut Outside<'_, F, S, K, E>,
 ) -> Status
-    requires bound { bound ≤ 2 ^ 62 }
-    requires map { IsMap map.stack_end }
-    ensures { TracesOver M.state M.meaning map bound buses file.now own.entry outside.old outside.new result.0 }
+    requires bound { job.bound ≤ 2 ^ 62 }
+    requires map { IsMap job.map.stack_end }
+    ensures { Over (EndsTrace M.state M.meaning buses (job_in job.entry)) outside.old outside.new result.0 }
 {
-    match prepare(alloc, machine.machine(), file, own, map, outside) {
-        Ok(prepared) => trace_program(alloc, machine, prepared, bound, buses, outside),
+    match prepare(alloc, machine.machine(), job, outside) {
+        Ok(prepared) => trace_program(alloc, machine, prepared, job.bound, buses, outside),
         Err(status) => status,
     }
 }
@@ -40,39 +39,34 @@ pub fn trace_file<M: Clocked + Drop, F: Files, S: Source, K: Sink, E: Sink>(
 pub fn profile_file<M: Clocked + Drop, F: Files, S: Source, K: Sink, E: Sink>(
     alloc: Global,
     machine: M,
-    file: &str,
-    own: Option<&str>,
-    bound: u64,
-    map: MemoryMap,
+    job: Job<&str>,
     outside: &mut Outside<'_, F, S, K, E>,
 ) -> Status
-    requires bound { bound ≤ 2 ^ 62 }
-    requires map { IsMap map.stack_end }
-    ensures { ProfilesOver M.state M.meaning map bound file.now own.entry outside.old outside.new result.0 }
+    requires bound { job.bound ≤ 2 ^ 62 }
+    requires map { IsMap job.map.stack_end }
+    ensures { Over (EndsProfile M.state M.meaning (job_in job.entry)) outside.old outside.new result.0 }
 {
-    match prepare(alloc, machine.machine(), file, own, map, outside) {
-        Ok(prepared) => profile_program(alloc, machine, prepared, bound, outside),
+    match prepare(alloc, machine.machine(), job, outside) {
+        Ok(prepared) => profile_program(alloc, machine, prepared, job.bound, outside),
         Err(status) => status,
     }
 }
 
-/// Reads a program, and runs it by the microprogram that ships, with a cache of this many lines.
+/// Reads a program and a microprogram, and runs one by the other with a cache of this many lines.
 pub fn cache_file<M: Clocked + Drop, F: Files, S: Source, K: Sink, E: Sink>(
     alloc: Global,
     machine: M,
-    file: &str,
+    job: Job<&str>,
     lines: u16,
-    bound: u64,
-    map: MemoryMap,
     outside: &mut Outside<'_, F, S, K, E>,
 ) -> Status
     requires lines { (0 < lines) × (lines ≤ 4096) }
-    requires bound { bound ≤ 2 ^ 61 }
-    requires map { IsMap map.stack_end }
-    ensures { CachesOver M.state M.meaning map bound lines file.now outside.old outside.new result.0 }
+    requires bound { job.bound ≤ 2 ^ 61 }
+    requires map { IsMap job.map.stack_end }
+    ensures { Over (EndsCache M.state M.meaning lines (job_in job.entry)) outside.old outside.new result.0 }
 {
-    match prepare(alloc, machine.machine(), file, None, map, outside) {
-        Ok(prepared) => cache_program(alloc, machine, prepared, lines, bound, outside),
+    match prepare(alloc, machine.machine(), job, outside) {
+        Ok(prepared) => cache_program(alloc, machine, prepared, lines, job.bound, outside),
         Err(status) => status,
     }
 }
@@ -81,18 +75,15 @@ pub fn cache_file<M: Clocked + Drop, F: Files, S: Source, K: Sink, E: Sink>(
 pub fn run_own_file<M: Clocked + Drop, F: Files, S: Source, K: Sink, E: Sink>(
     alloc: Global,
     machine: M,
-    file: &str,
-    own: Option<&str>,
-    bound: u64,
-    map: MemoryMap,
+    job: Job<&str>,
     outside: &mut Outside<'_, F, S, K, E>,
 ) -> Status
-    requires bound { bound ≤ 2 ^ 62 }
-    requires map { IsMap map.stack_end }
-    ensures { RunsOver M.state M.meaning map bound file.now own.entry outside.old outside.new result.0 }
+    requires bound { job.bound ≤ 2 ^ 62 }
+    requires map { IsMap job.map.stack_end }
+    ensures { Over (EndsOwnRun M.state M.meaning (job_in job.entry)) outside.old outside.new result.0 }
 {
-    match prepare(alloc, machine.machine(), file, own, map, outside) {
-        Ok(prepared) => run_program(alloc, machine, prepared, bound, outside),
+    match prepare(alloc, machine.machine(), job, outside) {
+        Ok(prepared) => run_program(alloc, machine, prepared, job.bound, outside),
         Err(status) => status,
     }
 }

@@ -4,6 +4,7 @@
 mod cache;
 mod choice;
 mod commands;
+mod job;
 mod laws;
 mod microprogram;
 mod preparing;
@@ -14,6 +15,7 @@ mod trace;
 
 pub use cache::cache_program;
 pub use commands::{cache_file, profile_file, run_own_file, trace_file};
+pub use job::Job;
 pub use laws::runs_are_clocked_from_reset;
 pub use microprogram::{Microprogram, placed_microprogram, shipped_microprogram};
 pub use preparing::{Prepared, prepare};

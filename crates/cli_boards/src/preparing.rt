@@ -2,15 +2,14 @@
 
 ghost use Rattle.std.specs.Prelude.{◌≡◌, IfOk, OnOk};
 ghost use Rattle.console_port.specs.Map.{IsMap};
-ghost use Rattle.cli_outside.specs.Outside.{name_in};
 ghost use Rattle.cli_outside.specs.Work.{OverIfErr};
-ghost use Rattle.cli_boards.specs.Prepared.{HasPrepared, IsUnprepared};
+ghost use Rattle.cli_boards.specs.Prepared.{HasPrepared, IsUnprepared, job_in};
 
 use crate::choice::chosen_microprogram;
+use crate::job::Job;
 use crate::microprogram::Microprogram;
 use cli_outside::{Outside, Status};
 use cli_programs::program_in_file;
-use console_port::MemoryMap;
 use ijvm_verifier::VerifiedImage;
 use mic_base::{Files, Sink, Source};
 use micro_word::Machine;
@@ -27,18 +26,16 @@ pub struct Prepared {
 pub fn prepare<F: Files, S: Source, K: Sink, E: Sink>(
     alloc: Global,
     machine: Machine,
-    file: &str,
-    own: Option<&str>,
-    map: MemoryMap,
+    job: Job<&str>,
     outside: &mut Outside<'_, F, S, K, E>,
 ) -> Result<Prepared, Status>
-    requires { IsMap map.stack_end }
-    ensures prepared { IfOk result (HasPrepared machine map file.now (name_in own.entry) outside.old.seen) }
+    requires { IsMap job.map.stack_end }
+    ensures prepared { IfOk result (HasPrepared machine (job_in job.entry) outside.old.seen) }
     ensures machine { IfOk result (λ p. p.micro.program.machine ≡ machine) }
     ensures same { OnOk result (outside.new ≡ outside.old) }
-    ensures unprepared { OverIfErr (IsUnprepared machine map file.now (name_in own.entry)) outside.old outside.new result }
+    ensures unprepared { OverIfErr (IsUnprepared machine (job_in job.entry)) outside.old outside.new result }
 {
-    let program = program_in_file(alloc, file, map, outside)?;
-    let micro = chosen_microprogram(alloc, machine, own, outside)?;
+    let program = program_in_file(alloc, job.file, job.map, outside)?;
+    let micro = chosen_microprogram(alloc, machine, job.own, outside)?;
     Ok(Prepared { program, micro })
 }

@@ -6,7 +6,7 @@ ghost use Rattle.cli_boards.specs.Runs.{OverPrepared};
 
 use crate::microprogram::Microprogram;
 use crate::preparing::Prepared;
-use crate::report::report_behind;
+use crate::report::report_after;
 use cli_outside::{Outside, Status};
 use cli_watchers::{Profiler, put_profile, rows_of};
 use mal_shipped::Loaded;
@@ -52,7 +52,7 @@ pub fn profile_program<M: Clocked + Drop, F: Files, S: Source, K: Sink, E: Sink>
             // Where the last flush failed, the board stands at the end that it came to before.
             let stood = board.ended().unwrap_or(end);
             let said = put_profile(&profiler, stood, &board.counts(), outside.err);
-            report_behind(said, end, &board, outside.err)
+            report_after(said, end, &board, outside.err)
         }
         Err(_) => Status::SINK,
     }

@@ -6,7 +6,7 @@ ghost use Rattle.cli_boards.specs.Runs.{OverPrepared};
 
 use crate::microprogram::Microprogram;
 use crate::preparing::Prepared;
-use crate::report::report_behind;
+use crate::report::report_after;
 use cli_outside::{Outside, Status};
 use cli_watchers::Tracer;
 use mal_shipped::Loaded;
@@ -57,7 +57,7 @@ pub fn trace_program<M: Clocked + Drop, F: Files, S: Source, K: Sink, E: Sink>(
         outside.out,
         outside.err,
     ) {
-        Ok(end) => report_behind(Ok(()), end, &board, outside.err),
+        Ok(end) => report_after(Ok(()), end, &board, outside.err),
         Err(_) => Status::SINK,
     }
 }

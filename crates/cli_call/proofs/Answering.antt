@@ -1,8 +1,8 @@
 -- Each end of a call is one of its answers.
 use Rattle.std.proofs.Common.{◌≡◌, ◌≢◌, ◌∙◌, ◌⊎◌, ℕ, Bool, List, Option, Some, None, refl, sym, ap, subst, arith, inl, inr}
+use Rattle.std.specs.Prelude.{MatchOption}
 use Rattle.mic_words.specs.declared.machine.Machine.{Machine}
 use Rattle.mic_words.specs.declared.machine.Machine.TheVariants.{Mic1, Mic2}
-use Rattle.console_port.specs.declared.map.MemoryMap.{MemoryMap}
 use Rattle.console_port.specs.World.{World}
 use Rattle.mic_clock.specs.declared.end.End.{End}
 use Rattle.mic_clock.specs.declared.end.End.TheVariants as ends
@@ -45,8 +45,11 @@ use Rattle.cli_outside.specs.Work.{Ends, IsNotHad, IsUnread, PrintsTextOf, Write
 use Rattle.cli_outside.specs.Work as work
 use Rattle.cli_run_texts.specs.Ends.{status_of}
 use Rattle.cli_run_texts.specs.Ends as texts
+use Rattle.cli_programs.specs.Answers.{EndsOver}
 use Rattle.cli_programs.specs.Reference.{IsReferenceRun, IsReported}
 use Rattle.cli_programs.specs.Reference as reference
+use Rattle.cli_boards.specs.declared.job.Job.{Job}
+use Rattle.cli_boards.specs.Commands.{EndsOwnRun}
 use Rattle.cli_boards.specs.Own.{IsChosenMicroprogram, NoneChosen}
 use Rattle.cli_boards.specs.Prepared.{EndsPrepared, IsUnprepared}
 use Rattle.cli_boards.specs.Prepared as preparing
@@ -75,7 +78,7 @@ use Rattle.cli_soak.specs.SoakEnds.{SoakEnds}
 use Rattle.cli_soak.specs.SoakEnds as soaking
 use Rattle.cli_call.specs.ClockedEnd.{ClockedEnd}
 use Rattle.cli_call.specs.ClockedEnd as clocking
-use Rattle.cli_call.specs.CallEnds.{CallEnds, EndsOn, EndsOnMachine, EndsRun, PrintsMicro}
+use Rattle.cli_call.specs.CallEnds.{CallEnds, EndsOn, EndsOnMachine, PrintsMicro, job_of, shipped_job_of}
 use Rattle.cli_call.specs.CallEnds as calls
 use Rattle.cli_call.specs.Answers.{Adrift, ConsoleFailed, Done, Ended, FileFailed, HasFileRead, IsAnswer, IsRun, IsFaultless, IsOnlyTold, IsReference, IsUntouched, Misused, NoMemory, OutOfMap, Refused, Runs, RunsOwn, ShortOfMemory, SinkFailed, TakesFile, TooLong}
 
@@ -145,13 +148,13 @@ module _ (asks : Option Asked) (old new : OutsideView) (status : ℕ) where
   on_err_well text code (Unsaid is front rose) answer = SinkFailed (inr rose) is
 
   -- after what it holds already
-  behind_err_well : (err : SinkState) (text : List ℕ) (code : ℕ) → err.faults ≡ old.err.faults → Says err new.err text code status → (new.err.faults ≡ old.err.faults → status ≡ code → Answer) → Answer
-  behind_err_well err text code quiet (Said is got flushed same) answer = answer (same ∙ quiet) is
-  behind_err_well err text code quiet (Unsaid is front rose) answer = SinkFailed (inr (subst (λ faults. Rose faults new.err.faults) quiet rose)) is
+  after_err_well : (err : SinkState) (text : List ℕ) (code : ℕ) → err.faults ≡ old.err.faults → Says err new.err text code status → (new.err.faults ≡ old.err.faults → status ≡ code → Answer) → Answer
+  after_err_well err text code quiet (Said is got flushed same) answer = answer (same ∙ quiet) is
+  after_err_well err text code quiet (Unsaid is front rose) answer = SinkFailed (inr (subst (λ faults. Rose faults new.err.faults) quiet rose)) is
 
-  behind_err : (err : SinkState) (text : List ℕ) (code : ℕ) → err.faults ≡ old.err.faults → Says err new.err text code status → (status ≡ code → Answer) → Answer
-  behind_err err text code quiet (Said is got flushed same) answer = answer is
-  behind_err err text code quiet (Unsaid is front rose) answer = SinkFailed (inr (subst (λ faults. Rose faults new.err.faults) quiet rose)) is
+  after_err : (err : SinkState) (text : List ℕ) (code : ℕ) → err.faults ≡ old.err.faults → Says err new.err text code status → (status ≡ code → Answer) → Answer
+  after_err err text code quiet (Said is got flushed same) answer = answer is
+  after_err err text code quiet (Unsaid is front rose) answer = SinkFailed (inr (subst (λ faults. Rose faults new.err.faults) quiet rose)) is
 
   -- a text is printed on `out`, and nothing else is done
   prints_on : (text : List ℕ) (code : ℕ) (files : FilesState) → files.faults ≡ old.files.faults → PrintsOnOut text code (with_files old files) new status →
@@ -238,16 +241,16 @@ module _ (asks : Option Asked) (old new : OutsideView) (status : ℕ) where
   none_chosen machine None reads h = short h
   none_chosen machine (Some one) reads h = not_had _ one (reads one refl) h
 
-  unprepared : (machine : Machine) (map : MemoryMap) (file : List ℕ) (own : Option (List ℕ)) → HasFileRead asks file → ((one : List ℕ) → own ≡ Some one → HasFileRead asks one) →
-      IsUnprepared machine map file own old new status → Answer
-  unprepared machine map file own reads owns (preparing.NoProgram h) = not_had _ file reads h
-  unprepared machine map file own reads owns (preparing.NoMicroprogram program had h) = none_chosen machine own owns h
+  unprepared : (machine : Machine) (job : Job (List ℕ)) → HasFileRead asks job.file → ((one : List ℕ) → job.own ≡ Some one → HasFileRead asks one) →
+      IsUnprepared machine job old new status → Answer
+  unprepared machine job reads owns (preparing.NoProgram h) = not_had _ job.file reads h
+  unprepared machine job reads owns (preparing.NoMicroprogram program had h) = none_chosen machine job.own owns h
 
-  prepared : (machine : Machine) (map : MemoryMap) (Ran : MalView → VerifiedView → OutsideView → OutsideView → ℕ → Type 0) (file : List ℕ) (own : Option (List ℕ)) →
-      HasFileRead asks file → ((one : List ℕ) → own ≡ Some one → HasFileRead asks one) → EndsPrepared machine map Ran file own old new status →
-      ((micro : MalView) (program : VerifiedView) → IsAccepted program → IsChosenMicroprogram machine own old micro → Ran micro program old new status → Answer) → Answer
-  prepared machine map Ran file own reads owns (preparing.Unprepared h) ran = unprepared machine map file own reads owns h
-  prepared machine map Ran file own reads owns (preparing.Clocked micro program both h) ran = ran micro program both.had.is.accepted both.chosen h
+  prepared : (machine : Machine) (job : Job (List ℕ)) (Ran : MalView → VerifiedView → OutsideView → OutsideView → ℕ → Type 0) →
+      HasFileRead asks job.file → ((one : List ℕ) → job.own ≡ Some one → HasFileRead asks one) → EndsPrepared machine job Ran old new status →
+      ((micro : MalView) (program : VerifiedView) → IsAccepted program → IsChosenMicroprogram machine job.own old micro → Ran micro program old new status → Answer) → Answer
+  prepared machine job Ran reads owns (preparing.Unprepared h) ran = unprepared machine job reads owns h
+  prepared machine job Ran reads owns (preparing.Clocked micro program both h) ran = ran micro program both.had.is.accepted both.chosen h
 
   module _ {M S : Type 0} (state : M → S) (m : Meaning S) (runs : Runs asks) (bound : ℕ) (micro : MalView) (program : VerifiedView) where
     ran_own : RunsOwn asks → IsOwnRun state m bound micro program old new status → Answer
@@ -283,14 +286,14 @@ module _ (asks : Option Asked) (old new : OutsideView) (status : ℕ) where
       IsDebugged state m bound micro program input old new status → Answer
   debugged state m bound micro program input (debugging.NoRoom h) = short h
   debugged state m bound micro program input (debugging.Left l first lines last start gone all same h) =
-      behind_err_well last.seen.err _ _ gone.whole.err h.says
+      after_err_well last.seen.err _ _ gone.whole.err h.says
       (λ err. Done (record {
         files = ap (λ (f : FilesState). f.faults) (h.files ∙ gone.whole.files);
         console = same;
         out = ap (λ (o : SinkState). o.faults) h.out ∙ gone.whole.out;
         err = err;
       }))
-  debugged state m bound micro program input (debugging.Cut l first lines last start gone cut rose h) = behind_err last.seen.err _ _ gone.whole.err h.says (ConsoleFailed rose)
+  debugged state m bound micro program input (debugging.Cut l first lines last start gone cut rose h) = after_err last.seen.err _ _ gone.whole.err h.says (ConsoleFailed rose)
   debugged state m bound micro program input (debugging.Stopped l first lines line mid start gone front cut same is) =
       SinkFailed (either_of mid.seen.out.faults old.out.faults mid.seen.err.faults old.err.faults new.out.faults new.err.faults gone.whole.out gone.whole.err cut.rose) is
 
@@ -360,13 +363,14 @@ module _ (shipped : ShippedEnd) (a : Asked) (old new : OutsideView) (status : �
   module _ {M S : Type 0} (state : M → S) (m : Meaning S) (IsReady : ℕ → List ℕ → ℕ → S → World → Type 0) (IsShipped : List ℕ → Type 0) (entry : ℕ) (timing : Timing)
       (law : EndsAsDefined state m (HasShipped m.machine) 0x002 timing) where
     ran_by : (own : Option (List ℕ)) → a.micro ≡ own → a.command ≡ name.Run →
-        EndsRun state m IsReady IsShipped entry timing a.file own a.bound a.map old new status → IsAnswer (Some a) old new status
+        MatchOption own (EndsOver a.map (ClockedEnd state m IsReady IsShipped entry timing a.bound) a.file old new status)
+        (λ own. EndsOwnRun state m (job_of a) old new status) → IsAnswer (Some a) old new status
     ran_by None own is h =
         over (Some a) old new status _ _ _ a.file (has_file name.Run is refl) h
         (clocked (Some a) old new status state m IsReady IsShipped entry timing (runs_by name.Run is tt) a.bound)
     ran_by (Some one) own is h =
         let runs = runs_by name.Run is tt in
-        prepared (Some a) old new status m.machine a.map _ a.file (Some one) (has_file name.Run is refl) (λ name same. inr (inl (own ∙ same))) h
+        prepared (Some a) old new status m.machine (job_of a) _ (has_file name.Run is refl) (λ name same. inr (inl same)) h
         (λ micro program accepted chosen. ran_own (Some a) old new status state m runs a.bound micro program (owns_by runs one own))
 
     on_machine : (command : CommandName) → a.command ≡ command → EndsOn state m IsReady IsShipped entry timing command a old new status → IsAnswer (Some a) old new status
@@ -376,16 +380,16 @@ module _ (shipped : ShippedEnd) (a : Asked) (old new : OutsideView) (status : �
     on_machine name.Run is h = ran_by a.micro refl is h
     on_machine name.Trace is h =
         let runs = runs_by name.Trace is tt in
-        prepared (Some a) old new status m.machine a.map _ a.file a.micro (has_file name.Trace is refl) (λ one is. inr (inl is)) h
+        prepared (Some a) old new status m.machine (job_of a) _ (has_file name.Trace is refl) (λ one is. inr (inl is)) h
         (λ micro program accepted chosen. ran_traced (Some a) old new status state m runs a.bound micro program
         (stays state m shipped.listed timing law (Some a) old new a.bound a.micro micro program chosen (owns_by runs)) a.buses)
     on_machine name.Profile is h =
         let runs = runs_by name.Profile is tt in
-        prepared (Some a) old new status m.machine a.map _ a.file a.micro (has_file name.Profile is refl) (λ one is. inr (inl is)) h
+        prepared (Some a) old new status m.machine (job_of a) _ (has_file name.Profile is refl) (λ one is. inr (inl is)) h
         (λ micro program accepted chosen. ran_profiled (Some a) old new status state m runs a.bound micro program
         (stays state m shipped.listed timing law (Some a) old new a.bound a.micro micro program chosen (owns_by runs)))
     on_machine name.Debug is h =
-        prepared (Some a) old new status m.machine a.map _ a.file a.micro (has_file name.Debug is refl) (λ one is. inr (inl is)) h
+        prepared (Some a) old new status m.machine (job_of a) _ (has_file name.Debug is refl) (λ one is. inr (inl is)) h
         (λ micro program accepted chosen ended. with_input (Some a) old new status _ a.input (λ one is. inr (inr is)) ended
         (debugged (Some a) old new status state m a.bound micro program))
     on_machine name.Reference is h =
@@ -400,12 +404,12 @@ module _ (shipped : ShippedEnd) (a : Asked) (old new : OutsideView) (status : �
             over (Some a) old new status _ _ _ file (inr (inl own)) h (λ text h. prints_on (Some a) old new status _ _ old.files refl h Done)
     on_machine name.Soak is h = soaked (Some a) old new status state m IsReady IsShipped entry timing (runs_by name.Soak is tt) a.seed a.size h
     on_machine name.Cache is h =
-        prepared (Some a) old new status Mic1 a.map _ a.file None (has_file name.Cache is refl) (λ one is. absurd (let none : None ≡ Some one = is in cc)) h
+        prepared (Some a) old new status Mic1 (shipped_job_of a) _ (has_file name.Cache is refl) (λ one is. absurd (let none : None ≡ Some one = is in cc)) h
         (λ micro program accepted chosen. ran_cached (Some a) old new status micro_of1 mic1_meaning (runs_by name.Cache is tt) a.bound micro program
         (stays micro_of1 mic1_meaning shipped.listed (timing_of Mic1) shipped.mic1 (Some a) old new a.bound None micro program chosen
         (λ name is. absurd (let none : None ≡ Some name = is in cc))) a.lines)
     on_machine name.Rewind is h =
-        prepared (Some a) old new status m.machine a.map _ a.file None (has_file name.Rewind is refl) (λ one is. absurd (let none : None ≡ Some one = is in cc)) h
+        prepared (Some a) old new status m.machine (shipped_job_of a) _ (has_file name.Rewind is refl) (λ one is. absurd (let none : None ≡ Some one = is in cc)) h
         (λ micro program accepted chosen ended. with_input (Some a) old new status _ a.input (λ one is. inr (inr is)) ended
         (rewound (Some a) old new status state m a.depth micro program))
     on_machine name.Compile is h = over (Some a) old new status _ _ _ a.file (has_file name.Compile is refl) h (λ program. written (Some a) old new status _ _ _)

@@ -1,10 +1,13 @@
 -- A call ends as its words ask.
-use Rattle.std.proofs.Common.{◌≡◌, ℕ, None, Some, Option, subst, sym}
-use Rattle.std.specs.Prelude.{option_map}
+use Rattle.std.proofs.Common.{◌≡◌, ℕ, List, None, Some, Option, ap, subst, sym}
+use Rattle.std.specs.Prelude.{MatchOption}
 use Rattle.std.specs.Borrow.{Bor}
+use Rattle.console_port.specs.World.{World}
 use Rattle.mal_shipped.specs.Shipped.{HasShipped}
+use Rattle.mic_clock.specs.Meaning.{Meaning}
+use Rattle.ijvm_meaning.specs.Cost.{Timing}
 use Rattle.mic_words.specs.declared.machine.Machine.TheVariants.{Mic2}
-use Rattle.mic3_datapath.specs.Mic3.{mic3_meaning, IsReady}
+use Rattle.mic3_datapath.specs.Mic3.{mic3_meaning, IsReady as IsReady3}
 use Rattle.mic3_datapath.specs.View.{pipeline_of}
 use Rattle.mic3_interpreter.specs.Timing.{mic3_timing}
 use Rattle.cli_words.specs.Reading.{Text}
@@ -13,9 +16,11 @@ use Rattle.cli_words.specs.declared.request.Processor.TheVariants.{Mic3}
 use Rattle.cli_words.specs.declared.request.Processor.{Processor}
 use Rattle.cli_words.specs.declared.table.CommandName.{CommandName}
 use Rattle.cli_words.specs.declared.request.Request.{Request}
-use Rattle.cli_outside.specs.Outside.{LentView, Over}
+use Rattle.cli_outside.specs.Outside.{LentView, Over, name_in}
 use Rattle.cli_programs.specs.Answers.{EndsOver}
-use Rattle.cli_call.specs.CallEnds.{CallEnds, DoesAsked, Done, EndsAs, EndsOnMachine, EndsRun}
+use Rattle.cli_boards.specs.declared.job.Job.{Job}
+use Rattle.cli_boards.specs.Commands.{EndsOwnRun}
+use Rattle.cli_call.specs.CallEnds.{CallEnds, DoesAsked, Done, EndsAs, EndsOnMachine, EndsRun, job_of}
 use Rattle.cli_call.specs.ClockedEnd.{ClockedEnd}
 
 pub call_ends : {words asks : Option Asked} {old new : LentView} {status : ℕ} → words ≡ asks → Over (EndsAs asks) old new status → Over (CallEnds words) old new status
@@ -29,16 +34,30 @@ on_machine r p {old = old} {new = new} {status = status} is ends = record {
   does = subst (λ (q : Processor). EndsOnMachine q r.command (asked r) old.seen new.seen status) (sym is) ends.does;
 }
 
+-- `run` by the microprogram that ships is a run, and so is one by a person's own
+module _ {M S : Type 0} (state : M → S) (m : Meaning S) (IsReady : ℕ → List ℕ → ℕ → S → World → Type 0) (IsShipped : List ℕ → Type 0) (entry : ℕ) (timing : Timing)
+    (job : Job Text) (old new : LentView) (status : ℕ) where
+  abbrev RunsBy : Option Text → Type 0
+  RunsBy own =
+      MatchOption own (EndsOver job.map (ClockedEnd state m IsReady IsShipped entry timing job.bound) job.file old.seen new.seen status)
+      (λ own. EndsOwnRun state m job old.seen new.seen status)
+
+  pub ran_shipped : job.own ≡ None → Over (EndsOver job.map (ClockedEnd state m IsReady IsShipped entry timing job.bound) job.file) old new status →
+      Over (EndsRun state m IsReady IsShipped entry timing job) old new status
+  ran_shipped none ends = record { names = ends.names; does = subst RunsBy (sym none) ends.does }
+
+  pub ran_own : (name : Text) → job.own ≡ Some name → Over (EndsOwnRun state m job) old new status →
+      Over (EndsRun state m IsReady IsShipped entry timing job) old new status
+  ran_own name own ends = record { names = ends.names; does = subst RunsBy (sym own) ends.does }
+
 -- what is asked of Mic-3 is a run by the microprogram that ships
 pub run_ends : (r : Request (Bor Text)) {old new : LentView} {status : ℕ} → HasLimits r → r.processor ≡ Mic3 →
-    Over (EndsOver r.map (ClockedEnd pipeline_of mic3_meaning IsReady (HasShipped Mic2) 0x002 mic3_timing r.bound) r.file.now) old new status →
+    Over (EndsOver r.map (ClockedEnd pipeline_of mic3_meaning IsReady3 (HasShipped Mic2) 0x002 mic3_timing r.bound) r.file.now) old new status →
     DoesAsked (asked r) old new status
 run_ends r {old = old} {new = new} {status = status} limits is ends =
     let alone = limits.mic3 is in
-    let ran : EndsRun pipeline_of mic3_meaning IsReady (HasShipped Mic2) 0x002 mic3_timing r.file.now (asked r).micro r.bound r.map old.seen new.seen status =
-    subst (λ (own : Option (Bor Text)). EndsRun pipeline_of mic3_meaning IsReady (HasShipped Mic2) 0x002 mic3_timing r.file.now (option_map (λ own. own.now) own) r.bound r.map
-    old.seen new.seen status) (sym alone.1) ends.does in
+    let ran = ran_shipped pipeline_of mic3_meaning IsReady3 (HasShipped Mic2) 0x002 mic3_timing (job_of (asked r)) old new status (ap name_in alone.1) ends in
     on_machine r Mic3 is (record {
-      names = ends.names;
-      does = subst (λ (c : CommandName). EndsOnMachine Mic3 c (asked r) old.seen new.seen status) (sym alone.0) ran;
+      names = ran.names;
+      does = subst (λ (c : CommandName). EndsOnMachine Mic3 c (asked r) old.seen new.seen status) (sym alone.0) ran.does;
     })

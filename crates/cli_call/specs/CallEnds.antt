@@ -1,9 +1,8 @@
 -- How a call of `mic` ends, by what its words ask for.
-use Rattle.std.specs.Prelude.{ℕ, List, Option, Some, None}
+use Rattle.std.specs.Prelude.{ℕ, List, Option, Some, None, MatchOption}
 use Rattle.mic_words.specs.declared.machine.Machine.{Machine}
 use Rattle.mic_words.specs.declared.machine.Machine.TheVariants.{Mic1, Mic2}
 use Rattle.console_port.specs.World.{World}
-use Rattle.console_port.specs.declared.map.MemoryMap.{MemoryMap}
 use Rattle.mal_parser.specs.ProgramText.{canonical_text}
 use Rattle.mic_clock.specs.Meaning.{Meaning}
 use Rattle.mic1_datapath.specs.Mic1.{mic1_meaning, IsReady as IsReady1}
@@ -31,14 +30,10 @@ use Rattle.cli_program_texts.specs.Summary.{Summarizes}
 use Rattle.cli_programs.specs.Answers.{Assembles, EndsOver}
 use Rattle.cli_programs.specs.Reference.{IsReferenceRun}
 use Rattle.cli_micro.specs.Answers.{MicroAnswers, PrintMicroAnswers}
-use Rattle.cli_boards.specs.Cached.{IsCached}
-use Rattle.cli_boards.specs.OwnRun.{IsOwnRun}
-use Rattle.cli_boards.specs.Prepared.{EndsPrepared}
-use Rattle.cli_boards.specs.Profiled.{IsProfiled}
-use Rattle.cli_boards.specs.Traced.{IsTraced}
-use Rattle.cli_debug.specs.Debugged.{IsDebugged}
-use Rattle.cli_rewind.specs.Rewound.{IsRewound}
-use Rattle.cli_session.specs.Input.{EndsWithInput}
+use Rattle.cli_boards.specs.declared.job.Job.{Job}
+use Rattle.cli_boards.specs.Commands.{EndsCache, EndsOwnRun, EndsProfile, EndsTrace}
+use Rattle.cli_debug.specs.Debugged.{EndsDebug}
+use Rattle.cli_rewind.specs.Rewound.{EndsRewind}
 use Rattle.cli_soak.specs.SoakEnds.{SoakEnds}
 use Rattle.cli_tiny.specs.Answers.{Compiles, EndsOverTiny}
 use Rattle.cli_call.specs.ClockedEnd.{ClockedEnd}
@@ -49,32 +44,39 @@ abbrev pub PrintsMicro : Machine → Option Text → OutsideView → OutsideView
 PrintsMicro machine None = PrintsOnOut (canonical_text (listed_program machine)) exits.done
 PrintsMicro machine (Some file) = PrintMicroAnswers machine file
 
+-- what a command line asks a machine to do, by the microprogram that it names, or always by the one that ships
+
+abbrev pub job_of : Asked → Job Text
+job_of a = record { file = a.file; own = a.micro; bound = a.bound; map = a.map }
+
+abbrev pub shipped_job_of : Asked → Job Text
+shipped_job_of a = record { file = a.file; own = None; bound = a.bound; map = a.map }
+
 -- A machine: its meaning, when its next instruction is ready, its store that ships, where that begins, and what is spent.
 module _ {M S : Type 0} (state : M → S) (m : Meaning S) (IsReady : ℕ → List ℕ → ℕ → S → World → Type 0)
     (IsShipped : List ℕ → Type 0) (entry : ℕ) (timing : Timing) where
   -- `run`, by the microprogram that ships, or by a person's own
-  abbrev pub EndsRun : (file : Text) (own : Option Text) (bound : ℕ) (map : MemoryMap) → OutsideView → OutsideView → ℕ → Type 0
-  EndsRun file None bound map = EndsOver map (ClockedEnd state m IsReady IsShipped entry timing bound) file
-  EndsRun file (Some own) bound map = EndsPrepared m.machine map (IsOwnRun state m bound) file (Some own)
+  abbrev pub EndsRun : Job Text → OutsideView → OutsideView → ℕ → Type 0
+  EndsRun job old new status =
+      MatchOption job.own (EndsOver job.map (ClockedEnd state m IsReady IsShipped entry timing job.bound) job.file old new status)
+      (λ own. EndsOwnRun state m job old new status)
 
   -- how each command ends, on the machine where one is clocked
   abbrev pub EndsOn : CommandName → Asked → OutsideView → OutsideView → ℕ → Type 0
   EndsOn name.Assemble a = Assembles a.target a.file
   EndsOn name.List a = EndsOver a.map (PrintsTextOf Lists) a.file
   EndsOn name.Verify a = EndsOver a.map (PrintsTextOf Summarizes) a.file
-  EndsOn name.Run a = EndsRun a.file a.micro a.bound a.map
-  EndsOn name.Trace a = EndsPrepared m.machine a.map (IsTraced state m a.bound a.buses) a.file a.micro
-  EndsOn name.Profile a = EndsPrepared m.machine a.map (IsProfiled state m a.bound) a.file a.micro
-  EndsOn name.Debug a =
-      EndsPrepared m.machine a.map (λ micro program. EndsWithInput (IsDebugged state m a.bound micro program) a.input) a.file a.micro
+  EndsOn name.Run a = EndsRun (job_of a)
+  EndsOn name.Trace a = EndsTrace state m a.buses (job_of a)
+  EndsOn name.Profile a = EndsProfile state m (job_of a)
+  EndsOn name.Debug a = EndsDebug state m (job_of a) a.input
   EndsOn name.Reference a = EndsOver a.map (IsReferenceRun (machine_of a.processor) a.bound) a.file
   EndsOn name.Micro a = MicroAnswers (machine_of a.processor) a.target a.file
   EndsOn name.PrintMicro a = PrintsMicro (machine_of a.processor) a.micro
   EndsOn name.Soak a = SoakEnds state m IsReady IsShipped entry timing a.seed a.size
   -- always on Mic-1
-  EndsOn name.Cache a = EndsPrepared Mic1 a.map (IsCached micro_of1 mic1_meaning a.lines a.bound) a.file None
-  EndsOn name.Rewind a =
-      EndsPrepared m.machine a.map (λ micro program. EndsWithInput (IsRewound state m a.depth micro program) a.input) a.file None
+  EndsOn name.Cache a = EndsCache micro_of1 mic1_meaning a.lines (shipped_job_of a)
+  EndsOn name.Rewind a = EndsRewind state m a.depth (shipped_job_of a) a.input
   EndsOn name.Compile a = Compiles a.target a.file
   EndsOn name.Tiny a = EndsOverTiny (ClockedEnd state m IsReady IsShipped entry timing a.bound) a.file
 

@@ -2,12 +2,13 @@
 
 ghost use Rattle.std.specs.Prelude.{◌≤◌, ◌^◌};
 ghost use Rattle.console_port.specs.Map.{IsMap};
-ghost use Rattle.cli_outside.specs.Outside.{Over, name_in};
+ghost use Rattle.cli_outside.specs.Outside.{Over};
 ghost use Rattle.cli_programs.specs.Answers.{EndsOver};
+ghost use Rattle.cli_boards.specs.Prepared.{job_in};
 ghost use Rattle.cli_call.specs.CallEnds.{EndsRun};
 ghost use Rattle.cli_call.specs.ClockedEnd.{ClockedEnd};
 
-use cli_boards::run_own_file;
+use cli_boards::{Job, run_own_file};
 use cli_outside::{Outside, Status};
 use cli_programs::program_in_file;
 use cli_run_texts::{clocked_report, status_of};
@@ -20,22 +21,19 @@ use std::alloc::Global;
 /// Runs a file's program by a person's own microprogram, or by the one that ships where none is named.
 pub(crate) fn run_asked<I: Interpreter, F: Files, S: Source, K: Sink, E: Sink>(
     alloc: Global,
-    file: &str,
-    own: Option<&str>,
-    bound: u64,
-    map: MemoryMap,
+    job: Job<&str>,
     outside: &mut Outside<'_, F, S, K, E>,
 ) -> Status
 where
     I::Machine: Drop,
-    requires bound { bound ≤ 2 ^ 62 }
-    requires map { IsMap map.stack_end }
-    ensures { Over (EndsRun I.Machine.state I.Machine.meaning I.Machine.IsReady I.IsShipped I.entry I.timing file.now (name_in own.entry) bound map)
+    requires bound { job.bound ≤ 2 ^ 62 }
+    requires map { IsMap job.map.stack_end }
+    ensures { Over (EndsRun I.Machine.state I.Machine.meaning I.Machine.IsReady I.IsShipped I.entry I.timing (job_in job.entry))
         outside.old outside.new result.0 }
 {
-    match own {
-        None => run_file::<I, F, S, K, E>(alloc, file, bound, map, outside),
-        Some(micro) => run_own_file(alloc, I::machine(), file, Some(micro), bound, map, outside),
+    match job.own {
+        None => run_file::<I, F, S, K, E>(alloc, job.file, job.bound, job.map, outside),
+        Some(_) => run_own_file(alloc, I::machine(), job, outside),
     }
 }
 

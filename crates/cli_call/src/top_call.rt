@@ -9,7 +9,7 @@ use crate::print::print_asked;
 use crate::run::{run_asked, run_file};
 use crate::tiny::run_tiny;
 use crate::usage::misused;
-use cli_boards::{cache_file, profile_file, trace_file};
+use cli_boards::{Job, cache_file, profile_file, trace_file};
 use cli_debug::debug_file;
 use cli_micro::micro;
 use cli_outside::{Outside, Status};
@@ -80,64 +80,37 @@ where
     ensures { Over (EndsOn I.Machine.state I.Machine.meaning I.Machine.IsReady I.IsShipped I.entry I.timing request.entry.command (asked request.entry))
         outside.old outside.new result.0 }
 {
-    let Request {
-        file,
-        micro: own,
-        bound,
-        map,
-        ..
-    } = request;
     let machine = request.processor.machine();
+    let job = Job {
+        file: request.file,
+        own: request.micro,
+        bound: request.bound,
+        map: request.map,
+    };
+    let shipped = Job { own: None, ..job };
+    let file = job.file;
+    let map = job.map;
     match request.command {
         CommandName::Assemble => assemble_file(alloc, file, request.target, outside),
         CommandName::List => list_file(alloc, file, map, outside),
         CommandName::Verify => verify_file(alloc, file, map, outside),
-        CommandName::Run => run_asked::<I, F, S, K, E>(alloc, file, own, bound, map, outside),
-        CommandName::Trace => {
-            trace_file(
-                alloc,
-                I::machine(),
-                file,
-                own,
-                bound,
-                map,
-                request.buses,
-                outside,
-            )
-        }
-        CommandName::Profile => profile_file(alloc, I::machine(), file, own, bound, map, outside),
-        CommandName::Debug => {
-            debug_file(
-                alloc,
-                I::machine(),
-                file,
-                own,
-                request.input,
-                bound,
-                map,
-                outside,
-            )
-        }
-        CommandName::Reference => reference_file(alloc, file, machine, bound, map, outside),
+        CommandName::Run => run_asked::<I, F, S, K, E>(alloc, job, outside),
+        CommandName::Trace => trace_file(alloc, I::machine(), job, request.buses, outside),
+        CommandName::Profile => profile_file(alloc, I::machine(), job, outside),
+        CommandName::Debug => debug_file(alloc, I::machine(), job, request.input, outside),
+        CommandName::Reference => reference_file(alloc, file, machine, job.bound, map, outside),
         CommandName::Micro => micro(alloc, file, request.target, machine, outside),
-        CommandName::PrintMicro => print_asked(alloc, own, machine, outside),
+        CommandName::PrintMicro => print_asked(alloc, job.own, machine, outside),
         CommandName::Soak => soak::<I, F, S, K, E>(alloc, request.seed, request.size, outside),
         CommandName::Cache => {
             let mic1 = Mic1Interpreter::machine();
-            cache_file(alloc, mic1, file, request.lines, bound, map, outside)
+            cache_file(alloc, mic1, shipped, request.lines, outside)
         }
         CommandName::Rewind => {
-            rewind_file(
-                alloc,
-                I::machine(),
-                file,
-                request.input,
-                request.depth,
-                map,
-                outside,
-            )
+            let Request { input, depth, .. } = request;
+            rewind_file(alloc, I::machine(), shipped, input, depth, outside)
         }
         CommandName::Compile => compile_file(alloc, file, request.target, outside),
-        CommandName::Tiny => run_tiny::<I, F, S, K, E>(alloc, file, bound, outside),
+        CommandName::Tiny => run_tiny::<I, F, S, K, E>(alloc, file, job.bound, outside),
     }
 }

@@ -87,8 +87,8 @@ module _ {State : Type 0} (m : Meaning State) (book : Book) (words breaks : List
       ]
 
   -- no moment of a command comes after its end
-  none_behind : (times k n : ℕ) (r : MicroRun State) → IsGoing m book words breaks bound u times k r → IsDone m book words breaks bound u times n r → k ≤ n
-  none_behind times k n r going done =
+  none_after : (times k n : ℕ) (r : MicroRun State) → IsGoing m book words breaks bound u times k r → IsDone m book words breaks bound u times n r → k ≤ n
+  none_after times k n r going done =
       elim (cases_lt n k) [
         | inl below ↦
             (elim done.over [
@@ -116,14 +116,14 @@ module _ {State : Type 0} (m : Meaning State) (rules : Rules) (s : Stand State) 
   printed_first : (plan : Plan) (text whole : List ℕ) (run last : MicroRun State) → Carries m rules (IsPart m rules) plan s text run → Carries m rules (IsWhole m rules) plan s whole last → IsFront text whole
   printed_first (plans.Clock u times) text whole run last b c =
       subst (λ (x : List ℕ). IsFront x whole) (sym b.3) (subst (λ (x : List ℕ). IsFront (printed m rules.book rules.words s.breaks rules.bound u b.0 s.run) x) (sym c.3)
-      (more_printed m rules.book rules.words s.breaks rules.bound u b.0 c.0 s.run (none_behind m rules.book rules.words s.breaks rules.bound u times b.0 c.0 s.run b.1 c.1)))
+      (more_printed m rules.book rules.words s.breaks rules.bound u b.0 c.0 s.run (none_after m rules.book rules.words s.breaks rules.bound u times b.0 c.0 s.run b.1 c.1)))
   printed_first (plans.Show shown) text whole run last b c = subst (IsFront text) (b.1 ∙ sym c.1) (front_same text)
 
   given_first : OnlyGives m → (plan : Plan) (text whole : List ℕ) (run last : MicroRun State) → Carries m rules (IsPart m rules) plan s text run → Carries m rules (IsWhole m rules) plan s whole last →
       IsFront run.world.given last.world.given
   given_first only (plans.Clock u times) text whole run last b c =
       subst (λ (x : MicroRun State). IsFront x.world.given last.world.given) (sym b.2) (subst (λ (x : MicroRun State). IsFront (after m rules.book rules.words s.breaks rules.bound u b.0 s.run).world.given x.world.given) (sym c.2)
-      (more_given m rules.book rules.words s.breaks rules.bound u only b.0 c.0 s.run (none_behind m rules.book rules.words s.breaks rules.bound u times b.0 c.0 s.run b.1 c.1)))
+      (more_given m rules.book rules.words s.breaks rules.bound u only b.0 c.0 s.run (none_after m rules.book rules.words s.breaks rules.bound u times b.0 c.0 s.run b.1 c.1)))
   given_first only (plans.Show shown) text whole run last b c =
       subst (λ (x : MicroRun State). IsFront run.world.given x.world.given) (b.0 ∙ sym c.0) (front_same run.world.given)
 

@@ -1,8 +1,6 @@
 -- How debugging an accepted program ends: what the lines of the console print, and the report; or less, where a fault stopped it.
 use Rattle.std.specs.Prelude.{◌≡◌, ℕ, List, [], Option, None, IfSome}
-use Rattle.std.specs.Borrow.{Bor}
 use Rattle.mic_base.specs.Causes.{Rose}
-use Rattle.console_port.specs.declared.map.MemoryMap.{MemoryMap}
 use Rattle.mic_clock.specs.Meaning.{Meaning}
 use Rattle.mic_clock.specs.View.{BoardView}
 use Rattle.verifier_facts.specs.Accepted.{VerifiedView}
@@ -12,8 +10,9 @@ use Rattle.mic_debugger.specs.Obeys.{session_at}
 use Rattle.mic_debugger.specs.View.{SessionView, listing_of}
 use Rattle.cli_outside.specs.Status as exits
 use Rattle.cli_outside.specs.Messages.{out_of_memory}
-use Rattle.cli_outside.specs.Outside.{LentView, Over, OutsideView, TellsOnErr, name_in}
+use Rattle.cli_outside.specs.Outside.{LentView, Over, OutsideView, TellsOnErr}
 use Rattle.cli_run_texts.specs.Report.{left_report}
+use Rattle.cli_boards.specs.declared.job.Job.{Job}
 use Rattle.cli_boards.specs.Prepared.{EndsPrepared}
 use Rattle.cli_boards.specs.Runs.{IsFirstBoard}
 use Rattle.cli_boards.specs.declared.preparing.Prepared.{Prepared}
@@ -60,10 +59,10 @@ module _ {M State : Type 0} (state : M → State) (m : Meaning State) where
         IsCutShort (debugging state m) line mid new → new.console.faults ≡ old.console.faults → status ≡ exits.sink →
         IsDebugged bound micro program input old new status
 
-  -- what is done to an outside that is lent: of a program and a microprogram that are prepared, and from the files that hold these and the input
+  -- what is done to an outside that is lent, of a program and a microprogram that are prepared
   abbrev pub DebugsPrepared : ℕ → Prepared → List ℕ → LentView → LentView → ℕ → Type 0
   DebugsPrepared bound prepared input = Over (IsDebugged bound prepared.micro.program prepared.program input)
 
-  abbrev pub DebugsOver : MemoryMap → ℕ → List ℕ → Option (Bor (List ℕ)) → Option (Bor (List ℕ)) → LentView → LentView → ℕ → Type 0
-  DebugsOver map bound file own input =
-      Over (EndsPrepared m.machine map (λ micro program. EndsWithInput (IsDebugged bound micro program) (name_in input)) file (name_in own))
+  -- how `debug` ends, from the files that hold these and the input
+  abbrev pub EndsDebug : Job (List ℕ) → Option (List ℕ) → OutsideView → OutsideView → ℕ → Type 0
+  EndsDebug job input = EndsPrepared m.machine job (λ micro program. EndsWithInput (IsDebugged job.bound micro program) input)

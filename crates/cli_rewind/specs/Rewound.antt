@@ -1,9 +1,7 @@
 -- How rewinding an accepted program ends: what the lines of the console print; or less, where a fault stopped it.
-use Rattle.std.specs.Prelude.{◌≡◌, ℕ, List, Option, None}
-use Rattle.std.specs.Borrow.{Bor}
+use Rattle.std.specs.Prelude.{◌≡◌, ℕ, List, Option}
 use Rattle.console_port.specs.World.{World}
 use Rattle.console_port.specs.Bus.{Shows}
-use Rattle.console_port.specs.declared.map.MemoryMap.{MemoryMap}
 use Rattle.mic_clock.specs.Meaning.{Meaning}
 use Rattle.verifier_facts.specs.Accepted.{VerifiedView}
 use Rattle.mal_parser.specs.Program.{MalView}
@@ -11,7 +9,8 @@ use Rattle.mal_shipped.specs.declared.loaded.Loaded.{Loaded}
 use Rattle.mic_image_board.specs.Reset.{reset_run}
 use Rattle.cli_outside.specs.Status as exits
 use Rattle.cli_outside.specs.Messages.{out_of_memory}
-use Rattle.cli_outside.specs.Outside.{LentView, Over, OutsideView, TellsOnErr, name_in}
+use Rattle.cli_outside.specs.Outside.{LentView, Over, OutsideView, TellsOnErr}
+use Rattle.cli_boards.specs.declared.job.Job.{Job}
 use Rattle.cli_boards.specs.Prepared.{EndsPrepared}
 use Rattle.cli_boards.specs.Runs.{IsFirstBoard}
 use Rattle.cli_boards.specs.declared.preparing.Prepared.{Prepared}
@@ -57,10 +56,10 @@ module _ {M State : Type 0} (state : M → State) (m : Meaning State) where
   abbrev pub IsStartOf : ℕ → Prepared → RewindingView M → Type 0
   IsStartOf depth prepared = IsStart depth prepared.micro.program prepared.micro.loaded prepared.program
 
-  -- what is done to an outside that is lent: of what is prepared, and from the files that hold the program and its input
+  -- what is done to an outside that is lent, of a program and a microprogram that are prepared
   abbrev pub RewindsPrepared : ℕ → Prepared → List ℕ → LentView → LentView → ℕ → Type 0
   RewindsPrepared depth prepared input = Over (IsRewound depth prepared.micro.program prepared.program input)
 
-  abbrev pub RewindsOver : MemoryMap → ℕ → List ℕ → Option (Bor (List ℕ)) → LentView → LentView → ℕ → Type 0
-  RewindsOver map depth file input =
-      Over (EndsPrepared m.machine map (λ micro program. EndsWithInput (IsRewound depth micro program) (name_in input)) file None)
+  -- how `rewind` ends, from the files that hold these and the input
+  abbrev pub EndsRewind : ℕ → Job (List ℕ) → Option (List ℕ) → OutsideView → OutsideView → ℕ → Type 0
+  EndsRewind depth job input = EndsPrepared m.machine job (λ micro program. EndsWithInput (IsRewound depth micro program) input)

@@ -1,4 +1,4 @@
-use Rattle.std.proofs.Common.{◌≡◌, ◌∙◌, length, ap, refl, rules}
+use Rattle.std.proofs.Common.{◌≡◌, ◌∙◌, ap, refl, rules}
 use Rattle.mem_cache.specs.declared.counts.CacheCounts.{CacheCounts}
 use Rattle.mic_clock.specs.declared.counts.Counts.{Counts}
 use Rattle.mic_clock.specs.declared.registers.Registers.{Registers}
@@ -44,6 +44,6 @@ returns g c =
           (c.args.prepared.micro.is_loaded.machine ∙ c.requires.machine) kept
           c.in-Ok.watcher.cache.bus.words c.in-Ok.ensures.size
           (watched.saw.kept ∙ ap (λ (k : CacheKept). kept_of kept_after SaysNothing k watched.cycles) c.in-Ok.ensures.kept)
-          c.bytes-in-Ok-run_watched.result.now line c.say_behind.result.0
-          (says_code c.status_of.ensures (c.say_behind.ensures _ (report_on g.M.Clocked.state g.M.Clocked.meaning end last) put c.put-said.ensures.cause)));
+          c.bytes-in-Ok-run_watched.result.now line c.say_after.result.0
+          (says_code c.status_of.ensures (c.say_after.ensures _ (report_on g.M.Clocked.state g.M.Clocked.meaning end last) put c.put-said.ensures.cause)));
     }

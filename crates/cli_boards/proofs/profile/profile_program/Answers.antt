@@ -42,7 +42,7 @@ returns-in-Ok-run_watched g c =
             kept = c.in-Ok-run_watched.ensures.kept;
             left = record { files = refl; cause = cause_of c.in-Ok-run_watched.ensures.goes_on c.in-Ok-reset_board.ensures.reset.end; flushed = flushed_of c.in-Ok-run_watched.ensures.goes_on end refl };
           })
-          c.in-Ok.ensures (c.report_behind.ensures _ (profile_text (profile_of_cycles rows watched.cycles) (unwrap_or last.end end) last.counts) put cause));
+          c.in-Ok.ensures (c.report_after.ensures _ (profile_text (profile_of_cycles rows watched.cycles) (unwrap_or last.end end) last.counts) put cause));
     }
 
 pub returns : goal.returns

@@ -24,7 +24,7 @@ returns-in-Ok-run_watched g c =
             left = record { files = refl; cause = cause_of c.in-Ok-run_watched.ensures.goes_on c.in-Ok.ensures.reset.end; flushed = flushed_of c.in-Ok-run_watched.ensures.goes_on c.in-Ok-run_watched.end refl };
           })
           watched.saw.says
-          (c.report_behind.ensures _ watched.saw.text watched.saw.said (record { later = said.later; failed = tt; quiet = said.quiet })));
+          (c.report_after.ensures _ watched.saw.text watched.saw.said (record { later = said.later; failed = tt; quiet = said.quiet })));
     }
 
 pub returns : goal.returns

@@ -16,7 +16,8 @@ use Rattle.cli_outside.specs.Work.{Did, Ends, NotHad}
 use Rattle.cli_words.specs.Words.{Cache, Run}
 use Rattle.cli_programs.specs.Program.{IsAcceptedProgram, IsRefusedProgram}
 use Rattle.cli_boards.specs.Cached.{IsCached}
-use Rattle.cli_boards.specs.Prepared.{EndsPrepared, Unprepared, Clocked, NoProgram, NoMicroprogram}
+use Rattle.cli_boards.specs.Commands.{EndsCache}
+use Rattle.cli_boards.specs.Prepared.{Unprepared, Clocked, NoProgram, NoMicroprogram}
 use Rattle.cli_call.specs.Agree.{CallsAgree, CountsTheRun, IsQuiet}
 use Rattle.cli_call.specs.CallEnds.{CallEnds, Done, NoRoom}
 use Rattle.cli_call.proofs.Agreeing.{said}
@@ -34,7 +35,7 @@ module _ (one_end : HasOneEnd mic1_meaning) (words : (l : Loaded) → IsLoadedFo
   Caches = IsCached micro_of mic1_meaning lines bound (listed_program Mic1)
 
   -- the microprogram of `cache` is the one that ships
-  ends_over : EndsPrepared Mic1 map (IsCached micro_of mic1_meaning lines bound) file None old cached status' →
+  ends_over : EndsCache micro_of mic1_meaning lines (record { file = file; own = None; bound = bound; map = map }) old cached status' →
       Ends (IsRefusedProgram map) (IsAcceptedProgram map) Caches file old cached status'
   ends_over (Unprepared (NoProgram none)) = NotHad none
   ends_over (Unprepared (NoMicroprogram program had short)) = absurd (quiet'.memory (said old.err cached.err _ _ status' quiet'.err short.says).0)
