@@ -62,9 +62,7 @@ impl<M: Clocked> LineSession for Debugging<M> {
         line: &[u8],
         outside: &mut Outside<'_, F, S, K, E>,
     ) -> Result<bool, SinkFailed> {
-        match answer_line(&mut self.session, line, &mut self.input, outside) {
-            Ok(reply) => Ok(is_quit_reply(reply)),
-            Err(_) => Err(SinkFailed),
-        }
+        let reply = answer_line(&mut self.session, line, &mut self.input, outside)?;
+        Ok(is_quit_reply(reply))
     }
 }

@@ -1,6 +1,6 @@
 -- Where a failing sink breaks a line off.
 use Rattle.std.proofs.Common.{◌≡◌, ◌≢◌, ◌⊎◌, inl, inr, zero, suc, ℕ, ◌+◌, ◌<◌, List, ◌++◌, append_assoc, Option, Some, None, IsSome, refl, sym, ◌∙◌, ap, subst, arith, Result, Ok, Err}
-use Rattle.std.specs.Prelude.{OnOk, IfErr}
+use Rattle.std.specs.Prelude.{OnErr, OnOk, IfErr}
 use Rattle.console_port.specs.Bus.{Stands}
 use Rattle.console_port.specs.declared.fault.BusFault.{BusFault}
 use Rattle.console_port.specs.declared.fault.BusFault.TheVariants as faults
@@ -11,7 +11,8 @@ use Rattle.mic_clock.specs.Meaning.{Meaning}
 use Rattle.mic_clock.specs.Run.{MicroRun, bounded, turn, turns, word_at}
 use Rattle.mic_clock.specs.View.{BoardView}
 use Rattle.mic_clock.specs.Board.{ShowsRun, ShowsAs, IsLedTo, IsTurned, TurnIsCut, NoFault, EndsUncounted}
-use Rattle.mic_base.specs.Causes.{Rose}
+use Rattle.mic_base.specs.Causes.{HasCause, Rose}
+use Rattle.mic_base.specs.Streams.{Puts}
 use Rattle.cli_outside.specs.Outside.{Got, GotInPart, SinkState}
 use Rattle.mic_debugger.specs.declared.plan.Plan.{Plan}
 use Rattle.mic_debugger.specs.declared.plan.Plan.TheVariants as plans
@@ -265,10 +266,11 @@ module _ {M State : Type 0} (state : M → State) (m : Meaning State) (line : Li
 
 module _ {M State : Type 0} (state : M → State) (m : Meaning State) (v : SessionView M) (at : Streams) (err : SinkState) (shown : Shown) where
   -- what is shown carries its plan out
-  pub shown_carried : ((book : Book) → IsBookOf v.listing book →
-      Got at.err.held (shown_text book v.listing.memory (m.registers (state v.board.machine)) v.board.counts v.board.bus.words shown) err.held) → err.faults ≡ at.err.faults →
-      IsCarriedOut state m v v.board at (record at { err = err }) (plans.Show shown)
-  shown_carried puts quiet =
+  pub shown_whole : {X : Type 0} (result : Result Unit X) → ((book : Book) → IsBookOf v.listing book →
+      Puts at.err.held (shown_text book v.listing.memory (m.registers (state v.board.machine)) v.board.counts v.board.bus.words shown) result err.held) →
+      HasCause at.err.faults err.faults result → OnOk result (IsCarriedOut state m v v.board at (record at { err = err }) (plans.Show shown))
+  shown_whole (Err e) puts cause = tt
+  shown_whole (Ok done) puts cause =
       record {
         led = λ well book is_book. (
           shown_text book v.listing.memory (m.registers (state v.board.machine)) v.board.counts v.board.bus.words shown,
@@ -277,14 +279,15 @@ module _ {M State : Type 0} (state : M → State) (m : Meaning State) (v : Sessi
         );
         stopped = λ none read. absurd (cc);
         unbroken = λ none write. cc;
-        sinks = record { flushed = λ h. h; out = refl; err = quiet };
+        sinks = record { flushed = λ h. h; out = refl; err = cause.quiet };
       }
 
   -- where `err` fails, it breaks the plan off
-  pub shown_broken : ((book : Book) → IsBookOf v.listing book →
-      GotInPart at.err.held (shown_text book v.listing.memory (m.registers (state v.board.machine)) v.board.counts v.board.bus.words shown) err.held) → Rose at.err.faults err.faults →
-      IsPlanBroken state m v v.board at (record at { err = err }) (plans.Show shown)
-  shown_broken puts rose =
+  pub shown_in_part : {X : Type 0} (result : Result Unit X) → ((book : Book) → IsBookOf v.listing book →
+      Puts at.err.held (shown_text book v.listing.memory (m.registers (state v.board.machine)) v.board.counts v.board.bus.words shown) result err.held) →
+      HasCause at.err.faults err.faults result → OnErr result (IsPlanBroken state m v v.board at (record at { err = err }) (plans.Show shown))
+  shown_in_part (Ok done) puts cause = tt
+  shown_in_part (Err e) puts cause =
       record {
         breaks = λ unread book is_book rest fits. (
           rest,
@@ -299,7 +302,7 @@ module _ {M State : Type 0} (state : M → State) (m : Meaning State) (v : Sessi
                 err = subst (λ (t : List ℕ). GotInPart at.err.held t err.held) (same_shown state m book v at.input.left at.out.held r here shown) (puts book is_book);
               },
         );
-        failed = inr rose;
+        failed = inr cause.failed;
       }
 
 -- a flush leaves a board where it stood

@@ -13,7 +13,6 @@ ghost use Rattle.mic_debugger.specs.Obeys.{IsCarriedOut, IsPlanBroken, session_a
 ghost use Rattle.mic_debugger.specs.Outcome.{KeepFronts, streams};
 ghost use Rattle.mic_debugger.specs.declared.plan.Plan.TheVariants as plans;
 
-use crate::fault::SessionFault;
 use crate::listing::Listing;
 use crate::pieces::{put_two, registers_line};
 use crate::until::{Until, Watched};
@@ -147,7 +146,7 @@ impl Clocking<'_> {
         input: &mut S,
         out: &mut K,
         err: &mut E,
-    ) -> Result<bool, SessionFault>
+    ) -> Result<bool, SinkFailed>
         requires ready { (board.old.end ≡ None) × (board.old.counts.cycles ≤ 2 ^ 62 + 4096) }
         ensures turn { IsTurned M.state M.meaning (S.left input.old) (K.held out.old) board.old (S.left input.new)
             (K.held out.new) board.new (Some self.now.bound) }
@@ -165,12 +164,12 @@ impl Clocking<'_> {
         let mpc = board.mpc();
         board.turn(self.bound, input, out);
         if board.ended() == Some(End::WriteFault) {
-            return Err(SessionFault::WriteFault);
+            return Err(SinkFailed);
         }
         let came = board.ended().is_none() && self.comes(&board.counts(), board.bus());
         match self.print(mpc, board, err) {
             Ok(()) => Ok(came),
-            Err(_) => Err(SessionFault::WriteFault),
+            Err(failed) => Err(failed),
         }
     }
 
@@ -182,7 +181,7 @@ impl Clocking<'_> {
         input: &mut S,
         out: &mut K,
         err: &mut E,
-    ) -> Result<(), SessionFault>
+    ) -> Result<(), SinkFailed>
         requires live { board.old.end ≡ None }
         requires bound { self.now.bound ≤ 2 ^ 62 }
         requires in_time { InTime (2 ^ 62) board.old.counts (M.meaning.is_boundary (M.state board.old.machine)) board.old.end }

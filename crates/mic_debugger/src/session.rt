@@ -170,10 +170,7 @@ impl<M: Clocked> Session<M> {
         ensures keeps { KeepsFront (E.held err.old) (E.held err.new) }
         ensures cause { HasCause (E.faults err.old) (E.faults err.new) result }
     {
-        let mpc = self.board.mpc();
-        let registers = self.board.registers();
-        prove!(mpc == registers.mpc);
-        err.put(state_text(&registers).bytes())
+        err.put(state_text(&self.board.registers()).bytes())
     }
 
     /// Puts where the run stands.
@@ -222,7 +219,7 @@ impl<M: Clocked> Session<M> {
         input: &mut S,
         out: &mut K,
         err: &mut E,
-    ) -> Result<(), SessionFault>
+    ) -> Result<(), SinkFailed>
         requires { (u : Until) (times : ℕ) → plan ≡ Plan.Clock u times → self.old.board.end ≡ None }
         ensures done { OnOk result (IsCarriedOut M.state M.meaning self.old self.new.board
             (streams S.left S.faults input.old K.held K.passed K.faults out.old E.held E.passed E.faults err.old)
@@ -245,15 +242,12 @@ impl<M: Clocked> Session<M> {
                 };
                 clocking.clock(times, &mut self.board, input, out, err)
             }
-            Plan::Show(shown) => match self.show(shown, err) {
-                Ok(()) => Ok(()),
-                Err(_) => Err(SessionFault::WriteFault),
-            },
+            Plan::Show(shown) => self.show(shown, err),
         }
     }
 
     /// Puts what the console keeps, and passes the answers on.
-    fn flush<K: Sink, E: Sink>(&mut self, out: &mut K, err: &mut E) -> Result<(), SessionFault>
+    fn flush<K: Sink, E: Sink>(&mut self, out: &mut K, err: &mut E) -> Result<(), SinkFailed>
         ensures shows { OnOk result (ShowsAs M.state (K.held out.old) self.old.board (K.held out.new) self.new.board (λ r. r)) }
         ensures front { OnErr result (HoldsFront M.state (K.held out.old) self.old.board (K.held out.new)) }
         ensures kept { self.new.board.bus.console.kept ≡ [] }
@@ -264,13 +258,10 @@ impl<M: Clocked> Session<M> {
         ensures passed { OnOk result (IsFlushed (E.held err.new) (E.passed err.new)) }
         ensures cause { HasSinkCause (K.faults out.old) (K.faults out.new) (E.faults err.old) (E.faults err.new) result }
     {
-        match self.board.flush(out) {
-            Ok(()) => match err.flush() {
-                Ok(()) => Ok(()),
-                Err(_) => Err(SessionFault::WriteFault),
-            },
-            Err(_) => Err(SessionFault::WriteFault),
+        if self.board.flush(out).is_err() {
+            return Err(SinkFailed);
         }
+        err.flush()
     }
 
     /// Does what a line says, and puts the answer to `err`.

@@ -6,7 +6,7 @@ use Rattle.mic_debugger.specs.declared.plan.Plan.TheVariants as plans
 use Rattle.mic_debugger.specs.Obeys.{IsCarriedOut, IsPlanBroken}
 use Rattle.mic_debugger.specs.Outcome.{Streams, streams}
 use Rattle.mic_debugger.specs.View.{SessionView}
-use Rattle.mic_debugger.proofs.Breaking.{shown_broken, shown_carried}
+use Rattle.mic_debugger.proofs.Breaking.{shown_in_part, shown_whole}
 use Rattle.mic_debugger.proofs.session.Session.carry_out.Given.{Over}
 use Rattle.mic_debugger.proofs.session.Session.carry_out.Goals as goal
 
@@ -34,14 +34,14 @@ returns-in-Clock-clause-broken g c =
     (on_err_weaker c.clock.result
     (λ by. subst (λ (v : SessionView g.row.M.Denot). IsPlanBroken g.M.Clocked.state g.M.Clocked.meaning v c.clock.new.board at at' plan) c.self.view_is (by c.self.inside.watched)) broken)
 
-pub returns-in-Ok-clause-done : goal.returns-in-Ok-clause-done
-returns-in-Ok-clause-done g c =
+pub returns-in-Show-clause-done : goal.returns-in-Show-clause-done
+returns-in-Show-clause-done g c =
     rw c.in-Show.is
-    (shown_carried g.M.Clocked.state g.M.Clocked.meaning c.args.self.now (between g c.args.input.now c.args.out.now c.args.err.now)
-    (sink_of g.E.Sink.held g.E.Sink.passed g.E.Sink.faults c.show.new.err) c.in-Show.shown c.in-Ok.ensures.puts c.in-Ok.ensures.cause.quiet)
+    (shown_whole g.M.Clocked.state g.M.Clocked.meaning c.args.self.now (between g c.args.input.now c.args.out.now c.args.err.now)
+    (sink_of g.E.Sink.held g.E.Sink.passed g.E.Sink.faults c.show.new.err) c.in-Show.shown c.show.result c.show.ensures.puts c.show.ensures.cause)
 
-pub returns-in-Err-clause-broken : goal.returns-in-Err-clause-broken
-returns-in-Err-clause-broken g c =
+pub returns-in-Show-clause-broken : goal.returns-in-Show-clause-broken
+returns-in-Show-clause-broken g c =
     rw c.in-Show.is
-    (shown_broken g.M.Clocked.state g.M.Clocked.meaning c.args.self.now (between g c.args.input.now c.args.out.now c.args.err.now)
-    (sink_of g.E.Sink.held g.E.Sink.passed g.E.Sink.faults c.show.new.err) c.in-Show.shown c.in-Err.ensures.puts c.in-Err.ensures.cause.failed)
+    (shown_in_part g.M.Clocked.state g.M.Clocked.meaning c.args.self.now (between g c.args.input.now c.args.out.now c.args.err.now)
+    (sink_of g.E.Sink.held g.E.Sink.passed g.E.Sink.faults c.show.new.err) c.in-Show.shown c.show.result c.show.ensures.puts c.show.ensures.cause)
