@@ -74,8 +74,8 @@ use Rattle.cli_session.specs.Input.{EndsWithInput, IsNoInput}
 use Rattle.cli_session.specs.Input as inputs
 use Rattle.cli_session.specs.Lines.{most_lines}
 use Rattle.cli_session.specs.Meaning.{AreDone, place}
-use Rattle.cli_soak.specs.SoakEnds.{SoakEnds}
-use Rattle.cli_soak.specs.SoakEnds as soaking
+use Rattle.cli_programs.specs.SoakEnds.{SoakEnds}
+use Rattle.cli_programs.specs.SoakEnds as soaking
 use Rattle.cli_call.specs.ClockedEnd.{ClockedEnd}
 use Rattle.cli_call.specs.ClockedEnd as clocking
 use Rattle.cli_call.specs.CallEnds.{CallEnds, EndsOn, EndsOnMachine, PrintsMicro, job_of, shipped_job_of}

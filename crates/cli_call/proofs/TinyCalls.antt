@@ -25,7 +25,7 @@ use Rattle.cli_outside.specs.Status as exits
 use Rattle.cli_outside.specs.Outside.{OutsideView}
 use Rattle.cli_outside.specs.Work.{Ends}
 use Rattle.cli_run_texts.specs.Ends.{status_of}
-use Rattle.cli_tiny.specs.Refusals.{IsRefusedTiny}
+use Rattle.cli_programs.specs.TinyRefusals.{IsRefusedTiny}
 use Rattle.cli_call.specs.ClockedEnd.{ClockedEnd, CutByRead, CutByWrite, Ran}
 use Rattle.cli_call.specs.ClockedEnd as clocked
 use Rattle.cli_call.specs.Agree.{IsQuiet}

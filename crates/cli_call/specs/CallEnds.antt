@@ -34,8 +34,8 @@ use Rattle.cli_boards.specs.declared.job.Job.{Job}
 use Rattle.cli_boards.specs.Commands.{EndsCache, EndsOwnRun, EndsProfile, EndsTrace}
 use Rattle.cli_debug.specs.Debugged.{EndsDebug}
 use Rattle.cli_rewind.specs.Rewound.{EndsRewind}
-use Rattle.cli_soak.specs.SoakEnds.{SoakEnds}
-use Rattle.cli_tiny.specs.Answers.{Compiles, EndsOverTiny}
+use Rattle.cli_programs.specs.SoakEnds.{SoakEnds}
+use Rattle.cli_programs.specs.TinyAnswers.{Compiles, EndsOverTiny}
 use Rattle.cli_call.specs.ClockedEnd.{ClockedEnd}
 use Rattle.cli_call.specs.Usage.{usage_text}
 

@@ -2,12 +2,12 @@
 
 ghost use Rattle.std.specs.Prelude.{◌≤◌, ◌^◌};
 ghost use Rattle.cli_outside.specs.Outside.{Over};
-ghost use Rattle.cli_tiny.specs.Answers.{EndsOverTiny};
+ghost use Rattle.cli_programs.specs.TinyAnswers.{EndsOverTiny};
 ghost use Rattle.cli_call.specs.ClockedEnd.{ClockedEnd};
 
 use crate::run::run_program;
 use cli_outside::{Outside, Status};
-use cli_tiny::program_in_tiny;
+use cli_programs::program_in_tiny;
 use ijvm_simulation::Interpreter;
 use mic_base::{Files, Sink, Source};
 use std::alloc::Global;

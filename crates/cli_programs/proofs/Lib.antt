@@ -1,3 +1,5 @@
 pub mod Reasons
 pub mod Running
 pub mod OneProgram
+pub mod TinyReasons
+pub mod SoakEnding

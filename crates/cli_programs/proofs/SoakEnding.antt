@@ -1,0 +1,48 @@
+-- How `soak` ends: a plain source and a plain sink never fail, so the run is never cut.
+use Rattle.std.proofs.Common.{◌≡◌, ◌∙◌, ℕ, List, [], length, Option, Some, None, refl, sym, subst}
+use Rattle.mic_base.specs.Causes.{no_rise}
+use Rattle.console_port.specs.World.{World}
+use Rattle.mic_clock.specs.declared.end.End.{End}
+use Rattle.mic_clock.specs.declared.end.End.TheVariants as ends
+use Rattle.mic_clock.specs.Meaning.{Meaning}
+use Rattle.mic_clock.specs.Board.{NoFault, HasEndCause}
+use Rattle.mic_clock.specs.View.{BoardView}
+use Rattle.ijvm_image.specs.Image.{ImageView}
+use Rattle.ijvm_meaning.specs.Cost.{Timing}
+use Rattle.verifier_facts.specs.Accepted.{VerifiedView}
+use Rattle.ijvm_simulation.specs.Simulates.{board_end}
+use Rattle.ijvm_simulation.specs.Headline.{HasRun}
+use Rattle.cli_outside.specs.Outside.{LentView, Over, PrintsOnOut}
+use Rattle.cli_run_texts.specs.Ends.{status_of}
+use Rattle.cli_programs.specs.SoakSummary.{soak_summary}
+use Rattle.cli_programs.specs.SoakEnds.{soak_bound, IsGenerated, SoakEnds, Ran}
+
+some_is : {A : Type 0} → (x y : A) → Some x ≡ Some y → x ≡ y
+some_is x y e = cc
+
+unfailed : (end : Option End) → HasEndCause 0 0 0 0 None end → NoFault None end
+unfailed (Some ends.ReadFault) c = no_rise (c.read refl refl)
+unfailed (Some ends.WriteFault) c = no_rise (c.write refl refl)
+unfailed _ c = tt
+
+module _ {M S : Type 0} (state : M → S) (m : Meaning S) (IsReady : ℕ → List ℕ → ℕ → S → World → Type 0) (IsShipped : List ℕ → Type 0) (entry : ℕ) (timing : Timing) where
+  -- the summary by the end of the definition's run, and by the size of the generated text
+  pub ends_by : (seed size : ℕ) (program : VerifiedView) (begun left : Option (List ℕ)) (board : BoardView M) (end : End) (old new : LentView) (status : ℕ) →
+      IsGenerated seed size program → begun ≡ Some [] →
+      (NoFault None board.end → HasRun state m IsReady IsShipped entry timing program soak_bound begun None left None board) →
+      HasEndCause 0 0 0 0 None board.end → board.end ≡ Some end →
+      Over (PrintsOnOut (soak_summary (length program.image.text) end board.counts (m.registers (state board.machine)).tos) (status_of end)) old new status →
+      Over (SoakEnds state m IsReady IsShipped entry timing seed size) old new status
+  ends_by seed size program begun left board end old new status is none run cause ended prints =
+      let tos : ℕ = (m.registers (state board.machine)).tos in
+      let r : HasRun state m IsReady IsShipped entry timing program soak_bound (Some []) None left None board =
+      subst (λ (x : Option (List ℕ)). HasRun state m IsReady IsShipped entry timing program soak_bound x None left None board) none (run (unfailed board.end cause)) in
+      let agrees : end ≡ board_end r.begins.finish.end = some_is end (board_end r.begins.finish.end) (sym ended ∙ (sym r.end ∙ r.agrees.end)) in
+      let by_end : PrintsOnOut (soak_summary (length program.image.text) (board_end r.begins.finish.end) board.counts tos) (status_of (board_end r.begins.finish.end)) old.seen new.seen status =
+      subst (λ (x : End). PrintsOnOut (soak_summary (length program.image.text) x board.counts tos) (status_of x) old.seen new.seen status) agrees prints.does in
+      record {
+        names = prints.names;
+        does = Ran program is left board r
+            (subst (λ (x : ImageView). PrintsOnOut (soak_summary (length x.text) (board_end r.begins.finish.end) board.counts tos) (status_of (board_end r.begins.finish.end)) old.seen new.seen status)
+            is.image_is by_end);
+      }
