@@ -12,7 +12,7 @@ use Rattle.ijvm_asm.specs.Making.{Declarations, defined, SectionAdds, SectionsDe
 use Rattle.ijvm_asm.proofs.Made.{MakesBody, Makes, may_declare_behind, OpensLocals, SectionsMake}
 use Rattle.ijvm_asm.proofs.Mains.{main_ended, main_opened}
 use Rattle.ijvm_asm.proofs.Methods.{ended, opened}
-use Rattle.ijvm_asm.proofs.Totals.{body_keeps}
+use Rattle.ijvm_asm.proofs.Kept.{body_keeps}
 
 -- ---- a unit
 

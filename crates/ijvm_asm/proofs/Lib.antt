@@ -13,10 +13,7 @@ pub mod Sections
 pub mod Fronts
 pub mod Reasons
 pub mod Opened
-pub mod Bytes
-pub mod Tokens
-pub mod Costs
-pub mod Totals
+pub mod Kept
 pub mod Sound
 pub mod Standing
 pub mod Known

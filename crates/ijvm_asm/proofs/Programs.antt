@@ -1,35 +1,26 @@
--- What a text spells is a program: its entries and its bytes are fewer than the text's own.
-use Rattle.std.proofs.Common.{◌≡◌, ◌+◌, ◌≤◌, List, [], Some, None, subst, arith}
-use Rattle.source_text.specs.Content.{contents}
+-- What a text spells is a program.
+use Rattle.std.proofs.Common.{◌≡◌, List, [], Some, None}
 use Rattle.source_text.specs.Parsing.{IsReadAsSpelled}
-use Rattle.source_text.specs.Text.{SayAll}
 use Rattle.ijvm_program.specs.declared.line.Constant.{Constant}
 use Rattle.ijvm_program.specs.Unit.{UnitView}
 use Rattle.ijvm_program.specs.Program.{IsProgram, ProgramView}
 use Rattle.ijvm_line.specs.declared.place.Place.TheVariants as places
 use Rattle.ijvm_asm.specs.Drafts.{DraftView}
-use Rattle.ijvm_asm.specs.Sections.{lines_of}
 use Rattle.ijvm_asm.specs.Source.{declarations_of, empty, Source}
 use Rattle.ijvm_asm.specs.Names.{constants_of, IsProgramOf}
 use Rattle.ijvm_asm.specs.ReadingNames.{missing, unit_of, units_from}
 use Rattle.ijvm_asm.specs.Adding.{IsRead, parser}
 use Rattle.ijvm_asm.specs.Text.{grammar}
-use Rattle.ijvm_asm.proofs.Bytes.{contents_bytes}
-use Rattle.ijvm_asm.proofs.Costs.{all_cost, costs}
 use Rattle.ijvm_asm.proofs.Resolved.{is_program}
 use Rattle.ijvm_asm.proofs.Sections.{made_of}
 use Rattle.ijvm_asm.proofs.Sound.{made_sound}
-use Rattle.ijvm_asm.proofs.Totals.{sections_total, total}
 use Rattle.ijvm_asm.proofs.WholeSource.{ends_outside, is_program_of}
 
 read_program : IsReadAsSpelled grammar parser empty → (s : Source) (p : ProgramView) → IsRead s → s.place ≡ places.Outside → IsProgramOf (declarations_of s) p → IsProgram p
-read_program laws s p (text, few, led) outside is =
+read_program laws s p (text, led) outside is =
     let r = laws.says text s led in
     let w = made_of r.0 s r.2 outside in
-    let a : total s ≤ 0 + costs (lines_of w.sections) = sections_total w.sections 1 empty s w.made in
-    let b = all_cost (contents text) (lines_of w.sections) (subst (SayAll grammar (contents text)) w.are r.1) in
-    let c = contents_bytes text in
-    is_program s (made_sound w.sections s w.made) (omega (arith, few, a, b, c)) p is
+    is_program s (made_sound w.sections s w.made) p is
 
 -- constants, main and methods of what was read
 pub parts_are_program : IsReadAsSpelled grammar parser empty → (s : Source) (cs : List Constant) (u : DraftView) (v : UnitView) (us : List UnitView) → IsRead s → missing s ≡ None → s.main ≡ Some u

@@ -1,20 +1,15 @@
--- The program that a sound source is, where its entries and its bytes are few enough, keeps what holds of each program.
-use Rattle.std.proofs.Common.{◌≡◌, ℕ, suc, ◌+◌, ◌<◌, ◌≤◌, ◌^◌, List, [], ◌∷◌, map, take, drop, length, Option, Some, None, refl, ap, sym, subst, ◌∙◌, arith, length-append}
-use Rattle.std.specs.Prelude.{All, IsSome, IsSomeAnd, sum_by}
+-- The program that a sound source is keeps what holds of each program.
+use Rattle.std.proofs.Common.{◌≡◌, ℕ, suc, ◌<◌, List, [], ◌∷◌, map, take, drop, length, Option, Some, None, refl, ap, sym, subst, ◌∙◌, arith, length-append}
+use Rattle.std.specs.Prelude.{All, IsSome, IsSomeAnd}
 use Rattle.std.specs.List.{slice_get, zip}
 use Rattle.std.proofs.lemmas.List.{take-append-drop}
 use Rattle.std.proofs.lemmas.List.Elements.{All-cons, All-nil}
-use Rattle.std.proofs.lemmas.List.Sums.{sum_by-cons}
 use Rattle.std.proofs.lemmas.Option.{get_or_from_slice_get, slice_get_within}
 use Rattle.source_text.specs.Below.{place_below}
 use Rattle.ijvm_program.specs.declared.line.CodeLine.{CodeLine}
 use Rattle.ijvm_program.specs.declared.line.Constant.{Constant}
-use Rattle.ijvm_program.specs.declared.line.Jump.{Jump}
-use Rattle.ijvm_program.specs.declared.line.Jump.TheVariants as jumps
 use Rattle.ijvm_program.specs.declared.line.Label.{Label}
 use Rattle.ijvm_program.specs.declared.line.Operation.{Operation}
-use Rattle.ijvm_program.specs.declared.line.Operation.TheVariants as operations
-use Rattle.ijvm_program.specs.Layout.{code_size, line_size, method_size}
 use Rattle.ijvm_program.specs.Program.{IsProgram, IsUnit, NamesPosition, ProgramView}
 use Rattle.ijvm_program.specs.Unit.{UnitView}
 use Rattle.ijvm_line.specs.declared.instruction.Instruction.{Instruction}
@@ -23,9 +18,7 @@ use Rattle.ijvm_asm.specs.declared.draft.DraftLine.{DraftLine}
 use Rattle.ijvm_asm.specs.Drafts.{DraftView}
 use Rattle.ijvm_asm.specs.Source.{declarations_of, Source}
 use Rattle.ijvm_asm.specs.Names.{IsLineOf, IsProgramOf, IsUnitOf, Pairwise, StandsFor}
-use Rattle.ijvm_asm.proofs.Costs.{access_size, increment_instr_size, instruction_size}
 use Rattle.ijvm_asm.proofs.Sound.{Drafted, IsMain, IsMethod, Sound}
-use Rattle.ijvm_asm.proofs.Totals.{lines_size, main_total, total, units_total}
 
 element : {A : Type 0} (P : A → Type 0) (xs : List A) (i : ℕ) (x : A) → All P xs → slice_get xs i ≡ Some x → P x
 element P xs i x all e = subst P (get_or_from_slice_get xs i x x e) (all i x (slice_get_within xs i x e))
@@ -39,40 +32,28 @@ module _ (constants methods : List (List ℕ)) (u : DraftView) (d : Drafted u) w
   abbrev m : ℕ
   m = length methods
 
+  abbrev Names : Operation → Type 0
+  Names o = NamesPosition c m (length u.lines) o
+
   abbrev Good : CodeLine → Type 0
-  Good line = NamesPosition c m (length u.lines) line.operation
+  Good line = Names line.operation
 
-  abbrev Fits : ℕ → Operation → Type 0
-  Fits size o = NamesPosition c m (length u.lines) o × (line_size (record { line = 0; operation = o }) ≤ size)
+  operation_named : (i : Instruction) (o : Operation) → StandsFor constants methods u i o → Names o
+  operation_named (instructions.Plain instr) o q = subst Names (sym q) tt
+  operation_named (instructions.Constant name) o (i, e, q) = subst Names (sym q) (place_below constants name i e)
+  operation_named (instructions.Local access wide name) o (i, l, q) = subst Names (sym q) tt
+  operation_named (instructions.Increment wide name by) o (i, l, q) = subst Names (sym q) tt
+  operation_named (instructions.Jump jump label) o (i, (place, e, f), q) =
+      subst Names (sym q) (element (λ at. at < length u.lines) u.label_positions place i d.label_positions f)
+  operation_named (instructions.Call name) o (i, e, q) = subst Names (sym q) (place_below methods name i e)
 
-  jump_size : (jump : Jump) (target : ℕ) → line_size (record { line = 0; operation = operations.To jump target }) ≤ 3
-  jump_size jumps.Ifeq target = omega arith
-  jump_size _ target = omega arith
-
-  operation_fits : (i : Instruction) (o : Operation) → StandsFor constants methods u i o → Fits (instruction_size i) o
-  operation_fits (instructions.Plain instr) o q = subst (Fits (instruction_size (instructions.Plain instr))) (sym q) (tt, omega arith)
-  operation_fits (instructions.Constant name) o (i, e, q) = subst (Fits 3) (sym q) (place_below constants name i e, omega arith)
-  operation_fits (instructions.Local access wide name) o (i, l, q) = subst (Fits 4) (sym q) (tt, access_size access wide i)
-  operation_fits (instructions.Increment wide name by) o (i, l, q) = subst (Fits 6) (sym q) (tt, increment_instr_size wide i by)
-  operation_fits (instructions.Jump jump label) o (i, (place, e, f), q) =
-      subst (Fits 3) (sym q) (element (λ at. at < length u.lines) u.label_positions place i d.label_positions f, jump_size jump i)
-  operation_fits (instructions.Call name) o (i, e, q) = subst (Fits 3) (sym q) (place_below methods name i e, omega arith)
-
-  abbrev LinesFit : List DraftLine → List CodeLine → Type 0
-  LinesFit ds out = All Good out × (length out ≡ length ds) × (code_size out ≤ lines_size ds)
-
-  lines_fit : (ds : List DraftLine) (out : List CodeLine) → Pairwise (IsLineOf constants methods u) ds out → LinesFit ds out
-  lines_fit [] [] w = (All-nil Good, refl, omega arith)
-  lines_fit [] (l ∷ out) w = absurd w
-  lines_fit (d ∷ ds) [] w = absurd w
-  lines_fit (d ∷ ds) (l ∷ out) (w, more) =
-      let f = operation_fits d.instruction l.operation w.operation in
-      let r = lines_fit ds out more in
-      let n = r.1 in
-      let s = r.2 in
-      let t : line_size l ≤ instruction_size d.instruction = f.1 in
-      let b : code_size (l ∷ out) ≡ line_size l + code_size out = sum_by-cons line_size l out in
-      (All-cons Good l out f.0 r.0, omega (arith, n), omega (arith, s, t, b))
+  lines_named : (ds : List DraftLine) (out : List CodeLine) → Pairwise (IsLineOf constants methods u) ds out → All Good out × (length out ≡ length ds)
+  lines_named [] [] w = (All-nil Good, refl)
+  lines_named [] (l ∷ out) w = absurd w
+  lines_named (d ∷ ds) [] w = absurd w
+  lines_named (d ∷ ds) (l ∷ out) (w, more) =
+      let r = lines_named ds out more in
+      (All-cons Good l out (operation_named d.instruction l.operation w.operation) r.0, ap suc r.1)
 
   labels_fit : (ls : List (List ℕ)) (positions : List ℕ) (n : ℕ) → All (λ at. at < n) positions → All (λ (l : Label). l.at < n) (map (λ p. record { name = p.0; at = p.1 }) (zip ls positions))
   labels_fit [] positions n all = All-nil (λ (l : Label). l.at < n)
@@ -80,26 +61,21 @@ module _ (constants methods : List (List ℕ)) (u : DraftView) (d : Drafted u) w
   labels_fit (l ∷ ls) (a ∷ positions) n all =
       All-cons (λ (l : Label). l.at < n) (record { name = l; at = a }) _ (all 0 a (omega arith)) (labels_fit ls positions n (λ k d h. all (suc k) d (omega (arith, h))))
 
-  abbrev Resolved : UnitView → Type 0
-  Resolved v = IsUnit c m v × (code_size v.lines ≤ lines_size u.lines)
-
-  pub unit_fits : (v : UnitView) → IsUnitOf constants methods u v → Resolved v
-  unit_fits v w =
-      let f = lines_fit u.lines v.lines w.lines in
+  pub is_unit : (v : UnitView) → IsUnitOf constants methods u v → IsUnit c m v
+  is_unit v w =
+      let f = lines_named u.lines v.lines w.lines in
       let n : length v.lines ≡ length u.lines = f.1 in
       let few = d.few in
       let e = length-append (take u.parameters u.names) (drop u.parameters u.names) in
       let g = ap length (take-append-drop u.parameters u.names) in
       let p = ap length w.parameters in
-      let q = ap length w.locals in (
-        record {
-          lines = subst (λ n. All (λ line. NamesPosition c m n line.operation) v.lines) (sym n) f.0;
-          labels = subst (All (λ (l : Label). l.at < length v.lines)) (sym w.labels)
-              (labels_fit u.labels u.label_positions (length v.lines) (subst (λ n. All (λ at. at < n) u.label_positions) (sym n) d.label_positions));
-          few_locals = omega (arith, few, e, g, p, q);
-        },
-        f.2,
-      )
+      let q = ap length w.locals in
+      record {
+        lines = subst (λ n. All (λ line. NamesPosition c m n line.operation) v.lines) (sym n) f.0;
+        labels = subst (All (λ (l : Label). l.at < length v.lines)) (sym w.labels)
+            (labels_fit u.labels u.label_positions (length v.lines) (subst (λ n. All (λ at. at < n) u.label_positions) (sym n) d.label_positions));
+        few_locals = omega (arith, few, e, g, p, q);
+      }
 
 -- ---- the methods
 
@@ -107,23 +83,16 @@ module _ (constants methods : List (List ℕ)) where
   abbrev IsGood : UnitView → Type 0
   IsGood v = IsUnit (length constants) (length methods) v × IsSome v.name
 
-  abbrev UnitsFit : List DraftView → List UnitView → Type 0
-  UnitsFit us out = All IsGood out × (length out ≡ length us) × (sum_by method_size out + length us ≤ units_total us)
-
-  pub units_fit : (us : List DraftView) (out : List UnitView) → All IsMethod us → Pairwise (IsUnitOf constants methods) us out → UnitsFit us out
-  units_fit [] [] are w = (All-nil IsGood, refl, omega arith)
-  units_fit [] (v ∷ out) are w = absurd w
-  units_fit (u ∷ us) [] are w = absurd w
-  units_fit (u ∷ us) (v ∷ out) are (w, more) =
+  pub are_units : (us : List DraftView) (out : List UnitView) → All IsMethod us → Pairwise (IsUnitOf constants methods) us out →
+      All IsGood out × (length out ≡ length us)
+  are_units [] [] are w = (All-nil IsGood, refl)
+  are_units [] (v ∷ out) are w = absurd w
+  are_units (u ∷ us) [] are w = absurd w
+  are_units (u ∷ us) (v ∷ out) are (w, more) =
       let first : IsMethod u = are 0 u (omega arith) in
-      let f = unit_fits constants methods u first.0 v w in
-      let good : IsGood v = (f.0, subst IsSome (sym w.name) first.1) in
-      let r = units_fit us out (λ k d h. are (suc k) d (omega (arith, h))) more in
-      let n = r.1 in
-      let s = r.2 in
-      let t = f.1 in
-      let b : sum_by method_size (v ∷ out) ≡ method_size v + sum_by method_size out = sum_by-cons method_size v out in
-      (All-cons IsGood v out good r.0, omega (arith, n), omega (arith, s, t, b))
+      let good : IsGood v = (is_unit constants methods u first.0 v w, subst IsSome (sym w.name) first.1) in
+      let r = are_units us out (λ k d h. are (suc k) d (omega (arith, h))) more in
+      (All-cons IsGood v out good r.0, ap suc r.1)
 
 -- ---- the program
 
@@ -135,31 +104,24 @@ constants_few [] values e = refl
 constants_few (n ∷ names) [] e = absurd (omega (arith, e))
 constants_few (n ∷ names) (v ∷ values) e = let r = constants_few names values (omega (arith, e)) in omega (arith, r)
 
-pub is_program : (s : Source) → Sound s → total s ≤ 2 ^ 32 → (p : ProgramView) → IsProgramOf (declarations_of s) p → IsProgram p
-is_program s sound few p w = by_main s.main refl w.main
+pub is_program : (s : Source) → Sound s → (p : ProgramView) → IsProgramOf (declarations_of s) p → IsProgram p
+is_program s sound p w = by_main s.main refl w.main
   where
     by_main : (o : Option DraftView) → s.main ≡ o → IsSomeAnd o (λ u. IsUnitOf s.constants s.methods u p.main) → IsProgram p
     by_main None at a = absurd a
     by_main (Some u) at a =
         let main : IsMain (Some u) = subst IsMain at sound.main in
-        let f = unit_fits s.constants s.methods u main.0 p.main a in
-        let b = units_fit s.constants s.methods s.units p.methods sound.units w.methods in
+        let b = are_units s.constants s.methods s.units p.methods sound.units w.methods in
         let c : length p.constants ≡ length s.constants = ap length w.constants ∙ constants_few s.constants s.values sound.values in
         let n = b.1 in
         let m = sound.methods in
         let d : length p.methods ≡ length s.methods = omega (arith, n, m) in
-        let size = b.2 in
-        let main_size = f.1 in
-        let t : total s ≡ length s.constants + ((1 + lines_size u.lines) + units_total s.units) = ap (λ o. length s.constants + (main_total o + units_total s.units)) at in
-        let bound = few in
         let is : (w : UnitView) → IsUnit (length s.constants) (length s.methods) w → IsUnit (length p.constants) (length p.methods) w =
         λ w i. subst (λ x. IsUnit x (length p.methods) w) (sym c) (subst (λ y. IsUnit (length s.constants) y w) (sym d) i) in
         record {
-          main = is p.main f.0;
+          main = is p.main (is_unit s.constants s.methods u main.0 p.main a);
           methods = λ k x h. is _ (b.0 k x h).0;
           main_name = a.name ∙ main.1;
           main_parameters = a.parameters ∙ ap (λ n. take n u.names) main.2;
           method_names = λ k x h. (b.0 k x h).1;
-          few_entries = omega (arith, c, n, m, size, t, bound);
-          fits = omega (arith, size, main_size, t, bound);
         }

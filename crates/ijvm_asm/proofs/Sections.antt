@@ -22,7 +22,6 @@ use Rattle.ijvm_asm.specs.Making.{Declarations}
 use Rattle.ijvm_asm.specs.Text.{IsSource}
 use Rattle.ijvm_asm.specs.Adding.{ReadsLines, said_next}
 use Rattle.ijvm_asm.proofs.Building.{Build}
-use Rattle.ijvm_asm.proofs.Costs.{of_made, same_ok}
 use Rattle.ijvm_asm.proofs.Declaring.{declared_make, sections_declare}
 use Rattle.ijvm_asm.proofs.Fronts.{same_end}
 use Rattle.ijvm_asm.proofs.InOrder.{ends_outside, from_order, in_order}
@@ -30,6 +29,16 @@ use Rattle.ijvm_asm.proofs.Made.{SectionsMake}
 use Rattle.ijvm_asm.proofs.Sectioning.{left_of}
 
 -- ---- where a line stands
+
+abbrev ok : {A : Type 0} → A → Result A LineFault
+ok a = Ok a
+
+same_ok : {A : Type 0} (P : A → Type 0) (a b : A) → ok a ≡ ok b → P a → P b
+same_ok P a b e h = let q : a ≡ b = cc in subst P q h
+
+of_made : {A B : Type 0} (P : B → Type 0) (f : A → B) (b : B) (r : Result A LineFault) → made f r ≡ Ok b → ((a : A) → r ≡ Ok a → P (f a)) → P b
+of_made P f b (Ok a) e h = same_ok P (f a) b e (h a refl)
+of_made P f b (Err x) e h = absurd (cc)
 
 abbrev StandsAt : Place → Content → Type 0
 StandsAt p contents.Nothing = ⊤

@@ -11,7 +11,7 @@ use Rattle.ijvm_asm.specs.Source.{empty, Source}
 use Rattle.ijvm_asm.specs.Units.{AreLocals, positions_in, behind_instruction, code_from, declared, lines_in, waits, waits_behind, with_position, with_instruction}
 use Rattle.ijvm_asm.specs.Making.{defined}
 use Rattle.ijvm_asm.proofs.Made.{Makes, MakesBody, OpensLocals, SectionsMake}
-use Rattle.ijvm_asm.proofs.Totals.{body_keeps, body_lines_are, opens_unit}
+use Rattle.ijvm_asm.proofs.Kept.{body_keeps, body_lines_are, opens_unit}
 
 -- ---- what is sound
 

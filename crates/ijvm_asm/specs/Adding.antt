@@ -1,6 +1,6 @@
 -- What the reader's record becomes by a line, or its refusal. Computes, line by line, what sections declare (`SectionsDeclare`), and which line
 -- is refused.
-use Rattle.std.specs.Prelude.{◌≡◌, ◌↔◌, ◌<◌, ◌^◌, ℕ, ◌||◌, Bool, true, false, not, List, [], ◌∷◌, ◌++◌, Option, Some, None, Result, Ok, Err, if◌then◌else◌, is_some, length, nat_le, nat_lt}
+use Rattle.std.specs.Prelude.{◌≡◌, ◌↔◌, ℕ, ◌||◌, Bool, true, false, not, List, [], ◌∷◌, ◌++◌, Option, Some, None, Result, Ok, Err, if◌then◌else◌, is_some, length, nat_le, nat_lt}
 use Rattle.source_text.specs.Content.{contents}
 use Rattle.source_text.specs.Parsing as parsing
 use Rattle.source_text.specs.Parsing.{add_said, Parser}
@@ -149,7 +149,7 @@ step = parsing.step refusals parser
 
 -- the lines of a text lead to this
 abbrev pub IsRead : Source → Type 0
-IsRead s = (text : List ℕ) × (length text < 2 ^ 32) × Leads step 1 empty (contents text) s
+IsRead s = (text : List ℕ) × Leads step 1 empty (contents text) s
 
 -- a line is read as what it spells, as the crates below say by their laws
 pub record ReadsLines : Type 0 where

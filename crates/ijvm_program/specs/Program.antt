@@ -1,10 +1,9 @@
 -- What contracts see of a program, and what holds of each.
-use Rattle.std.specs.Prelude.{◌≡◌, ℕ, ◌+◌, ◌<◌, ◌≤◌, ◌^◌, List, [], length, None, IsSome, All}
+use Rattle.std.specs.Prelude.{◌≡◌, ℕ, ◌+◌, ◌<◌, ◌≤◌, List, [], length, None, IsSome, All}
 use Rattle.ijvm_program.specs.declared.line.Constant.{Constant}
 use Rattle.ijvm_program.specs.declared.line.Operation.{Operation}
 use Rattle.ijvm_program.specs.declared.line.Operation.TheVariants as operations
 use Rattle.ijvm_program.specs.Unit.{UnitView}
-use Rattle.ijvm_program.specs.Layout.{text_size}
 
 pub record ProgramView : Type 0 where
   pub constants : List Constant
@@ -35,7 +34,3 @@ pub record IsProgram (program : ProgramView) : Type 0 where
   pub main_name : program.main.name ≡ None
   pub main_parameters : program.main.parameters ≡ []
   pub method_names : All (λ method. IsSome method.name) program.methods
-  -- the pool has fewer words than a number of 32 bits can count
-  pub few_entries : length program.constants + length program.methods < 2 ^ 32
-  -- the text has fewer bytes than a number of 32 bits can count
-  pub fits : text_size program.main program.methods < 2 ^ 32

@@ -1,4 +1,4 @@
-//! Source programs of IJVM: constants, a main and methods, their lines of code, and where each stands in the linked text.
+//! Source programs of IJVM: constants, a main and methods, their lines of code, and where each line stands in the code of its unit.
 #![tactic(auto)]
 
 pub mod line;

@@ -1,3 +1,5 @@
 pub mod Bytes
 pub mod Adds
 pub mod Adding
+pub mod Layout
+pub mod Parts

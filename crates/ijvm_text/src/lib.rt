@@ -1,6 +1,8 @@
-//! The text of an image as it is written: instructions, methods' headers, and the first jump that leads too far.
+//! The text of an image as it is written: instructions, methods' headers, the first jump that leads too far, and where methods begin.
 #![tactic(auto)]
 
 pub mod text;
+pub mod units;
 
 pub use text::{Jump, Text, offset_of, put};
+pub use units::Units;

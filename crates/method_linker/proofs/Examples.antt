@@ -5,10 +5,10 @@ use Rattle.ijvm_program.specs.declared.line.CodeLine.{CodeLine}
 use Rattle.ijvm_program.specs.declared.line.Jump.TheVariants.{IfIcmpeq, Goto}
 use Rattle.ijvm_program.specs.declared.line.Operation.{Operation}
 use Rattle.ijvm_program.specs.declared.line.Operation.TheVariants.{Plain, Constant, Call, To}
-use Rattle.ijvm_program.specs.Layout.{text_size}
 use Rattle.ijvm_program.specs.Program.{ProgramView}
 use Rattle.ijvm_instr.specs.Jumps.{first_far}
-use Rattle.method_linker.specs.Linked.{code_bytes, text, pool}
+use Rattle.ijvm_text.specs.Layout.{pool_of, text_of}
+use Rattle.method_linker.specs.Linked.{code_bytes, layout_of}
 
 abbrev at_line : ℕ → Operation → CodeLine
 at_line line operation = record { line = line; operation = operation }
@@ -40,17 +40,14 @@ add = record {
       ∷ [];
 }
 
-text_of_add : text add ≡
+text_of_add : text_of (layout_of add) ≡
     0x13 ∷ 0x00 ∷ 0x00 ∷ 0x10 ∷ 0x14 ∷ 0x10 ∷ 0x16 ∷ 0xB6 ∷ 0x00 ∷ 0x01 ∷ 0xFD ∷ 0xFF ∷ 0x00 ∷ 0x03 ∷ 0x00 ∷ 0x01 ∷ 0x15 ∷ 0x01 ∷ 0x15 ∷ 0x02
     ∷ 0x60 ∷ 0x36 ∷ 0x03 ∷ 0x15 ∷ 0x03 ∷ 0xAC ∷ []
-unfolding text code_bytes
+unfolding layout_of code_bytes
 text_of_add = refl
 
-size_of_add : text_size add.main add.methods ≡ 26
-size_of_add = refl
-
-pool_of_add : pool add ≡ 0x40 ∷ 0x0C ∷ []
-unfolding pool
+pool_of_add : pool_of (layout_of add) ≡ 0x40 ∷ 0x0C ∷ []
+unfolding layout_of code_bytes
 pool_of_add = refl
 
 -- ---- an echo up to the end of a line, with a jump on and a jump back

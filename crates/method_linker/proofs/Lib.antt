@@ -1,4 +1,4 @@
 pub mod Places
+pub mod Pools
 pub mod Pushed
-pub mod Texts
 pub mod Examples

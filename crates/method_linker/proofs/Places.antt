@@ -1,69 +1,51 @@
 -- Places of lines in a unit's code.
-use Rattle.std.proofs.Common.{◌≡◌, ℕ, pos, ◌-ℤ◌, ◌+◌, ◌<◌, ◌≤◌, List, [], ◌∷◌, ◌++◌, length, take, map, get_or, sym, ap, ◌∙◌, zero-add, append_assoc, to_z, of_z, arith}
-use Rattle.std.specs.List.{range_with_len}
+use Rattle.std.proofs.Common.{◌≡◌, ℕ, pos, ◌-ℤ◌, ◌+◌, ◌<◌, ◌≤◌, ◌^◌, List, [], ◌∷◌, ◌++◌, length, map, get_or, ap, ◌∙◌, zero-add, to_z, of_z, arith}
+use Rattle.std.specs.List.{range_with_len, sum_by}
 use Rattle.std.specs.Int.{w32}
 use Rattle.std.proofs.lemmas.Int.{ints}
 use Rattle.std.proofs.lemmas.List.FromFn.{map-range_with_len_more, length-map-range_with_len, get_or-map-range_with_len}
 use Rattle.std.proofs.lemmas.List.Sums.{sum_by-take-le, sum_by_more}
 use Rattle.ijvm_program.specs.declared.line.CodeLine.{CodeLine}
-use Rattle.ijvm_program.specs.Layout.{line_size, code_size, line_address, method_size, entry_of}
-use Rattle.ijvm_program.specs.Unit.{UnitView}
+use Rattle.ijvm_program.specs.Layout.{line_size, line_address}
 use Rattle.method_linker.specs.Steps.{line_places}
 
 -- one more place, after the places so far
-pub places_more : (lines : List CodeLine) (n place : ℕ) (places more : List ℕ) → places ≡ map (line_address 0 lines) (range_with_len 0 n) →
-    place ≡ code_size (take n lines) → more ≡ places ++ place ∷ [] → more ≡ map (line_address 0 lines) (range_with_len 0 (n + 1))
+pub places_more : (lines : List CodeLine) (n place : ℕ) (places more : List ℕ) → places ≡ map (line_address lines) (range_with_len 0 n) →
+    place ≡ line_address lines n → more ≡ places ++ place ∷ [] → more ≡ map (line_address lines) (range_with_len 0 (n + 1))
 places_more lines n place places more so_far here pushed =
-    let is : line_address 0 lines n ≡ place = zero-add (code_size (take n lines)) ∙ sym here in
-    let step = map-range_with_len_more (line_address 0 lines) 0 n n (zero-add n) in
+    let step = map-range_with_len_more (line_address lines) 0 n n (zero-add n) in
     cc
 
 pub length-line_places : (lines : List CodeLine) → length (line_places lines) ≡ length lines
 unfolding line_places
-length-line_places lines = length-map-range_with_len (line_address 0 lines) 0 (length lines)
+length-line_places lines = length-map-range_with_len (line_address lines) 0 (length lines)
 
-place_of : (lines : List CodeLine) (k : ℕ) → k < length lines → get_or (line_places lines) k 0 ≡ line_address 0 lines k
+place_of : (lines : List CodeLine) (k : ℕ) → k < length lines → get_or (line_places lines) k 0 ≡ line_address lines k
 unfolding line_places
-place_of lines k h = get_or-map-range_with_len (line_address 0 lines) 0 (length lines) k k 0 h (zero-add k)
+place_of lines k h = get_or-map-range_with_len (line_address lines) 0 (length lines) k k 0 h (zero-add k)
 
-pub place_is : (lines : List CodeLine) (places : List ℕ) (k : ℕ) → places ≡ line_places lines → k < length lines → get_or places k 0 ≡ line_address 0 lines k
+pub place_is : (lines : List CodeLine) (places : List ℕ) (k : ℕ) → places ≡ line_places lines → k < length lines → get_or places k 0 ≡ line_address lines k
 place_is lines places k e h = ap (λ ps. get_or ps k 0) e ∙ place_of lines k h
 
 pub place_in : (lines : List CodeLine) (places : List ℕ) (k : ℕ) → places ≡ line_places lines → k < length lines → k < length places
 place_in lines places k e h = omega (arith, ap length e, length-line_places lines)
 
-pub address_fits : (lines : List CodeLine) (k : ℕ) → code_size lines ≤ 65536 → line_address 0 lines k ≤ 65536
-address_fits lines k few = omega (arith, sum_by-take-le line_size lines k, zero-add (code_size (take k lines)))
-
-pub place_fits : (lines : List CodeLine) (places : List ℕ) (k : ℕ) → places ≡ line_places lines → k < length lines → code_size lines ≤ 65536 → get_or places k 0 ≤ 65536
-place_fits lines places k e h few = omega (arith, place_is lines places k e h, address_fits lines k few)
-
--- one more entry, after the entries so far
-pub entries_more : (main : UnitView) (methods : List UnitView) (n entry : ℕ) (old words more : List ℕ) →
-    words ≡ old ++ map (entry_of main methods) (range_with_len 0 n) → entry ≡ entry_of main methods n → more ≡ words ++ entry ∷ [] →
-    more ≡ old ++ map (entry_of main methods) (range_with_len 0 (n + 1))
-entries_more main methods n entry old words more so_far here pushed =
-    let step = map-range_with_len_more (entry_of main methods) 0 n n (zero-add n) in
-    grind (arith, append_assoc)
+pub place_fits : (lines : List CodeLine) (places : List ℕ) (k : ℕ) → places ≡ line_places lines → k < length lines →
+    sum_by line_size lines < 2 ^ 31 → get_or places k 0 < 2 ^ 31
+place_fits lines places k e h few = omega (arith, place_is lines places k e h, sum_by-take-le line_size lines k)
 
 -- a difference of places, as the code computes it
-pub apart : (a b x y : ℕ) → a ≡ x → b ≡ y → a ≤ 65536 → b ≤ 65536 → to_z w32 (of_z w32 (to_z w32 a -ℤ to_z w32 b)) ≡ pos x -ℤ pos y
+pub apart : (a b x y : ℕ) → a ≡ x → b ≡ y → a < 2 ^ 31 → b < 2 ^ 31 → to_z w32 (of_z w32 (to_z w32 a -ℤ to_z w32 b)) ≡ pos x -ℤ pos y
 apart a b x y is_a is_b fits_a fits_b = omega (arith, ints)
 
 pub places_all : (lines : List CodeLine) (n : ℕ) (places : List ℕ) → n ≤ length lines → length lines ≤ n →
-    places ≡ map (line_address 0 lines) (range_with_len 0 n) → places ≡ line_places lines
+    places ≡ map (line_address lines) (range_with_len 0 n) → places ≡ line_places lines
 unfolding line_places
 places_all lines n places within past so_far =
     let all : n ≡ length lines = omega arith in
-    so_far ∙ ap (λ m. map (line_address 0 lines) (range_with_len 0 m)) all
+    so_far ∙ ap (λ m. map (line_address lines) (range_with_len 0 m)) all
 
 -- one more line, after the lines so far
-pub place_more : (lines : List CodeLine) (n : ℕ) (d : CodeLine) (place size : ℕ) → n < length lines → place ≡ code_size (take n lines) →
-    size ≡ line_size (get_or lines n d) → place + size ≡ code_size (take (n + 1) lines)
+pub place_more : (lines : List CodeLine) (n : ℕ) (d : CodeLine) (place size : ℕ) → n < length lines → place ≡ line_address lines n →
+    size ≡ line_size (get_or lines n d) → place + size ≡ line_address lines (n + 1)
 place_more lines n d place size h here is = omega (arith, sum_by_more line_size lines n d h)
-
--- one more method, after the methods so far
-pub entry_more : (main : UnitView) (methods : List UnitView) (n : ℕ) (m : UnitView) (entry size : ℕ) → n < length methods → m ≡ get_or methods n m →
-    entry ≡ entry_of main methods n → size ≡ method_size m → entry + size ≡ entry_of main methods (n + 1)
-entry_more main methods n m entry size h is_m here is =
-    omega (arith, sum_by_more method_size methods n m h, ap method_size is_m)

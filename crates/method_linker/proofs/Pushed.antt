@@ -1,5 +1,5 @@
 -- The text of a program, line by line and method by method.
-use Rattle.std.proofs.Common.{◌≡◌, ℕ, ◌+◌, ◌<◌, ◌≤◌, ℤ, false, List, [], ◌∷◌, ◌++◌, length, drop, map, get_or, None, sym, ap, ◌∙◌, zero-add, subst, arith}
+use Rattle.std.proofs.Common.{◌≡◌, ℕ, ◌+◌, ◌<◌, ◌≤◌, ℤ, false, List, [], ◌∷◌, ◌++◌, length, drop, map, get_or, None, refl, sym, ap, ◌∙◌, zero-add, subst, arith}
 use Rattle.std.specs.List.{flat_map, enumerate_from}
 use Rattle.std.specs.Option.{option_or}
 use Rattle.std.proofs.lemmas.List.{drop_all, drop_more, get_or_default}
@@ -7,23 +7,37 @@ use Rattle.std.proofs.lemmas.List.FromFn.{length-enumerate_from, get_or-enumerat
 use Rattle.ijvm_instr.specs.Instructions.{spelling}
 use Rattle.ijvm_instr.specs.Jumps.{first_far, is_far}
 use Rattle.ijvm_text.specs.declared.text.Text.{Text}
-use Rattle.ijvm_text.specs.Adds.{Adds, IsText, far_of}
-use Rattle.ijvm_text.specs.Adding.{is_text, jumped, nothing, then}
+use Rattle.ijvm_text.specs.declared.units.Units.{Units}
+use Rattle.ijvm_text.specs.Adds.{far_of}
+use Rattle.ijvm_text.specs.Adding.{jumped, nothing, then}
+use Rattle.ijvm_text.specs.Parts.{AddsPart, AddsParts, AreUnits, no_parts, part_then, whole}
 use Rattle.ijvm_program.specs.declared.line.CodeLine.{CodeLine}
+use Rattle.ijvm_program.specs.declared.line.Jump.{Jump}
+use Rattle.ijvm_program.specs.declared.line.Jump.TheVariants.{Ifeq}
+use Rattle.ijvm_program.specs.declared.line.Operation.{Operation}
+use Rattle.ijvm_program.specs.declared.line.Operation.TheVariants.{To}
 use Rattle.ijvm_program.specs.Layout.{instr_of}
 use Rattle.ijvm_program.specs.Program.{ProgramView}
 use Rattle.ijvm_program.specs.Unit.{UnitView}
-use Rattle.method_linker.specs.Linked.{code_bytes, code_distances, distance, distances, line_bytes, line_distance, method_bytes, method_distances, text}
-use Rattle.method_linker.specs.Steps.{AddsLine, AddsLines, AddsMethods, AddsUnit}
-use Rattle.method_linker.proofs.Texts.{length-spelling}
+use Rattle.method_linker.specs.Linked.{code_bytes, code_distances, distance, layout_of, line_bytes, line_distance, method_part}
+use Rattle.method_linker.specs.Steps.{AddsLine, AddsLines, AddsUnit}
 
 -- ---- lines
+
+length-jump : (j : Jump) (d e : ℤ) → length (spelling (instr_of 0 d (To j 0))) ≡ length (spelling (instr_of 0 e (To j 0)))
+length-jump Ifeq d e = refl
+length-jump _ d e = refl
+
+-- how long an instruction is does not depend on how far it jumps
+length-spelling : (first : ℕ) (d e : ℤ) (o : Operation) → length (spelling (instr_of first d o)) ≡ length (spelling (instr_of first e o))
+length-spelling first d e (To jump target) = length-jump jump d e
+length-spelling first d e _ = refl
 
 pub line_jumped : (a b : Text) (first : ℕ) (line : CodeLine) (z o : ℤ) → b.bytes.items ≡ a.bytes.items ++ spelling (instr_of first o line.operation) →
     far_of b.far ≡ option_or (far_of a.far) (first_far ((line.line, z) ∷ [])) → (is_far z ≡ false → o ≡ z) → AddsLine first a b line z
 line_jumped a b first line z o is far near =
     jumped a b line.line z (spelling (instr_of first o line.operation)) (spelling (instr_of first z line.operation))
-    (length-spelling first o line.operation ∙ sym (length-spelling first z line.operation)) is far
+    (length-spelling first o z line.operation) is far
     (λ h. ap (λ (k : ℤ). spelling (instr_of first k line.operation)) (near h))
 
 line_at : (lines : List CodeLine) (i : ℕ) (d : CodeLine) → i < length lines →
@@ -58,24 +72,23 @@ lines_all first lines i a b past all =
 -- ---- methods
 
 -- one more method
-pub method_more : (first : ℕ) (methods : List UnitView) (i : ℕ) (m : UnitView) (a b end : Text) → i < length methods → m ≡ get_or methods i m →
-    Adds a b (method_bytes first m) (method_distances m) → AddsMethods first b end (drop (i + 1) methods) → AddsMethods first a end (drop i methods)
+pub method_more : (first : ℕ) (methods : List UnitView) (i : ℕ) (m : UnitView) (a b end : Units) → i < length methods → m ≡ get_or methods i m →
+    AddsPart a b (method_part first m) → AddsParts b end (map (method_part first) (drop (i + 1) methods)) →
+    AddsParts a end (map (method_part first) (drop i methods))
 method_more first methods i m a b end h is added rest =
-    subst (AddsMethods first a end) (sym (drop_more methods i m h ∙ ap (λ (y : UnitView). y ∷ drop (i + 1) methods) (sym is)))
-    (then a b end (method_bytes first m) (flat_map (method_bytes first) (drop (i + 1) methods))
-    (method_distances m) (flat_map method_distances (drop (i + 1) methods)) added rest)
+    subst (λ (ms : List UnitView). AddsParts a end (map (method_part first) ms))
+    (sym (drop_more methods i m h ∙ ap (λ (y : UnitView). y ∷ drop (i + 1) methods) (sym is)))
+    (part_then a b end (method_part first m) (map (method_part first) (drop (i + 1) methods)) added rest)
 
 -- no further method
-pub methods_all : (first : ℕ) (methods : List UnitView) (i : ℕ) (a : Text) → length methods ≤ i → AddsMethods first a a (drop i methods)
-methods_all first methods i a past = subst (AddsMethods first a a) (sym (drop_all i methods past)) (nothing a)
+pub methods_all : (first : ℕ) (methods : List UnitView) (i : ℕ) (a : Units) → length methods ≤ i →
+    AddsParts a a (map (method_part first) (drop i methods))
+methods_all first methods i a past =
+    subst (λ (ms : List UnitView). AddsParts a a (map (method_part first) ms)) (sym (drop_all i methods past)) (no_parts a)
 
 -- ---- main's code and the methods together
 
-pub text_all : (p : ProgramView) (a b c : Text) → a.bytes.items ≡ [] → a.far ≡ None → AddsUnit (length p.constants) a b p.main.lines →
-    AddsMethods (length p.constants) b c p.methods → IsText c (text p) (distances p)
-unfolding text distances
-text_all p a b c empty near main rest =
-    let first = length p.constants in
-    is_text a c (text p) (distances p) empty near
-    (then a b c (code_bytes first p.main.lines) (flat_map (method_bytes first) p.methods)
-    (code_distances p.main.lines) (flat_map method_distances p.methods) main rest)
+pub units_all : (p : ProgramView) (a : Text) (b c : Units) → a.bytes.items ≡ [] → a.far ≡ None → AddsUnit (length p.constants) a b.text p.main.lines →
+    b.entries.items ≡ [] → AddsParts b c (map (method_part (length p.constants)) p.methods) → AreUnits (layout_of p) c
+unfolding layout_of
+units_all p a b c empty near main none rest = whole (layout_of p) a b c empty near main none rest

@@ -9,11 +9,11 @@ use Rattle.ijvm_program.specs.declared.line.Operation.{Operation}
 use Rattle.ijvm_program.specs.declared.line.Operation.TheVariants.{Plain, Constant, Call, To}
 use Rattle.ijvm_program.specs.Layout.{instr_of, line_address}
 use Rattle.ijvm_program.specs.Unit.{UnitView}
-use Rattle.method_linker.specs.Linked.{code_bytes, code_distances, line_bytes, line_distance, method_bytes, method_distances}
+use Rattle.method_linker.specs.Linked.{code_bytes, code_distances, line_bytes, line_distance}
 
 -- the places of a unit's lines
 unfoldable pub line_places : List CodeLine → List ℕ
-line_places lines = map (line_address 0 lines) (range_with_len 0 (length lines))
+line_places lines = map (line_address lines) (range_with_len 0 (length lines))
 
 -- the pool's index that an operation has is one of 16 bits
 abbrev pub HasIndex : ℕ → Operation → Type 0
@@ -49,7 +49,3 @@ AddsLines first lines old new some = Adds old new (flat_map (line_bytes first li
 -- the code of a unit is added
 abbrev pub AddsUnit : ℕ → Text → Text → List CodeLine → Type 0
 AddsUnit first old new lines = Adds old new (code_bytes first lines) (code_distances lines)
-
--- these methods are added, each after its header
-abbrev pub AddsMethods : ℕ → Text → Text → List UnitView → Type 0
-AddsMethods first old new methods = Adds old new (flat_map (method_bytes first) methods) (flat_map method_distances methods)

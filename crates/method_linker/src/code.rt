@@ -1,7 +1,7 @@
 //! The code of a unit.
 
-ghost use Rattle.std.specs.Prelude.{◌≡◌, ◌≤◌, length, All, IfOk, OnOk};
-ghost use Rattle.ijvm_program.specs.Layout.{code_size};
+ghost use Rattle.std.specs.Prelude.{◌≡◌, ◌<◌, ◌^◌, length, All, IfOk, OnOk, sum_by};
+ghost use Rattle.ijvm_program.specs.Layout.{line_size};
 ghost use Rattle.method_linker.specs.Steps.{line_places, HasIndex, IsLinkable, AddsLine, AddsUnit};
 
 use crate::instruction::{distance, instr_of};
@@ -10,14 +10,17 @@ use ijvm_program::{CodeLine, size_of};
 use ijvm_text::{Text, offset_of};
 use std::alloc::{AllocError, Global};
 
-/// Where each line stands in the unit's code.
+/// Where each line stands in the unit's code. Code of 2^30 bytes or more may be reported as out of memory.
 fn line_places(alloc: Global, lines: &[CodeLine]) -> Result<Vec<u32>, AllocError>
-    requires { code_size lines.now ≤ 65536 }
-    ensures { IfOk result (λ places. places.items ≡ line_places lines.now) }
+    ensures places { IfOk result (λ places. places.items ≡ line_places lines.now) }
+    ensures few { IfOk result (λ places. sum_by line_size lines.now < 2 ^ 31) }
 {
     let mut places = Vec::new(alloc);
     let mut place = 0;
     for line in lines {
+        if place >= 1 << 30 {
+            return Err(AllocError);
+        }
         places.push(place)?;
         place += u32::from(size_of(line));
     }
@@ -43,7 +46,7 @@ fn push_lines(
     places: &[u32],
     first: u32,
 ) -> Result<(), AllocError>
-    requires few { code_size lines.now ≤ 65536 }
+    requires few { sum_by line_size lines.now < 2 ^ 31 }
     requires placed { places.now ≡ line_places lines.now }
     requires linkable { All (IsLinkable first (length lines.now)) lines.now }
     ensures { OnOk result (AddsUnit first text.old text.new lines.now) }
@@ -62,8 +65,7 @@ pub fn push_code(
     lines: &[CodeLine],
     first: u32,
 ) -> Result<(), AllocError>
-    requires few { code_size lines.now ≤ 65536 }
-    requires linkable { All (IsLinkable first (length lines.now)) lines.now }
+    requires { All (IsLinkable first (length lines.now)) lines.now }
     ensures { OnOk result (AddsUnit first text.old text.new lines.now) }
 {
     let places = line_places(alloc, lines)?;

@@ -1,18 +1,16 @@
 //! The image of a program.
 
 ghost use Rattle.std.specs.Prelude.{◌≡◌, ◌≤◌, IfOk, IfErr};
-ghost use Rattle.ijvm_text.specs.Adds.{IsText};
-ghost use Rattle.ijvm_program.specs.Layout.{text_size};
-ghost use Rattle.method_linker.specs.Linked.{text, distances, pool_size, IsLinked, IsRefused};
+ghost use Rattle.ijvm_text.specs.Parts.{AreUnits};
+ghost use Rattle.method_linker.specs.Linked.{layout_of, pool_size, IsLinked, IsRefused};
 
 use crate::code::push_code;
 use crate::error::LinkError;
 use crate::method::push_methods;
 use crate::pool::{pool_of, pool_size};
-use crate::size::text_size;
 use ijvm_image::Image;
 use ijvm_program::Program;
-use ijvm_text::{Jump, Text};
+use ijvm_text::{Jump, Text, Units};
 use std::alloc::{AllocError, Global};
 
 /// The words that a pool has room for.
@@ -22,16 +20,15 @@ const MOST_WORDS: u32 = 16_384;
 const MOST_BYTES: u32 = 65_536;
 
 /// Main's code, and then the methods in order.
-fn text_of(alloc: Global, program: &Program) -> Result<Text, AllocError>
-    requires pool { pool_size program.now ≤ 16384 }
-    requires text { text_size program.now.main program.now.methods ≤ 65536 }
-    ensures { IfOk result (λ made. IsText made (text program.now) (distances program.now)) }
+fn units_of(alloc: Global, program: &Program) -> Result<Units, AllocError>
+    requires { pool_size program.now ≤ 16384 }
+    ensures { IfOk result (AreUnits (layout_of program.now)) }
 {
     let first = program.constants().len() as u32;
-    let mut text = Text::new(alloc);
-    push_code(alloc, &mut text, program.main().lines(), first)?;
-    push_methods(alloc, &mut text, program.methods(), first)?;
-    Ok(text)
+    let mut units = Units::new(alloc);
+    push_code(alloc, &mut units.text, program.main().lines(), first)?;
+    push_methods(alloc, &mut units, program.methods(), first)?;
+    Ok(units)
 }
 
 /// The refusal of a jump that leads too far.
@@ -41,23 +38,24 @@ fn too_far(jump: Jump) -> LinkError
     LinkError::JumpTooFar(jump.line, jump.distance)
 }
 
-/// The image of a program, or the first limit that it exceeds.
+/// The image of a program, or the first limit that it exceeds. A text of 2^30 bytes or more may be reported as out of memory.
 pub fn link(alloc: Global, program: &Program) -> Result<Image, LinkError>
     ensures linked { IfOk result (IsLinked program.now) }
     ensures refused { IfErr result (IsRefused program.now) }
 {
-    let count = pool_size(program);
+    let count = pool_size(program)?;
     if count > MOST_WORDS {
         return Err(LinkError::PoolTooLong(count));
     }
-    let size = text_size(program);
+    let Units { text, entries } = units_of(alloc, program)?;
+    let size = text.size()?;
     if size > MOST_BYTES {
         return Err(LinkError::TextTooLong(size));
     }
-    let Text { bytes, far } = text_of(alloc, program)?;
+    let Text { bytes, far } = text;
     if let Some(jump) = far {
         return Err(too_far(jump));
     }
-    let pool = pool_of(alloc, program)?;
+    let pool = pool_of(alloc, program, &entries)?;
     Ok(Image::new(bytes, pool))
 }

@@ -1,7 +1,7 @@
 //! The instruction of a line.
 
-ghost use Rattle.std.specs.Prelude.{◌≡◌, ◌≤◌, ◌<◌, length};
-ghost use Rattle.ijvm_program.specs.Layout.{code_size, jump_by, instr_of};
+ghost use Rattle.std.specs.Prelude.{◌≡◌, ◌<◌, ◌^◌, length, sum_by};
+ghost use Rattle.ijvm_program.specs.Layout.{jump_by, instr_of, line_size};
 ghost use Rattle.method_linker.specs.Linked.{distance};
 ghost use Rattle.method_linker.specs.Steps.{line_places, HasIndex, HasTarget};
 
@@ -10,7 +10,7 @@ use ijvm_program::{CodeLine, Jump, Operation};
 
 /// How far the line at this position jumps.
 pub fn distance(lines: &[CodeLine], places: &[u32], position: usize, operation: Operation) -> i32
-    requires few { code_size lines.now ≤ 65536 }
+    requires few { sum_by line_size lines.now < 2 ^ 31 }
     requires placed { places.now ≡ line_places lines.now }
     requires position { position < length lines.now }
     requires target { HasTarget (length lines.now) operation }

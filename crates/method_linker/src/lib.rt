@@ -1,4 +1,4 @@
-//! From a program to its image: addresses are sums of sizes, so each byte is written once.
+//! From a program to its image: its units are written one after the other, and then the limits are tested.
 #![tactic(auto)]
 
 mod code;
@@ -7,7 +7,6 @@ mod image;
 mod instruction;
 mod method;
 mod pool;
-mod size;
 
 pub use error::LinkError;
 pub use image::link;

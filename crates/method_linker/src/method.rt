@@ -1,15 +1,15 @@
 //! Methods: a header and code.
 
-ghost use Rattle.std.specs.Prelude.{◌≤◌, ◌+◌, [], length, All, OnOk, sum_by};
+ghost use Rattle.std.specs.Prelude.{◌≤◌, ◌+◌, [], length, map, All, OnOk};
 ghost use Rattle.ijvm_text.specs.Adds.{Adds};
-ghost use Rattle.ijvm_program.specs.Layout.{code_size, method_size};
-ghost use Rattle.method_linker.specs.Linked.{header_of, method_bytes, method_distances};
-ghost use Rattle.method_linker.specs.Steps.{IsLinkableUnit, AddsMethods};
+ghost use Rattle.ijvm_text.specs.Parts.{AddsPart, AddsParts};
+ghost use Rattle.method_linker.specs.Linked.{code_distances, header_of, method_bytes, method_part};
+ghost use Rattle.method_linker.specs.Steps.{IsLinkableUnit};
 
 use crate::code::push_code;
 use ijvm_image::push_header;
 use ijvm_program::Unit;
-use ijvm_text::Text;
+use ijvm_text::{Text, Units};
 use std::alloc::{AllocError, Global};
 
 /// Appends the counts of a method: its parameters with the object reference, and its other locals.
@@ -24,28 +24,40 @@ fn push_counts(text: &mut Text, method: &Unit) -> Result<(), AllocError>
     )
 }
 
-fn push_method(alloc: Global, text: &mut Text, method: &Unit, first: u32) -> Result<(), AllocError>
-    requires few { code_size method.now.lines ≤ 65536 }
-    requires linkable { IsLinkableUnit first method.now }
-    ensures { OnOk result (Adds text.old text.new (method_bytes first method.now) (method_distances method.now)) }
+/// Appends the counts and the code of a method.
+fn push_text(alloc: Global, text: &mut Text, method: &Unit, first: u32) -> Result<(), AllocError>
+    requires { IsLinkableUnit first method.now }
+    ensures { OnOk result (Adds text.old text.new (method_bytes first method.now) (code_distances method.now.lines)) }
 {
     push_counts(text, method)?;
     push_code(alloc, text, method.lines(), first)
 }
 
+fn push_method(
+    alloc: Global,
+    units: &mut Units,
+    method: &Unit,
+    first: u32,
+) -> Result<(), AllocError>
+    requires { IsLinkableUnit first method.now }
+    ensures { OnOk result (AddsPart units.old units.new (method_part first method.now)) }
+{
+    units.entries.push(units.text.size()?)?;
+    push_text(alloc, &mut units.text, method, first)
+}
+
 /// Appends methods, where their entries begin at this index of the pool.
 pub fn push_methods(
     alloc: Global,
-    text: &mut Text,
+    units: &mut Units,
     methods: &[Unit],
     first: u32,
 ) -> Result<(), AllocError>
-    requires few { sum_by method_size methods.now ≤ 65536 }
-    requires linkable { All (IsLinkableUnit first) methods.now }
-    ensures { OnOk result (AddsMethods first text.old text.new methods.now) }
+    requires { All (IsLinkableUnit first) methods.now }
+    ensures { OnOk result (AddsParts units.old units.new (map (method_part first) methods.now)) }
 {
     for method in methods {
-        push_method(alloc, text, method, first)?;
+        push_method(alloc, units, method, first)?;
     }
     Ok(())
 }

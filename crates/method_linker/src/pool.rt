@@ -1,41 +1,37 @@
 //! The constant pool of a linked program: its constants, then the entries of its methods.
 
-ghost use Rattle.std.specs.Prelude.{◌≡◌, ◌++◌, IfOk, OnOk};
-ghost use Rattle.method_linker.specs.Linked.{pool, pool_size, entries};
+ghost use Rattle.std.specs.Prelude.{◌≡◌, length, IfOk};
+ghost use Rattle.ijvm_text.specs.Layout.{pool_of};
+ghost use Rattle.method_linker.specs.Linked.{entries_of, layout_of, pool_size};
 
-use crate::size::{code_size, method_size};
 use ijvm_program::Program;
 use std::alloc::{AllocError, Global};
 
-/// The number of constants and methods.
-pub fn pool_size(program: &Program) -> u32
-    ensures { result ≡ pool_size program.now }
+/// The number of constants and methods. 2^31 or more of either may be reported as out of memory.
+#[tactic(auto, using(crate::proofs::Pools::words))]
+pub fn pool_size(program: &Program) -> Result<u32, AllocError>
+    ensures is { IfOk result (λ count. count ≡ pool_size program.now) }
+    ensures words { IfOk result (λ count. count ≡ length (pool_of (layout_of program.now))) }
 {
-    program.constants().len() as u32 + program.methods().len() as u32
-}
-
-/// Appends the entries of the methods.
-fn push_entries(pool: &mut Vec<u32>, program: &Program) -> Result<(), AllocError>
-    ensures { OnOk result (pool.new.items ≡ pool.old.items ++ entries program.now) }
-{
-    let methods = program.methods();
-    let mut entry = code_size(program.main().lines());
-    for method in methods {
-        pool.push(entry)?;
-        entry += method_size(method);
+    let constants = program.constants().len();
+    let methods = program.methods().len();
+    if constants >= 1 << 31 || methods >= 1 << 31 {
+        return Err(AllocError);
     }
-    Ok(())
+    Ok(constants as u32 + methods as u32)
 }
 
-#[tactic(auto, unfolding(crate::specs::Linked::pool))]
-pub fn pool_of(alloc: Global, program: &Program) -> Result<Vec<u32>, AllocError>
-    ensures { IfOk result (λ words. words.items ≡ pool program.now) }
+/// The constants, then the methods' entries.
+#[tactic(auto, using(crate::proofs::Pools::pool_is))]
+pub fn pool_of(alloc: Global, program: &Program, entries: &[u32]) -> Result<Vec<u32>, AllocError>
+    requires { entries.now ≡ entries_of program.now }
+    ensures { IfOk result (λ words. words.items ≡ pool_of (layout_of program.now)) }
 {
     let mut pool = program
         .constants()
         .iter()
         .map(|c| c.value)
         .collect::<Vec<u32>>(alloc)?;
-    push_entries(&mut pool, program)?;
+    pool.extend_from_slice(entries)?;
     Ok(pool)
 }

@@ -9,7 +9,7 @@ use Rattle.ijvm_asm.proofs.Outcome.{is_refused, is_spelled}
 use Rattle.ijvm_asm.proofs.parse.parse_source.Goals as goal
 
 pub whole_program-requires : goal.whole_program-requires
-whole_program-requires c = (c.args.text.now, c.requires, subst (λ s. Leads step 1 s (contents c.args.text.now) c.read_lines.new.reader) c.new-reader.ensures c.in_ok-read_lines.ensures.ok)
+whole_program-requires c = (c.args.text.now, subst (λ s. Leads step 1 s (contents c.args.text.now) c.read_lines.new.reader) c.new-reader.ensures c.in_ok-read_lines.ensures.ok)
 
 pub returns-clause-ok : goal.returns-clause-ok
 returns-clause-ok c =

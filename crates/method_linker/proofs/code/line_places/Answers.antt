@@ -1,4 +1,4 @@
-use Rattle.std.proofs.Common.{◌∙◌}
+use Rattle.std.proofs.Common.{◌∙◌, arith}
 use Rattle.method_linker.proofs.Places.{place_more, places_more, places_all}
 use Rattle.method_linker.proofs.code.line_places.Goals as goal
 
@@ -8,9 +8,10 @@ loop-line-preserved c = (
       (c.from-place.ensures ∙ c.size_of.ensures.is),
   places_more c.args.lines.now c.loop-line.line-index c.loop-line.place c.loop-line.places.items c.push.new.self.items c.loop-line.invariant.1
       c.loop-line.invariant.0 c.in_ok-push.ensures.items,
+  omega (arith, c.from-place.ensures, c.size_of.ensures.few),
 )
 
-pub returns : goal.returns
-returns c =
+pub returns-clause-places : goal.returns-clause-places
+returns-clause-places c =
     places_all c.args.lines.now c.loop-line.line-index c.loop-line.places.items c.loop-line.auto.line-index-end c.loop-line-test.false
     c.loop-line.invariant.1

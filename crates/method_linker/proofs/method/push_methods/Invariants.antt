@@ -1,9 +1,10 @@
-use Rattle.std.proofs.Common.{drop}
-use Rattle.ijvm_text.specs.declared.text.Text.{Text}
-use Rattle.method_linker.specs.Steps.{AddsMethods}
+use Rattle.std.proofs.Common.{drop, map}
+use Rattle.ijvm_text.specs.declared.units.Units.{Units}
+use Rattle.ijvm_text.specs.Parts.{AddsParts}
+use Rattle.method_linker.specs.Linked.{method_part}
 use Rattle.method_linker.proofs.method.push_methods.Given as goal
 
 -- what ends with the methods that are left ends with all of them
 abbrev pub invariant-loop-method : goal.invariant-loop-method
-invariant-loop-method l = (end : Text) → AddsMethods l.first l.text end (drop l.method-index l.methods) →
-    AddsMethods l.first l.fn.text end l.methods
+invariant-loop-method l = (end : Units) → AddsParts l.units end (map (method_part l.first) (drop l.method-index l.methods)) →
+    AddsParts l.fn.units end (map (method_part l.first) l.methods)

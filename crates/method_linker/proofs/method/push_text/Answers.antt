@@ -2,7 +2,7 @@ use Rattle.std.proofs.Common.{[]}
 use Rattle.std.proofs.lemmas.Result.{on_ok_weaker}
 use Rattle.ijvm_text.specs.Adding.{then}
 use Rattle.method_linker.specs.Linked.{code_bytes, code_distances, header_of}
-use Rattle.method_linker.proofs.method.push_method.Goals as goal
+use Rattle.method_linker.proofs.method.push_text.Goals as goal
 
 pub returns : goal.returns
 returns c =
