@@ -5,7 +5,10 @@ use Rattle.ijvm_instr.specs.Instructions.{spelling}
 use Rattle.tiny_tree.specs.declared.tree.Operator.{Operator}
 use Rattle.tiny_tree.specs.declared.tree.Operator.TheVariants.{Plus, Minus}
 use Rattle.tiny_tree.specs.Tree.{Term, Number, Variable, Called, Expr, Sum, no_steps, step, Different, Less, Statement, Var, Assign, If, While, Return, Put, else_block, Function, Program, arguments_of, statements_of}
-use Rattle.tiny_code.specs.Code.{code_size, main_code, method_code, methods, numbers, places_of, begins}
+use Rattle.ijvm_text.specs.Bytes.{code_bytes}
+use Rattle.ijvm_text.specs.Layout.{pool_of}
+use Rattle.tiny_code.specs.Code.{main_code, method_code, numbers, places_of}
+use Rattle.tiny_code.specs.Image.{layout_of}
 
 abbrev alone : Term → Expr
 alone t = Sum t no_steps
@@ -42,8 +45,9 @@ main_bytes = refl
 add_bytes : flat_map spelling (method_code (places_of countdown) add) ≡ 21 ∷ 1 ∷ 21 ∷ 2 ∷ 96 ∷ 172 ∷ 16 ∷ 0 ∷ 172 ∷ []
 add_bytes = refl
 
-entries : begins (places_of countdown) (code_size (main_code (places_of countdown) countdown_main)) (methods countdown) ≡ 33 ∷ []
-entries = refl
+pool : pool_of (layout_of countdown countdown_main) ≡ 0 ∷ 33 ∷ []
+unfolding code_bytes
+pool = refl
 
 -- fn main() { if 300 < 128 { put 127; } else { put 300 + 65535; } } fn f() { return 128 - 5000; }
 abbrev many_numbers : Program

@@ -182,8 +182,3 @@ places_of program =
       constant = λ n. length program.functions + position_or_len (λ m. m == n) (numbers program);
       entry = λ f. if nat_lt f program.main then f + 1 else f;
     }
-
--- where these methods begin; the first begins at this address
-abbrev pub begins : Places → ℕ → List (ℕ × Function) → List ℕ
-begins p begin [] = []
-begins p begin (m ∷ ms) = begin ∷ begins p (begin + method_size p m.1) ms

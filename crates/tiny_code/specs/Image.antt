@@ -1,30 +1,16 @@
--- The image of a program's code: its text is main's code and then the other functions, each after its header.
-use Rattle.std.specs.Prelude.{◌≡◌, ◌≤◌, ℕ, ◌+◌, List, [], ◌∷◌, ◌++◌, length, slice_get, Some, None}
-use Rattle.std.specs.List.{flat_map}
-use Rattle.ijvm_instr.specs.Instructions.{spelling}
-use Rattle.ijvm_instr.specs.Jumps.{Jump, first_far, jumps_of}
+-- The image of a program's code: its parts are main's code and the other functions, each after its header, and its pool is 0, the
+-- functions' addresses, and the numbers.
+use Rattle.std.specs.Prelude.{◌≡◌, ℕ, ◌+◌, List, [], ◌∷◌, ◌++◌, map, slice_get, Some}
+use Rattle.ijvm_instr.specs.Jumps.{jumps_of}
 use Rattle.ijvm_image.specs.Header.{header}
 use Rattle.ijvm_image.specs.Image.{ImageView}
+use Rattle.ijvm_text.specs.Bytes.{code_bytes}
+use Rattle.ijvm_text.specs.Layout.{IsImageOf, Layout, Part}
 use Rattle.tiny_tree.specs.Named.{IsNamed, vars_of}
 use Rattle.tiny_tree.specs.Tree.{Cond, Equal, Different, Less, Statement, If, While, Else, no_else, else_block, Statements, no_statements, statement, Function, Program}
-use Rattle.tiny_code.specs.Code.{Places, begins, code_size, main_code, method_code, methods, numbers, places_of}
+use Rattle.tiny_code.specs.Code.{Places, main_code, method_code, methods, numbers, places_of}
 
--- ---- the text and the pool
-
-abbrev pub method_bytes : Places → ℕ × Function → List ℕ
-method_bytes p m = header (m.1.parameters + 1) (vars_of m.1.body) ++ flat_map spelling (method_code p m.1)
-
-abbrev pub methods_bytes : Places → List (ℕ × Function) → List ℕ
-methods_bytes p ms = flat_map (method_bytes p) ms
-
-abbrev pub text_of : Program → Function → List ℕ
-text_of program main = flat_map spelling (main_code (places_of program) main) ++ methods_bytes (places_of program) (methods program)
-
-abbrev pub pool_of : Program → Function → List ℕ
-pool_of program main =
-    0 ∷ (begins (places_of program) (code_size (main_code (places_of program) main)) (methods program) ++ numbers program)
-
--- ---- the jumps, in the order of their addresses: each has the line of its `if` or `while`
+-- ---- the lines of the jumps, in the order of their addresses: each has that of its `if` or `while`
 
 abbrev pub if_lines : ℕ → Cond → List ℕ → List ℕ → List ℕ
 if_lines line (Different a b) taken other = line ∷ (taken ++ line ∷ other)
@@ -54,26 +40,32 @@ abbrev mutual
   else_lines no_else = []
   else_lines (else_block b) = statements_lines b
 
-abbrev pub main_jumps : Places → Function → List Jump
-main_jumps p g = jumps_of (statements_lines g.body) (main_code p g)
+-- ---- the parts
 
-abbrev pub method_jumps : Places → ℕ × Function → List Jump
-method_jumps p m = jumps_of (statements_lines m.1.body) (method_code p m.1)
+abbrev pub main_part : Places → Function → Part
+main_part p g = record { bytes = code_bytes (main_code p g); jumps = jumps_of (statements_lines g.body) (main_code p g) }
 
-abbrev pub jumps : Program → Function → List Jump
-jumps program main = main_jumps (places_of program) main ++ flat_map (method_jumps (places_of program)) (methods program)
+abbrev pub method_part : Places → ℕ × Function → Part
+method_part p m =
+    record {
+      bytes = header (m.1.parameters + 1) (vars_of m.1.body) ++ code_bytes (method_code p m.1);
+      jumps = jumps_of (statements_lines m.1.body) (method_code p m.1);
+    }
 
--- ---- limits
+abbrev pub layout_of : Program → Function → Layout
+layout_of program main =
+    record {
+      main = main_part (places_of program) main;
+      methods = map (method_part (places_of program)) (methods program);
+      before = 0 ∷ [];
+      after = numbers program;
+    }
 
 -- the code is within the limits, and this is its image
 pub record IsCodeOf (program : Program) (image : ImageView) : Type 0 where
   pub main : Function
   pub main_is : slice_get program.functions program.main ≡ Some main
-  pub pool_fits : length (pool_of program main) ≤ 16384
-  pub text_fits : length (text_of program main) ≤ 65536
-  pub jumps_fit : first_far (jumps program main) ≡ None
-  pub text : image.text ≡ text_of program main
-  pub pool : image.pool ≡ pool_of program main
+  pub laid : IsImageOf (layout_of program main) image
 
 -- the image is that of some program's code
 pub record IsCoded (image : ImageView) : Type 0 where

@@ -1,8 +1,7 @@
 -- What the laws of every program's code speak of.
 use Rattle.std.specs.Prelude.{◌≡◌, ◌≢◌, ◌≤◌, ℕ, ◌+◌, List, ◌++◌, length, slice_get, Some}
-use Rattle.std.specs.List.{flat_map}
 use Rattle.ijvm_instr.specs.declared.instr.Instr.{Instr}
-use Rattle.ijvm_instr.specs.Instructions.{spelling}
+use Rattle.ijvm_text.specs.Bytes.{code_bytes}
 use Rattle.tiny_tree.specs.Tree.{Function, Program}
 use Rattle.tiny_code.specs.Code.{code_size}
 use Rattle.tiny_code.specs.Laid.{CodeAt}
@@ -14,4 +13,4 @@ IsOther program f g = (slice_get program.functions f ≡ Some g) × (f ≢ progr
 -- between these bytes and those the code stands as it is written, where it ends within the addresses
 abbrev pub StandsBetween : List ℕ → List ℕ → List Instr → Type 0
 StandsBetween before after code =
-    length before + code_size code ≤ 65536 → CodeAt (before ++ (flat_map spelling code ++ after)) (length before) code
+    length before + code_size code ≤ 65536 → CodeAt (before ++ (code_bytes code ++ after)) (length before) code

@@ -1,21 +1,22 @@
 -- How long code is and where it stands, part by part, and where its jumps lead.
-use Rattle.std.proofs.Common.{◌≡◌, ◌≤◌, ℕ, zero, suc, ◌+◌, ◌-◌, ◌%◌, List, [], ◌∷◌, ◌++◌, length, refl, ap, subst, arith}
+use Rattle.std.proofs.Common.{◌≡◌, ◌≤◌, ℕ, zero, suc, ◌+◌, ◌-◌, ◌%◌, List, [], ◌∷◌, ◌++◌, length, refl, ap, ◌∙◌, subst, arith, length-append}
 use Rattle.std.specs.Prelude.{pos, neg_ℤ, All}
 use Rattle.std.proofs.lemmas.List.Elements.{All-nil, All-cons, All-head, All-tail}
 use Rattle.mic_words.specs.Arithmetic.{wrap}
 use Rattle.ijvm_instr.specs.declared.instr.Instr.{Instr}
-use Rattle.ijvm_instr.specs.Instructions.{row_of, size_of, target}
-use Rattle.tiny_tree.specs.Tree.{Function}
-use Rattle.tiny_code.specs.Code.{Places, begins, code_size, method_size}
+use Rattle.ijvm_instr.specs.Instructions.{row_of, size_of, spelling, target}
+use Rattle.ijvm_text.specs.Bytes.{code_bytes}
+use Rattle.tiny_code.specs.Code.{code_size}
 use Rattle.tiny_code.specs.Laid.{CodeAt}
 
 pub size_append : (a b : List Instr) → code_size (a ++ b) ≡ code_size a + code_size b
 size_append [] b = omega arith
 size_append (i ∷ a) b = omega (arith, size_append a b)
 
-pub begins_long : (p : Places) (begin : ℕ) (ms : List (ℕ × Function)) → length (begins p begin ms) ≡ length ms
-begins_long p begin [] = refl
-begins_long p begin (m ∷ ms) = ap suc (begins_long p (begin + method_size p m.1) ms)
+pub bytes_size : (code : List Instr) → length (code_bytes code) ≡ code_size code
+unfolding code_bytes
+bytes_size [] = refl
+bytes_size (i ∷ is) = length-append (spelling i) (code_bytes is) ∙ ap (λ (n : ℕ). size_of (row_of i) + n) (bytes_size is)
 
 pub front_at : (text : List ℕ) (at : ℕ) (a b : List Instr) → CodeAt text at (a ++ b) → CodeAt text at a
 front_at text at [] [] h = h

@@ -1,33 +1,27 @@
--- The image of what is emitted.
-use Rattle.std.proofs.Common.{◌≡◌, ◌≤◌, ℕ, List, ◌∷◌, ◌++◌, length, map, subst, ap, ◌∙◌, arith}
+-- The pool of a program, and its refusals.
+use Rattle.std.proofs.Common.{◌≡◌, ℕ, List, ◌∷◌, ◌++◌, length, map, subst, ap, ◌∙◌}
 use Rattle.std.specs.Prelude.{IfErr, Result, Ok, Err}
-use Rattle.ijvm_image.specs.Image.{IsWithinLimits}
+use Rattle.ijvm_text.specs.declared.units.Units.{Units}
+use Rattle.ijvm_text.specs.Layout.{begins, pool_of}
+use Rattle.ijvm_text.specs.Parts.{AreUnits}
 use Rattle.tiny_tree.specs.declared.tree.Function.{Function}
 use Rattle.tiny_tree.specs.Tree as tree
 use Rattle.tiny_tree.specs.Tree.{Program}
 use Rattle.tiny_tree.specs.View.{function_tree}
-use Rattle.tiny_code.specs.Code.{begins, code_size, main_code, methods, places_of}
-use Rattle.tiny_code.specs.Image.{pool_of}
+use Rattle.tiny_code.specs.Image.{layout_of}
 use Rattle.tiny_pool.specs.declared.table.Table.{Table}
 use Rattle.tiny_pool.specs.Places.{IsTableOf, numbers_in}
-use Rattle.tiny_emit.specs.declared.program.Emitted.{Emitted}
 use Rattle.tiny_parser.specs.Texts.{Spells}
 use Rattle.tiny_parser.specs.declared.error.TinyError.{TinyError}
 use Rattle.tiny_compiler.specs.Compiled.{HasNoCode, TooLarge}
 use Rattle.tiny_compiler.specs.Image.{IsTooLarge}
-use Rattle.tiny_emit.specs.Emitted.{IsEmitted, program_of}
+use Rattle.tiny_emit.specs.Emitted.{program_of}
 
-pub pool_is : (program : Program) (main : tree.Function) (table : Table) (e : Emitted) (pool : List ℕ) → IsTableOf table program → IsEmitted program main e →
-    pool ≡ 0 ∷ (e.begins.items ++ numbers_in table) → pool ≡ pool_of program main
-pool_is program main table e pool is emitted made =
-    let first : List ℕ = begins (places_of program) (code_size (main_code (places_of program) main)) (methods program) in
-    made ∙ ap (λ (l : List ℕ). 0 ∷ (l ++ numbers_in table)) emitted.begins ∙ ap (λ (l : List ℕ). 0 ∷ (first ++ l)) is.numbers_are
-
-pub fits : (program : Program) (main : tree.Function) (table : Table) (e : Emitted) (pool : List ℕ) → IsTableOf table program → IsEmitted program main e →
-    pool ≡ 0 ∷ (e.begins.items ++ numbers_in table) → length e.text.items ≤ 65536 → length (pool_of program main) ≤ 16384 → IsWithinLimits e.text.items pool
-fits program main table e pool is emitted made short few =
-    let same = ap (λ (l : List ℕ). length l) (pool_is program main table e pool is emitted made) in
-    record { text_fits = short; pool_fits = omega (arith, same, few) }
+pub pool_is : (program : Program) (main : tree.Function) (table : Table) (units : Units) (pool : List ℕ) → IsTableOf table program →
+    AreUnits (layout_of program main) units → pool ≡ 0 ∷ (units.entries.items ++ numbers_in table) → pool ≡ pool_of (layout_of program main)
+pool_is program main table units pool is emitted made =
+    made ∙ ap (λ (l : List ℕ). 0 ∷ (l ++ numbers_in table)) emitted.entries
+    ∙ ap (λ (l : List ℕ). 0 ∷ (begins (length (layout_of program main).main.bytes) (layout_of program main).methods ++ l)) is.numbers_are
 
 -- ---- the refusals of a program are those of its text
 

@@ -1,31 +1,29 @@
 -- In the image of its code a program is laid out.
-use Rattle.std.proofs.Common.{◌≡◌, ◌≢◌, ◌<◌, ◌≤◌, ℕ, zero, suc, ◌+◌, ◌/◌, ◌%◌, Bool, true, false, List, [], ◌∷◌, ◌++◌, length, Some, refl, sym, ap, ◌∙◌, subst, arith, append_assoc, length-append, pos}
+use Rattle.std.proofs.Common.{◌≡◌, ◌≢◌, ◌<◌, ◌≤◌, ℕ, zero, suc, ◌+◌, ◌/◌, ◌%◌, Bool, true, false, List, [], ◌∷◌, ◌++◌, length, map, Some, refl, sym, ap, ◌∙◌, subst, arith, append_assoc, length-append, pos}
 use Rattle.std.specs.Prelude.{◌==◌, ◌^◌, nat_lt, if◌then◌else◌, slice_get, slice_index, FitsSigned}
 use Rattle.std.specs.Int.{w8}
 use Rattle.std.specs.List.{All, Contains, flat_map, position_or_len}
-use Rattle.std.proofs.lemmas.List.{get_or-append-add}
+use Rattle.std.proofs.lemmas.List.{get_or-append-add, length-map}
 use Rattle.std.proofs.lemmas.List.Elements.{All-nil, All-cons, All-head, All-tail, Contains-append_right}
 use Rattle.ijvm_instr.specs.declared.instr.Instr.{Instr}
 use Rattle.ijvm_instr.specs.declared.instr.Instr.TheVariants.{Bipush, Ireturn, Halt as HaltCode}
-use Rattle.ijvm_instr.specs.Instructions.{IsInstr, spelling}
+use Rattle.ijvm_instr.specs.Instructions.{IsInstr}
 use Rattle.ijvm_instr.specs.Jumps.{Jump}
 use Rattle.ijvm_image.specs.Header.{header}
 use Rattle.ijvm_image.specs.Image.{ImageView, params, others}
+use Rattle.ijvm_text.specs.Bytes.{code_bytes}
+use Rattle.ijvm_text.specs.Layout.{Part, begins, bytes_of, jumps_in, jumps_of}
+use Rattle.ijvm_text.specs.Parts.{length-begins}
 use Rattle.tiny_tree.specs.Tree.{Function, Program}
 use Rattle.tiny_tree.specs.Named.{IsNamed, IsNamedFunction, names_count, parameters_seen, vars_of}
-use Rattle.tiny_code.specs.Code.{Places, begins, code_size, function_numbers, main_code, method_code, method_size, methods, numbers, places_of, statements_code}
+use Rattle.tiny_code.specs.Code.{Places, code_size, function_numbers, main_code, method_code, method_size, methods, numbers, places_of, statements_code}
 use Rattle.tiny_code.specs.Laid.{AreMethodsAt, CodeAt, IsLaidOut, IsMethodAt}
-use Rattle.tiny_code.specs.Standing.{all_back, all_front, begins_long, size_append}
-use Rattle.tiny_code.specs.Image.{IsCodeOf, jumps, main_jumps, method_bytes, method_jumps, methods_bytes, statements_lines}
+use Rattle.tiny_code.specs.Others.{AreEntries, entry, from_main}
+use Rattle.tiny_code.specs.Standing.{all_back, all_front, bytes_size, size_append}
+use Rattle.tiny_code.specs.Image.{IsCodeOf, layout_of, main_part, method_part, statements_lines}
 use Rattle.tiny_code.specs.Lined.{main_lined, method_lined}
-use Rattle.tiny_compiler.proofs.Lists.{AreEntries, entry, Finds, all_found, from_main, get_after, prefix_short}
+use Rattle.tiny_compiler.proofs.Lists.{Finds, all_found, get_after, prefix_short}
 use Rattle.tiny_compiler.proofs.Fitting.{Fit, FitAside, FitsAside, IsNearJump, all_near, both, near_fits, one, statements_fit}
-
--- ---- sizes
-
-code_long : (is : List Instr) → length (flat_map spelling is) ≡ code_size is
-code_long [] = refl
-code_long (i ∷ is) = omega (arith, code_long is, length-append (spelling i) (flat_map spelling is))
 
 -- ---- positions
 
@@ -50,36 +48,39 @@ abbrev header_of : Function → List ℕ
 header_of g = header (g.parameters + 1) (vars_of g.body)
 
 module _ (stands : (code : List Instr) (before after : List ℕ) → All IsInstr code → length before + code_size code ≤ 65536 →
-    CodeAt (before ++ (flat_map spelling code ++ after)) (length before) code)
+    CodeAt (before ++ (code_bytes code ++ after)) (length before) code)
     (image : ImageView) (program : Program) (short : length image.text ≤ 65536) where
   abbrev p : Places
   p = places_of program
 
+  abbrev parts : List (ℕ × Function) → List Part
+  parts ms = map (method_part p) ms
+
   abbrev IsFit : ℕ × Function → Type 0
   IsFit m = Fit (method_code p m.1)
 
-  module _ (front rest : List ℕ) (m : ℕ × Function) (text : image.text ≡ front ++ (method_bytes p m ++ rest)) where
+  module _ (front rest : List ℕ) (m : ℕ × Function) (text : image.text ≡ front ++ ((method_part p m).bytes ++ rest)) where
     abbrev code : List Instr
     code = method_code p m.1
 
     abbrev bytes : List ℕ
-    bytes = flat_map spelling code ++ rest
+    bytes = code_bytes code ++ rest
 
     long : length image.text ≡ length front + 4 + code_size code + length rest
     long =
         omega (
           arith,
           ap (λ (xs : List ℕ). length xs) text,
-          length-append front (method_bytes p m ++ rest),
-          length-append (method_bytes p m) rest,
-          code_long code,
+          length-append front ((method_part p m).bytes ++ rest),
+          length-append ((method_part p m).bytes) rest,
+          bytes_size code,
         )
 
     least : 3 ≤ code_size code
     least = omega (arith, size_append (statements_code p 1 m.1.body) (Bipush (pos 0) ∷ Ireturn ∷ []))
 
-    byte_at : (k : ℕ) → slice_index image.text (length front + k) ≡ slice_index (method_bytes p m ++ rest) k
-    byte_at k = ap (λ (xs : List ℕ). slice_index xs (length front + k)) text ∙ get_or-append-add front (method_bytes p m ++ rest) k 0
+    byte_at : (k : ℕ) → slice_index image.text (length front + k) ≡ slice_index ((method_part p m).bytes ++ rest) k
+    byte_at k = ap (λ (xs : List ℕ). slice_index xs (length front + k)) text ∙ get_or-append-add front ((method_part p m).bytes ++ rest) k 0
 
     params_are : params image.text (length front) ≡ m.1.parameters + 1
     unfolding params
@@ -113,27 +114,27 @@ module _ (stands : (code : List Instr) (before after : List ℕ) → All IsInstr
     }
 
   methods_laid : (front earlier : List ℕ) (k : ℕ) (ms : List (ℕ × Function)) → AreEntries program.main k ms → All IsFit ms →
-      image.text ≡ front ++ methods_bytes p ms → image.pool ≡ 0 ∷ (earlier ++ (begins p (length front) ms ++ numbers program)) →
+      image.text ≡ front ++ bytes_of (parts ms) → image.pool ≡ 0 ∷ (earlier ++ (begins (length front) (parts ms) ++ numbers program)) →
       length earlier ≡ k → AreMethodsAt image p (length front) ms
   methods_laid front earlier k [] entries fit text pool at = tt
   methods_laid front earlier k (m ∷ ms) entries fit text pool at =
       let begin : ℕ = length front in
-      let bytes : List ℕ = method_bytes p m in
-      let later : List ℕ = begins p (begin + method_size p m.1) ms ++ numbers program in
+      let bytes : List ℕ = (method_part p m).bytes in
+      let later : List ℕ = begins (begin + length bytes) (parts ms) ++ numbers program in
       let place : p.entry m.0 ≡ k + 1 = entries.0 in
       let index : p.entry m.0 ≡ length (0 ∷ earlier) + 0 = omega (arith, place, at) in
       let entry : slice_get image.pool (p.entry m.0) ≡ Some begin =
       ap (slice_get image.pool) index ∙ ap (λ (xs : List ℕ). slice_get xs (length (0 ∷ earlier) + 0)) pool
       ∙ get_after (0 ∷ earlier) (begin ∷ later) 0 in
-      let long : length (front ++ bytes) ≡ begin + method_size p m.1 =
-      omega (arith, length-append front bytes, code_long (method_code p m.1)) in
-      let whole : image.text ≡ front ++ (bytes ++ methods_bytes p ms) = text in
-      let next_text : image.text ≡ (front ++ bytes) ++ methods_bytes p ms = whole ∙ sym (append_assoc front bytes (methods_bytes p ms)) in
-      let next_pool : image.pool ≡ 0 ∷ ((earlier ++ begin ∷ []) ++ (begins p (length (front ++ bytes)) ms ++ numbers program)) =
+      let joined : length (front ++ bytes) ≡ begin + length bytes = length-append front bytes in
+      let long : length (front ++ bytes) ≡ begin + method_size p m.1 = omega (arith, joined, bytes_size (method_code p m.1)) in
+      let whole : image.text ≡ front ++ (bytes ++ bytes_of (parts ms)) = text in
+      let next_text : image.text ≡ (front ++ bytes) ++ bytes_of (parts ms) = whole ∙ sym (append_assoc front bytes (bytes_of (parts ms))) in
+      let next_pool : image.pool ≡ 0 ∷ ((earlier ++ begin ∷ []) ++ (begins (length (front ++ bytes)) (parts ms) ++ numbers program)) =
       pool ∙ ap (λ (xs : List ℕ). 0 ∷ xs) (sym (append_assoc earlier (begin ∷ []) later))
-      ∙ ap (λ (b : ℕ). 0 ∷ ((earlier ++ begin ∷ []) ++ (begins p b ms ++ numbers program))) (sym long) in
+      ∙ ap (λ (b : ℕ). 0 ∷ ((earlier ++ begin ∷ []) ++ (begins b (parts ms) ++ numbers program))) (sym joined) in
       let next_at : length (earlier ++ begin ∷ []) ≡ k + 1 = omega (arith, at, length-append earlier (begin ∷ [])) in (
-        method_at front (methods_bytes p ms) m whole (All-head IsFit m ms fit) entry,
+        method_at front (bytes_of (parts ms)) m whole (All-head IsFit m ms fit) entry,
         subst (λ (b : ℕ). AreMethodsAt image p b ms) long
             (methods_laid (front ++ bytes) (earlier ++ begin ∷ []) (k + 1) ms entries.1 (All-tail IsFit m ms fit) next_text next_pool next_at),
       )
@@ -143,12 +144,14 @@ module _ (stands : (code : List Instr) (before after : List ℕ) → All IsInstr
     abbrev main : Function
     main = is.main
 
-    -- the bytes of main's code, and where the methods begin
-    abbrev first : ℕ
-    first = code_size (main_code p main)
+    abbrev main_bytes : List ℕ
+    main_bytes = code_bytes (main_code p main)
 
     abbrev entries_part : List ℕ
-    entries_part = begins p first (methods program)
+    entries_part = begins (length main_bytes) (parts (methods program))
+
+    entries_long : length entries_part ≡ length (methods program)
+    entries_long = length-begins (length main_bytes) (parts (methods program)) ∙ length-map (methods program) (method_part p)
 
     main_inside : program.main < length program.functions
     main_inside = get_inside program.functions program.main main is.main_is
@@ -158,7 +161,7 @@ module _ (stands : (code : List Instr) (before after : List ℕ) → All IsInstr
 
     pool_long : length program.functions + length (numbers program) ≤ 16384
     pool_long =
-        omega (arith, is.pool_fits, length-append entries_part (numbers program), begins_long p first (methods program), counted.1)
+        omega (arith, is.laid.pool_fits, length-append entries_part (numbers program), entries_long, counted.1)
 
     constants : (n : ℕ) → p.constant n < 65536
     constants n = omega (arith, pool_long, prefix_short (λ m. m == n) (numbers program))
@@ -168,11 +171,11 @@ module _ (stands : (code : List Instr) (before after : List ℕ) → All IsInstr
         let least : p.entry f ≤ f + 1 = entry_short program.main f in
         omega (arith, least, get_inside program.functions f g at, pool_long)
 
-    near : All IsNearJump (jumps program main)
-    near = all_near (jumps program main) is.jumps_fit
+    near : All IsNearJump (jumps_of (layout_of program main))
+    near = all_near (jumps_of (layout_of program main)) is.laid.jumps_fit
 
     abbrev later_jumps : List Jump
-    later_jumps = flat_map (method_jumps p) (methods program)
+    later_jumps = jumps_in (parts (methods program))
 
     -- ---- each function's code has its operands in range
 
@@ -186,55 +189,50 @@ module _ (stands : (code : List Instr) (before after : List ℕ) → All IsInstr
     main_fits =
         near_fits (main_code p main) (statements_lines main.body) (main_lined p main)
         (both (statements_code p 0 main.body) (HaltCode ∷ []) (body_fits 0 program.main main (omega arith) is.main_is) (one HaltCode tt))
-        (all_front IsNearJump (main_jumps p main) later_jumps near)
+        (all_front IsNearJump (main_part p main).jumps later_jumps near)
 
-    method_fits : (m : ℕ × Function) → slice_get program.functions m.0 ≡ Some m.1 → All IsNearJump (method_jumps p m) → IsFit m
+    method_fits : (m : ℕ × Function) → slice_get program.functions m.0 ≡ Some m.1 → All IsNearJump (method_part p m).jumps → IsFit m
     method_fits m at near_body =
         near_fits (method_code p m.1) (statements_lines m.1.body) (method_lined p m.1)
         (both (statements_code p 1 m.1.body) (Bipush (pos 0) ∷ Ireturn ∷ []) (body_fits 1 m.0 m.1 (omega arith) at)
         (All-cons FitsAside (Bipush (pos 0)) (Ireturn ∷ []) zero_fits (one Ireturn tt))) near_body
 
     methods_fit : (ms : List (ℕ × Function)) → ((m : ℕ × Function) → Contains ms m → slice_get program.functions m.0 ≡ Some m.1) →
-        All IsNearJump (flat_map (method_jumps p) ms) → All IsFit ms
+        All IsNearJump (jumps_in (parts ms)) → All IsFit ms
     methods_fit [] each near_all = All-nil IsFit
     methods_fit (m ∷ ms) each near_all =
         All-cons IsFit m ms
-        (method_fits m (each m (0, omega arith, refl)) (all_front IsNearJump (method_jumps p m) (flat_map (method_jumps p) ms) near_all))
-        (methods_fit ms (λ x h. each x (Contains-append_right (m ∷ []) ms x h)) (all_back IsNearJump (method_jumps p m) (flat_map (method_jumps p) ms) near_all))
+        (method_fits m (each m (0, omega arith, refl)) (all_front IsNearJump (method_part p m).jumps (jumps_in (parts ms)) near_all))
+        (methods_fit ms (λ x h. each x (Contains-append_right (m ∷ []) ms x h))
+        (all_back IsNearJump (method_part p m).jumps (jumps_in (parts ms)) near_all))
 
     -- ---- all of it
 
-    abbrev main_bytes : List ℕ
-    main_bytes = flat_map spelling (main_code p main)
-
     main_at : CodeAt image.text 0 (main_code p main)
     main_at =
-        let long = length-append main_bytes (methods_bytes p (methods program)) in
-        subst (λ (xs : List ℕ). CodeAt xs 0 (main_code p main)) (sym is.text)
-        (stands (main_code p main) [] (methods_bytes p (methods program)) main_fits
-        (omega (arith, is.text_fits, long, code_long (main_code p main))))
+        let long = length-append main_bytes (bytes_of (parts (methods program))) in
+        subst (λ (xs : List ℕ). CodeAt xs 0 (main_code p main)) (sym is.laid.text)
+        (stands (main_code p main) [] (bytes_of (parts (methods program))) main_fits
+        (omega (arith, is.laid.text_fits, long, bytes_size (main_code p main))))
 
-    methods_at : AreMethodsAt image p first (methods program)
+    methods_at : AreMethodsAt image p (code_size (main_code p main)) (methods program)
     methods_at =
-        let long : length main_bytes ≡ first = code_long (main_code p main) in
-        let pool : image.pool ≡ 0 ∷ ([] ++ (begins p (length main_bytes) (methods program) ++ numbers program)) =
-        is.pool ∙ ap (λ (b : ℕ). 0 ∷ (begins p b (methods program) ++ numbers program)) (sym long) in
-        subst (λ (b : ℕ). AreMethodsAt image p b (methods program)) long
+        subst (λ (b : ℕ). AreMethodsAt image p b (methods program)) (bytes_size (main_code p main))
         (methods_laid main_bytes [] 0 (methods program) counted.0
-        (methods_fit (methods program) (λ m h. (sound m.0 m.1 h).0) (all_back IsNearJump (main_jumps p main) later_jumps near))
-        is.text pool refl)
+        (methods_fit (methods program) (λ m h. (sound m.0 m.1 h).0) (all_back IsNearJump (main_part p main).jumps later_jumps near))
+        is.laid.text is.laid.pool refl)
 
     number_at : (n : ℕ) → Finds (numbers program) n → slice_get image.pool (p.constant n) ≡ Some n
     number_at n found =
         let front : List ℕ = 0 ∷ entries_part in
         let place : ℕ = position_or_len (λ m. m == n) (numbers program) in
-        let index : p.constant n ≡ length front + place = omega (arith, begins_long p first (methods program), counted.1) in
-        ap (slice_get image.pool) index ∙ ap (λ (xs : List ℕ). slice_get xs (length front + place)) is.pool
+        let index : p.constant n ≡ length front + place = omega (arith, entries_long, counted.1) in
+        ap (slice_get image.pool) index ∙ ap (λ (xs : List ℕ). slice_get xs (length front + place)) is.laid.pool
         ∙ get_after front (numbers program) place ∙ found
 
     pub laid_out : IsLaidOut image p program
     laid_out = record {
-      object = ap (λ (xs : List ℕ). slice_get xs 0) is.pool;
+      object = ap (λ (xs : List ℕ). slice_get xs 0) is.laid.pool;
       numbers = all_found (flat_map function_numbers program.functions) (λ n. slice_get image.pool (p.constant n) ≡ Some n) number_at;
       main = main;
       main_is = is.main_is;

@@ -1,9 +1,10 @@
 -- A text compiles to one program at most, or has one refusal.
-use Rattle.std.proofs.Common.{◌≡◌, ◌∙◌, ℕ, List, Some, length, sym, ap, subst, arith}
+use Rattle.std.proofs.Common.{◌≡◌, ◌∙◌, ℕ, List, Some, sym, ap, subst, arith}
 use Rattle.std.specs.Prelude.{slice_get}
 use Rattle.std.proofs.lemmas.Option.{none-some, same_Some}
-use Rattle.ijvm_instr.specs.Jumps.{Jump, first_far}
+use Rattle.ijvm_instr.specs.Jumps.{Jump}
 use Rattle.ijvm_image.specs.Image.{ImageView}
+use Rattle.ijvm_text.specs.Layout.{IsImageOf, Layout, pool_of, text_of}
 use Rattle.verifier_facts.specs.Accepted.{VerifiedView}
 use Rattle.verifier_facts.specs.Facts.{IsMainCount}
 use Rattle.verifier_facts.specs.MainCount.{one_count}
@@ -12,7 +13,7 @@ use Rattle.tiny_parser.specs.Texts.{IsRefused, Spells}
 use Rattle.tiny_parser.specs.declared.error.TinyError.{TinyError}
 use Rattle.tiny_parser.specs.declared.error.TinyError.TheVariants.{JumpTooFar, PoolTooLong, TextTooLong}
 use Rattle.tiny_compiler.specs.Compiled.{HasNoCode, IsCompiled, NoProgram, TooLarge}
-use Rattle.tiny_code.specs.Image.{IsCodeOf, jumps, pool_of, text_of}
+use Rattle.tiny_code.specs.Image.{IsCodeOf, layout_of}
 use Rattle.tiny_compiler.specs.Image.{ExceedsBy, IsTooLarge}
 
 -- ---- images and limits
@@ -20,43 +21,39 @@ use Rattle.tiny_compiler.specs.Image.{ExceedsBy, IsTooLarge}
 image_once : (program : Program) (p q : ImageView) → IsCodeOf program p → IsCodeOf program q → p ≡ q
 image_once program p q one other =
     let main : one.main ≡ other.main = same_Some one.main other.main (sym one.main_is ∙ other.main_is) in
-    let text : p.text ≡ q.text = one.text ∙ ap (text_of program) main ∙ sym other.text in
-    let pool : p.pool ≡ q.pool = one.pool ∙ ap (pool_of program) main ∙ sym other.pool in
+    let text : p.text ≡ q.text = one.laid.text ∙ ap (λ (g : Function). text_of (layout_of program g)) main ∙ sym other.laid.text in
+    let pool : p.pool ≡ q.pool = one.laid.pool ∙ ap (λ (g : Function). pool_of (layout_of program g)) main ∙ sym other.laid.pool in
     λ i. record { text = text i; pool = pool i }
 
+laid_fits : (l : Layout) (image : ImageView) (e : TinyError) → IsImageOf l image → ExceedsBy l e → ⊥
+laid_fits l image (PoolTooLong count) is exceeds = omega (arith, exceeds.0, exceeds.1, is.pool_fits)
+laid_fits l image (TextTooLong size) is exceeds = omega (arith, exceeds.1, exceeds.2, is.text_fits)
+laid_fits l image (JumpTooFar line far) is exceeds = none-some (line, far) (sym is.jumps_fit ∙ exceeds.2)
+laid_fits l image _ is exceeds = exceeds
+
 fits : (program : Program) (image : ImageView) (main : Function) (e : TinyError) → IsCodeOf program image →
-    slice_get program.functions program.main ≡ Some main → ExceedsBy program main e → ⊥
-fits program image main (PoolTooLong count) is at exceeds =
-    let same = same_Some is.main main (sym is.main_is ∙ at) in
-    omega (arith, exceeds.0, exceeds.1, is.pool_fits, ap (λ (g : Function). length (pool_of program g)) same)
-fits program image main (TextTooLong size) is at exceeds =
-    let same = same_Some is.main main (sym is.main_is ∙ at) in
-    omega (arith, exceeds.1, exceeds.2, is.text_fits, ap (λ (g : Function). length (text_of program g)) same)
-fits program image main (JumpTooFar line far) is at exceeds =
-    let same = same_Some is.main main (sym is.main_is ∙ at) in
-    none-some (line, far) (sym is.jumps_fit ∙ ap (λ (g : Function). first_far (jumps program g)) same ∙ exceeds.2)
-fits program image main _ is at exceeds = exceeds
+    slice_get program.functions program.main ≡ Some main → ExceedsBy (layout_of program main) e → ⊥
+fits program image main e is at exceeds =
+    laid_fits (layout_of program main) image e
+    (subst (λ (g : Function). IsImageOf (layout_of program g) image) (same_Some is.main main (sym is.main_is ∙ at)) is.laid) exceeds
 
 -- ---- the first limit
 
-abbrev OnlyOne : Program → Function → TinyError → TinyError → Type 0
-OnlyOne program main d e = ExceedsBy program main d → ExceedsBy program main e → d ≡ e
-
-one_limit : (program : Program) (main : Function) (d e : TinyError) → OnlyOne program main d e
-one_limit program main (PoolTooLong a) (PoolTooLong b) f g = ap PoolTooLong (f.0 ∙ sym g.0)
-one_limit program main (PoolTooLong a) (TextTooLong b) f g = absurd (omega (arith, f.0, f.1, g.0))
-one_limit program main (PoolTooLong a) (JumpTooFar line far) f g = absurd (omega (arith, f.0, f.1, g.0))
-one_limit program main (TextTooLong a) (PoolTooLong b) f g = absurd (omega (arith, g.0, g.1, f.0))
-one_limit program main (TextTooLong a) (TextTooLong b) f g = ap TextTooLong (f.1 ∙ sym g.1)
-one_limit program main (TextTooLong a) (JumpTooFar line far) f g = absurd (omega (arith, f.1, f.2, g.1))
-one_limit program main (JumpTooFar line far) (PoolTooLong b) f g = absurd (omega (arith, g.0, g.1, f.0))
-one_limit program main (JumpTooFar line far) (TextTooLong b) f g = absurd (omega (arith, g.1, g.2, f.1))
-one_limit program main (JumpTooFar line far) (JumpTooFar other more) f g =
+one_limit : (l : Layout) (d e : TinyError) → ExceedsBy l d → ExceedsBy l e → d ≡ e
+one_limit l (PoolTooLong a) (PoolTooLong b) f g = ap PoolTooLong (f.0 ∙ sym g.0)
+one_limit l (PoolTooLong a) (TextTooLong b) f g = absurd (omega (arith, f.0, f.1, g.0))
+one_limit l (PoolTooLong a) (JumpTooFar line far) f g = absurd (omega (arith, f.0, f.1, g.0))
+one_limit l (TextTooLong a) (PoolTooLong b) f g = absurd (omega (arith, g.0, g.1, f.0))
+one_limit l (TextTooLong a) (TextTooLong b) f g = ap TextTooLong (f.1 ∙ sym g.1)
+one_limit l (TextTooLong a) (JumpTooFar line far) f g = absurd (omega (arith, f.1, f.2, g.1))
+one_limit l (JumpTooFar line far) (PoolTooLong b) f g = absurd (omega (arith, g.0, g.1, f.0))
+one_limit l (JumpTooFar line far) (TextTooLong b) f g = absurd (omega (arith, g.1, g.2, f.1))
+one_limit l (JumpTooFar line far) (JumpTooFar other more) f g =
     ap (λ (j : Jump). JumpTooFar j.0 j.1) (same_Some (line, far) (other, more) (sym f.2 ∙ g.2))
-one_limit program main (PoolTooLong a) _ f g = absurd g
-one_limit program main (TextTooLong a) _ f g = absurd g
-one_limit program main (JumpTooFar line far) _ f g = absurd g
-one_limit program main _ e f g = absurd f
+one_limit l (PoolTooLong a) _ f g = absurd g
+one_limit l (TextTooLong a) _ f g = absurd g
+one_limit l (JumpTooFar line far) _ f g = absurd g
+one_limit l _ e f g = absurd f
 
 -- ---- texts, by what holds of each
 
@@ -87,4 +84,4 @@ module _
       let same : p ≡ q = one_program text p q spelled spelled' in
       let f' : IsTooLarge q d = subst (λ (x : Program). IsTooLarge x d) same f in
       let main : f'.0 ≡ g.0 = same_Some f'.0 g.0 (sym f'.1 ∙ g.1) in
-      one_limit q g.0 d e (subst (λ (x : Function). ExceedsBy q x d) main f'.2) g.2
+      one_limit (layout_of q g.0) d e (subst (λ (x : Function). ExceedsBy (layout_of q x) d) main f'.2) g.2

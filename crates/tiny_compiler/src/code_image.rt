@@ -5,11 +5,12 @@ ghost use Rattle.tiny_tree.specs.Named.{IsNamed};
 ghost use Rattle.tiny_code.specs.Image.{IsCodeOf};
 ghost use Rattle.tiny_emit.specs.Emitted.{program_of};
 ghost use Rattle.tiny_parser.specs.Errors.{is_memory};
-ghost use Rattle.tiny_compiler.specs.Image.{EmittedExceedsBy, IsTooLarge};
+ghost use Rattle.tiny_compiler.specs.Image.{IsTooLarge, TextExceedsBy};
 
 use ijvm_image::Image;
+use ijvm_text::{Text, Units};
 use std::alloc::Global;
-use tiny_emit::{Emitted, emit};
+use tiny_emit::emit;
 use tiny_parser::{Function, TinyError};
 use tiny_pool::{Table, make_pool};
 
@@ -17,20 +18,20 @@ use tiny_pool::{Table, make_pool};
 const MOST_WORDS: u32 = 16384;
 
 /// The most bytes of a text.
-const MOST_BYTES: usize = 65536;
+const MOST_BYTES: u32 = 65536;
 
-/// The limits of an emitted program, in their order.
-fn within_limits(emitted: &Emitted) -> Result<(), TinyError>
-    ensures ok { OnOk result ((length emitted.now.text.items ≤ 65536) × (emitted.now.far ≡ None)) }
-    ensures err { IfErr result (λ e. is_memory e ≡ false → EmittedExceedsBy emitted.now e) }
+/// The limits of a text, in their order.
+fn within_limits(text: &Text) -> Result<(), TinyError>
+    ensures ok { OnOk result ((length text.now.bytes.items ≤ 65536) × (text.now.far ≡ None)) }
+    ensures err { IfErr result (λ e. is_memory e ≡ false → TextExceedsBy text.now e) }
 {
-    if emitted.text.len() > MOST_BYTES {
-        return match u32::try_from(emitted.text.len()) {
-            Ok(size) => Err(TinyError::TextTooLong(size)),
-            Err(_) => Err(TinyError::OutOfMemory),
-        };
+    let Ok(size) = text.size() else {
+        return Err(TinyError::OutOfMemory);
+    };
+    if size > MOST_BYTES {
+        return Err(TinyError::TextTooLong(size));
     }
-    match emitted.far {
+    match text.far {
         Some(jump) => Err(TinyError::JumpTooFar(jump.line, jump.distance)),
         None => Ok(()),
     }
@@ -53,12 +54,13 @@ pub(crate) fn code_image(
     if words > MOST_WORDS {
         return Err(TinyError::PoolTooLong(words));
     }
-    let Ok(emitted) = emit(alloc, &table, functions, main) else {
+    let Ok(units) = emit(alloc, &table, functions, main) else {
         return Err(TinyError::OutOfMemory);
     };
-    within_limits(&emitted)?;
-    let Ok(pool) = make_pool(alloc, &table, &emitted.begins) else {
+    let Units { text, entries } = units;
+    within_limits(&text)?;
+    let Ok(pool) = make_pool(alloc, &table, &entries) else {
         return Err(TinyError::OutOfMemory);
     };
-    Ok(Image::new(emitted.text, pool))
+    Ok(Image::new(text.bytes, pool))
 }

@@ -1,16 +1,16 @@
 -- The code of tests, choices and loops, piece by piece.
-use Rattle.std.proofs.Common.{◌≡◌, ℕ, ℤ, pos, ◌+◌, ◌-◌, false, List, [], ◌∷◌, ◌++◌, length, refl, sym, ap, ◌∙◌, subst, arith, length-append}
+use Rattle.std.proofs.Common.{◌≡◌, ℕ, ℤ, pos, ◌+◌, ◌-◌, false, List, [], ◌∷◌, ◌++◌, length, refl, sym, ap, ◌∙◌, subst, arith}
 use Rattle.std.specs.Prelude.{neg_ℤ}
 use Rattle.std.specs.List.{zip}
 use Rattle.std.specs.Option.{option_or}
 use Rattle.ijvm_instr.specs.declared.instr.Instr.{Instr}
 use Rattle.ijvm_instr.specs.declared.instr.Instr.TheVariants.{Iflt, IfIcmpeq, Goto}
-use Rattle.ijvm_instr.specs.Instructions.{row_of, size_of, spelling}
 use Rattle.ijvm_instr.specs.Jumps.{HasLines, Jump, distances, first_far, is_far, jumps_of}
 use Rattle.tiny_tree.specs.Tree.{Cond, Expr, Equal, Different, Less}
 use Rattle.tiny_code.specs.Code.{Places, choice, code_size, if_code, leave_code, loop, test_code}
 use Rattle.tiny_code.specs.Image.{if_lines, leave_lines, while_lines}
 use Rattle.tiny_code.specs.Lined.{distances_append, leave_lined, test_lined}
+use Rattle.tiny_code.specs.Standing.{bytes_size}
 use Rattle.ijvm_text.specs.declared.text.Text.{Text}
 use Rattle.tiny_emit.specs.declared.jump.Way.{Way}
 use Rattle.tiny_emit.specs.declared.jump.Way.TheVariants.{IfEqual}
@@ -19,11 +19,6 @@ use Rattle.ijvm_text.specs.Adds.{Adds, AddsCode, IsCode, far_of}
 use Rattle.ijvm_text.specs.Bytes.{code_bytes}
 use Rattle.tiny_emit.specs.Appended.{AddsJump}
 use Rattle.tiny_emit.specs.Ways.{jump_code, way_of}
-
-pub bytes_size : (code : List Instr) → length (code_bytes code) ≡ code_size code
-unfolding code_bytes
-bytes_size [] = refl
-bytes_size (i ∷ is) = length-append (spelling i) (code_bytes is) ∙ ap (λ (n : ℕ). size_of (row_of i) + n) (bytes_size is)
 
 zip_append : (i j : List ℕ) (d e : List ℤ) → length i ≡ length d → zip (i ++ j) (d ++ e) ≡ zip i d ++ zip j e
 zip_append [] j [] e h = refl

@@ -8,4 +8,4 @@ mod jump;
 mod program;
 mod vars;
 
-pub use program::{Emitted, emit};
+pub use program::emit;

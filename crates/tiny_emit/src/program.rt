@@ -1,10 +1,12 @@
 //! The code of a program.
 
-ghost use Rattle.std.specs.Prelude.{◌≡◌, ◌<◌, ◌+◌, ◌∷◌, ◌++◌, [], IfOk, OnOk, length};
+ghost use Rattle.std.specs.Prelude.{◌≡◌, ◌<◌, ◌+◌, ◌++◌, [], IfOk, OnOk, length};
 ghost use Rattle.ijvm_image.specs.Header.{header};
 ghost use Rattle.tiny_code.specs.Code.{methods, places_of};
+ghost use Rattle.tiny_code.specs.Image.{method_part};
 ghost use Rattle.ijvm_text.specs.Adds.{Adds};
-ghost use Rattle.tiny_emit.specs.Emitted.{AddsMain, AddsMethod, AddsMethods, IsEmittedFrom, header_of, program_of};
+ghost use Rattle.ijvm_text.specs.Parts.{AddsPart};
+ghost use Rattle.tiny_emit.specs.Emitted.{AddsMain, AddsMethod, AddsMethods, AreUnitsOf, header_of, program_of};
 ghost use Rattle.tiny_pool.specs.Places.{places_in};
 ghost use Rattle.tiny_tree.specs.View.{function_tree};
 
@@ -12,26 +14,10 @@ use crate::block::add_block;
 use crate::vars::{sum, vars_of};
 use ijvm_image::push_header;
 use ijvm_instr::Instr;
-use ijvm_text::{Jump, Text};
+use ijvm_text::{Text, Units};
 use std::alloc::{AllocError, Global};
 use tiny_pool::Table;
 use tiny_tree::Function;
-
-/// The text of a program, the address of each method's header, and the first jump that is too far. With such a jump
-/// the text has its length, but not its bytes.
-#[derive(Drop)]
-pub struct Emitted {
-    pub text: Vec<u8>,
-    pub begins: Vec<u32>,
-    pub far: Option<Jump>,
-}
-
-/// A text, and where each of its methods begins.
-#[derive(Drop)]
-struct Methods {
-    text: Text,
-    begins: Vec<u32>,
-}
 
 /// A count as a number of two bytes; it is an error if it does not fit one.
 fn count_of(count: u32) -> Result<u16, AllocError>
@@ -84,57 +70,53 @@ fn add_method(
     text.add(Instr::Ireturn)
 }
 
-impl Methods {
-    fn add(&mut self, alloc: Global, table: &Table, function: &Function) -> Result<(), AllocError>
-        ensures { OnOk result (AddsMethods (places_in table.now) self.old self.new
-            ((0, function_tree function.now) ∷ [])) }
-    {
-        self.begins.push(self.text.size()?)?;
-        add_method(&mut self.text, alloc, table, function)
-    }
-
-    fn add_all(
-        &mut self,
-        alloc: Global,
-        table: &Table,
-        functions: &[Function],
-        main: u32,
-    ) -> Result<(), AllocError>
-        ensures { OnOk result (AddsMethods (places_in table.now) self.old self.new
-            (methods (program_of functions.now main))) }
-    {
-        for (position, function) in functions.iter().enumerate() {
-            if position != main as usize {
-                self.add(alloc, table, function)?;
-            }
-        }
-        Ok(())
-    }
+/// Appends a function, and where it begins.
+fn add_unit(
+    units: &mut Units,
+    alloc: Global,
+    table: &Table,
+    function: &Function,
+) -> Result<(), AllocError>
+    ensures { OnOk result (AddsPart units.old units.new
+        (method_part (places_in table.now) (0, function_tree function.now))) }
+{
+    units.entries.push(units.text.size()?)?;
+    add_method(&mut units.text, alloc, table, function)
 }
 
-/// The code of the program of these functions. A text of 2^30 bytes or more may be reported as out of memory.
+/// Appends the functions but main.
+fn add_methods(
+    units: &mut Units,
+    alloc: Global,
+    table: &Table,
+    functions: &[Function],
+    main: u32,
+) -> Result<(), AllocError>
+    ensures { OnOk result (AddsMethods (places_in table.now) units.old units.new
+        (methods (program_of functions.now main))) }
+{
+    for (position, function) in functions.iter().enumerate() {
+        if position != main as usize {
+            add_unit(units, alloc, table, function)?;
+        }
+    }
+    Ok(())
+}
+
+/// The code of the program of these functions. With a jump that is too far its text has its length, but not its bytes.
+/// A text of 2^30 bytes or more may be reported as out of memory.
 pub fn emit(
     alloc: Global,
     table: &Table,
     functions: &[Function],
     main: u32,
-) -> Result<Emitted, AllocError>
+) -> Result<Units, AllocError>
     requires known { main < length functions.now }
     requires placed { places_in table.now ≡ places_of (program_of functions.now main) }
-    ensures { IfOk result (λ e. IsEmittedFrom (program_of functions.now main) e) }
+    ensures { IfOk result (AreUnitsOf (program_of functions.now main)) }
 {
-    let mut text = Text::new(alloc);
-    add_main(&mut text, alloc, table, &functions[main as usize])?;
-    let mut methods = Methods {
-        text,
-        begins: Vec::new(alloc),
-    };
-    methods.add_all(alloc, table, functions, main)?;
-    let Methods { text, begins } = methods;
-    let Text { bytes, far } = text;
-    Ok(Emitted {
-        text: bytes,
-        begins,
-        far,
-    })
+    let mut units = Units::new(alloc);
+    add_main(&mut units.text, alloc, table, &functions[main as usize])?;
+    add_methods(&mut units, alloc, table, functions, main)?;
+    Ok(units)
 }

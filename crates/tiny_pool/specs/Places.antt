@@ -5,7 +5,8 @@ use Rattle.std.specs.BTreeMap.{get}
 use Rattle.tiny_pool.specs.declared.table.Table.{Table}
 use Rattle.tiny_tree.specs.Tree.{Function, Program}
 use Rattle.tiny_code.specs.Code.{Places, numbers, places_of}
-use Rattle.tiny_code.specs.Image.{pool_of}
+use Rattle.ijvm_text.specs.Layout.{pool_of}
+use Rattle.tiny_code.specs.Image.{layout_of}
 use Rattle.tiny_pool.specs.Seen.{or_else}
 
 -- a number that the pool does not have has the place after the pool
@@ -33,4 +34,4 @@ pub record IsTableOf (table : Table) (program : Program) : Type 0 where
 -- the pool of the program whose table this is has this many words
 abbrev pub IsPoolLength : Table → ℕ → Type 0
 IsPoolLength table words = (program : Program) (main : Function) → IsTableOf table program →
-    slice_get program.functions program.main ≡ Some main → words ≡ length (pool_of program main)
+    slice_get program.functions program.main ≡ Some main → words ≡ length (pool_of (layout_of program main))
