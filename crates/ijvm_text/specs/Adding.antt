@@ -9,9 +9,12 @@ use Rattle.std.proofs.lemmas.Grind.{flat_map-append}
 use Rattle.ijvm_instr.specs.declared.instr.Instr.{Instr}
 use Rattle.ijvm_instr.specs.Instructions.{spelling}
 use Rattle.ijvm_instr.specs.Jumps.{Jump, first_far, is_far}
-use Rattle.ijvm_text.specs.declared.text.Jump as declared
+use Rattle.ijvm_program.specs.declared.line.Jump as kinds
+use Rattle.ijvm_program.specs.declared.line.Jump.TheVariants.{Ifeq}
+use Rattle.ijvm_program.specs.Layout.{jump_by}
+use Rattle.ijvm_text.specs.declared.text.FarJump.{FarJump}
 use Rattle.ijvm_text.specs.declared.text.Text.{Text}
-use Rattle.ijvm_text.specs.Adds.{Adds, IsText, far_of}
+use Rattle.ijvm_text.specs.Adds.{Adds, AddsJump, IsText, far_of}
 use Rattle.ijvm_text.specs.Bytes.{code_bytes}
 
 pub or_none : (o : Option Jump) → option_or o None ≡ o
@@ -30,7 +33,7 @@ back_none : (a b : Option Jump) → option_or a b ≡ None → b ≡ None
 back_none None b h = h
 back_none (Some j) b h = cc
 
-pub far_or : (a b : Option declared.Jump) → far_of (option_or a b) ≡ option_or (far_of a) (far_of b)
+pub far_or : (a b : Option FarJump) → far_of (option_or a b) ≡ option_or (far_of a) (far_of b)
 far_or None b = refl
 far_or (Some j) b = refl
 
@@ -61,7 +64,7 @@ pub is_text : (a b : Text) (bytes : List ℕ) (js : List Jump) → a.bytes.items
 is_text a b bytes js empty near h =
     record {
       size = h.size ∙ ap (λ (l : List ℕ). length l + length bytes) empty ∙ omega arith;
-      far = h.far ∙ ap (λ (o : Option declared.Jump). option_or (far_of o) (first_far js)) near;
+      far = h.far ∙ ap (λ (o : Option FarJump). option_or (far_of o) (first_far js)) near;
       bytes = λ near_all. h.bytes near_all ∙ ap (λ (l : List ℕ). l ++ bytes) empty;
     }
 
@@ -103,7 +106,7 @@ not_far true j h = cc
 not_far false j h = refl
 
 -- the bytes y of a jump, or others of their size where it leads too far
-pub jumped : (a b : Text) (line : ℕ) (z : ℤ) (x y : List ℕ) → length x ≡ length y → b.bytes.items ≡ a.bytes.items ++ x →
+jumped : (a b : Text) (line : ℕ) (z : ℤ) (x y : List ℕ) → length x ≡ length y → b.bytes.items ≡ a.bytes.items ++ x →
     far_of b.far ≡ option_or (far_of a.far) (first_far ((line, z) ∷ [])) → (is_far z ≡ false → x ≡ y) → Adds a b y ((line, z) ∷ [])
 jumped a b line z x y long is far near =
     record {
@@ -112,3 +115,15 @@ jumped a b line z x y long is far near =
       bytes = λ near_all. is ∙ ap (λ (l : List ℕ). a.bytes.items ++ l)
           (near (not_far (is_far z) (line, z) (back_none (far_of a.far) (first_far ((line, z) ∷ [])) (sym far ∙ near_all))));
     }
+
+-- how long a jump is does not depend on how far it leads
+jump_size : (j : kinds.Jump) (o z : ℤ) → length (spelling (jump_by j o)) ≡ length (spelling (jump_by j z))
+jump_size Ifeq o z = refl
+jump_size _ o z = refl
+
+pub jump_added : (a b : Text) (j : kinds.Jump) (line : ℕ) (z o : ℤ) → b.bytes.items ≡ a.bytes.items ++ code_bytes (jump_by j o ∷ []) →
+    far_of b.far ≡ option_or (far_of a.far) (first_far ((line, z) ∷ [])) → (is_far z ≡ false → o ≡ z) → AddsJump a b j line z
+jump_added a b j line z o is far near =
+    jumped a b line z (code_bytes (jump_by j o ∷ [])) (code_bytes (jump_by j z ∷ []))
+    (ap length (sym (one (jump_by j o))) ∙ jump_size j o z ∙ ap length (one (jump_by j z))) is far
+    (λ h. ap (λ (k : ℤ). code_bytes (jump_by j k ∷ [])) (near h))

@@ -1,18 +1,20 @@
 -- What is appended to a text, with its jumps.
-use Rattle.std.specs.Prelude.{◌≡◌, ℕ, ◌+◌, List, ◌++◌, length, Option, None, Vec}
+use Rattle.std.specs.Prelude.{◌≡◌, ℕ, ℤ, ◌+◌, List, [], ◌∷◌, ◌++◌, length, Option, None, Vec}
 use Rattle.std.specs.declared.alloc.Global.{Global}
 use Rattle.std.specs.Option.{option_map, option_or}
 use Rattle.ijvm_instr.specs.declared.instr.Instr.{Instr}
 use Rattle.ijvm_instr.specs.Jumps as jumps
 use Rattle.ijvm_instr.specs.Jumps.{first_far, jumps_of}
-use Rattle.ijvm_text.specs.declared.text.Jump.{Jump}
+use Rattle.ijvm_program.specs.declared.line.Jump.{Jump}
+use Rattle.ijvm_program.specs.Layout.{jump_by}
+use Rattle.ijvm_text.specs.declared.text.FarJump.{FarJump}
 use Rattle.ijvm_text.specs.declared.text.Text.{Text}
 use Rattle.ijvm_text.specs.Bytes.{code_bytes}
 
-abbrev pub jump_of : Jump → jumps.Jump
+abbrev pub jump_of : FarJump → jumps.Jump
 jump_of j = (j.line, j.distance)
 
-abbrev pub far_of : Option Jump → Option jumps.Jump
+abbrev pub far_of : Option FarJump → Option jumps.Jump
 far_of far = option_map jump_of far
 
 -- these bytes, with these jumps, are added to the old text; where a jump is too far, only the number of bytes is kept
@@ -42,3 +44,7 @@ AddsCode old new code lines = Adds old new (code_bytes code) (jumps_of lines cod
 -- the text is this code, whose jumps have these lines
 abbrev pub IsCode : Text → List Instr → List ℕ → Type 0
 IsCode text code lines = IsText text (code_bytes code) (jumps_of lines code)
+
+-- this jump, which has this line and leads so far, is added
+abbrev pub AddsJump : Text → Text → Jump → ℕ → ℤ → Type 0
+AddsJump old new jump line distance = Adds old new (code_bytes (jump_by jump distance ∷ [])) ((line, distance) ∷ [])

@@ -4,5 +4,5 @@
 pub mod text;
 pub mod units;
 
-pub use text::{Jump, Text, offset_of, put};
+pub use text::{FarJump, Text, put};
 pub use units::Units;

@@ -3,14 +3,16 @@
 ghost use Rattle.std.specs.Prelude.{◌≡◌, ◌<◌, ◌≤◌, ◌^◌, ◌∷◌, [], false, None, length, IfOk, OnOk};
 ghost use Rattle.std.specs.Option.{option_or};
 ghost use Rattle.ijvm_instr.specs.Jumps.{first_far, is_far};
-ghost use Rattle.ijvm_text.specs.Adds.{AddsCode, AddsText, IsCode, Puts, far_of};
+ghost use Rattle.ijvm_program.specs.Layout.{jump_by};
+ghost use Rattle.ijvm_text.specs.Adds.{AddsCode, AddsJump, AddsText, IsCode, Puts, far_of};
 
 use ijvm_instr::{Instr, is_far, push_instr};
+use ijvm_program::Jump;
 use std::alloc::{AllocError, Global};
 
-/// A jump: its line in the source, and how far it leads, in bytes.
+/// A jump that leads too far: its line in the source, and how far it leads, in bytes.
 #[derive(Clone, Copy, Debug, PartialEq, Eq)]
-pub struct Jump {
+pub struct FarJump {
     pub line: u32,
     pub distance: i32,
 }
@@ -20,7 +22,7 @@ pub struct Jump {
 pub struct Text {
     pub bytes: Vec<u8>,
     /// The first jump that leads too far.
-    pub far: Option<Jump>,
+    pub far: Option<FarJump>,
 }
 
 /// Appends the bytes of an instruction.
@@ -31,10 +33,21 @@ pub fn put(bytes: &mut Vec<u8>, instr: Instr) -> Result<(), AllocError>
 }
 
 /// The distance as an operand, where it fits one.
-pub fn offset_of(distance: i32) -> i16
+fn offset_of(distance: i32) -> i16
     ensures { is_far distance ≡ false → result ≡ distance }
 {
     if is_far(distance) { 0 } else { distance as i16 }
+}
+
+fn jump_by(jump: Jump, offset: i16) -> Instr
+    ensures { result ≡ jump_by jump offset }
+{
+    match jump {
+        Jump::Ifeq => Instr::Ifeq(offset),
+        Jump::Iflt => Instr::Iflt(offset),
+        Jump::IfIcmpeq => Instr::IfIcmpeq(offset),
+        Jump::Goto => Instr::Goto(offset),
+    }
 }
 
 impl Text {
@@ -69,13 +82,21 @@ impl Text {
     }
 
     /// Keeps a jump if it is the first that leads too far.
-    pub fn keep_if_far(&mut self, line: u32, distance: i32)
+    fn keep_if_far(&mut self, line: u32, distance: i32)
         ensures far { far_of self.new.far ≡ option_or (far_of self.old.far) (first_far ((line, distance) ∷ [])) }
         ensures bytes { self.new.bytes ≡ self.old.bytes }
     {
         if is_far(distance) {
-            self.far = self.far.or(Some(Jump { line, distance }));
+            self.far = self.far.or(Some(FarJump { line, distance }));
         }
+    }
+
+    /// Appends a jump, and keeps it if it is the first that leads too far.
+    pub fn add_jump(&mut self, jump: Jump, line: u32, distance: i32) -> Result<(), AllocError>
+        ensures { OnOk result (AddsJump self.old self.new jump line distance) }
+    {
+        self.keep_if_far(line, distance);
+        put(&mut self.bytes, jump_by(jump, offset_of(distance)))
     }
 
     /// Appends another text.

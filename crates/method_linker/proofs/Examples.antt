@@ -8,7 +8,8 @@ use Rattle.ijvm_program.specs.declared.line.Operation.TheVariants.{Plain, Consta
 use Rattle.ijvm_program.specs.Program.{ProgramView}
 use Rattle.ijvm_instr.specs.Jumps.{first_far}
 use Rattle.ijvm_text.specs.Layout.{pool_of, text_of}
-use Rattle.method_linker.specs.Linked.{code_bytes, layout_of}
+use Rattle.ijvm_text.specs.Bytes.{code_bytes}
+use Rattle.method_linker.specs.Linked.{layout_of, unit_code}
 
 abbrev at_line : ℕ → Operation → CodeLine
 at_line line operation = record { line = line; operation = operation }
@@ -43,11 +44,11 @@ add = record {
 text_of_add : text_of (layout_of add) ≡
     0x13 ∷ 0x00 ∷ 0x00 ∷ 0x10 ∷ 0x14 ∷ 0x10 ∷ 0x16 ∷ 0xB6 ∷ 0x00 ∷ 0x01 ∷ 0xFD ∷ 0xFF ∷ 0x00 ∷ 0x03 ∷ 0x00 ∷ 0x01 ∷ 0x15 ∷ 0x01 ∷ 0x15 ∷ 0x02
     ∷ 0x60 ∷ 0x36 ∷ 0x03 ∷ 0x15 ∷ 0x03 ∷ 0xAC ∷ []
-unfolding layout_of code_bytes
+unfolding layout_of code_bytes unit_code
 text_of_add = refl
 
 pool_of_add : pool_of (layout_of add) ≡ 0x40 ∷ 0x0C ∷ []
-unfolding layout_of code_bytes
+unfolding layout_of code_bytes unit_code
 pool_of_add = refl
 
 -- ---- an echo up to the end of a line, with a jump on and a jump back
@@ -57,9 +58,9 @@ echo =
     at_line 2 (Plain In) ∷ at_line 3 (Plain Dup) ∷ at_line 4 (Plain (Bipush (pos 10))) ∷ at_line 5 (To IfIcmpeq 6) ∷ at_line 6 (Plain Out)
     ∷ at_line 7 (To Goto 0) ∷ at_line 8 (Plain Out) ∷ at_line 9 (Plain Halt) ∷ []
 
-bytes_of_echo : code_bytes 0 echo ≡
+bytes_of_echo : code_bytes (unit_code 0 echo) ≡
     0xFC ∷ 0x59 ∷ 0x10 ∷ 0x0A ∷ 0x9F ∷ 0x00 ∷ 0x07 ∷ 0xFD ∷ 0xA7 ∷ 0xFF ∷ 0xF8 ∷ 0xFD ∷ 0xFF ∷ []
-unfolding code_bytes
+unfolding code_bytes unit_code
 bytes_of_echo = refl
 
 -- ---- the limits of a distance

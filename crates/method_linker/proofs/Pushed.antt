@@ -1,44 +1,22 @@
 -- The text of a program, line by line and method by method.
-use Rattle.std.proofs.Common.{◌≡◌, ℕ, ◌+◌, ◌<◌, ◌≤◌, ℤ, false, List, [], ◌∷◌, ◌++◌, length, drop, map, get_or, None, refl, sym, ap, ◌∙◌, zero-add, subst, arith}
+use Rattle.std.proofs.Common.{◌≡◌, ℕ, ◌+◌, ◌<◌, ◌≤◌, ℤ, List, [], ◌∷◌, ◌++◌, length, drop, map, get_or, None, sym, ap, ◌∙◌, zero-add, subst, arith}
 use Rattle.std.specs.List.{flat_map, enumerate_from}
-use Rattle.std.specs.Option.{option_or}
 use Rattle.std.proofs.lemmas.List.{drop_all, drop_more, get_or_default}
 use Rattle.std.proofs.lemmas.List.FromFn.{length-enumerate_from, get_or-enumerate_from}
-use Rattle.ijvm_instr.specs.Instructions.{spelling}
-use Rattle.ijvm_instr.specs.Jumps.{first_far, is_far}
+use Rattle.ijvm_instr.specs.declared.instr.Instr.{Instr}
 use Rattle.ijvm_text.specs.declared.text.Text.{Text}
 use Rattle.ijvm_text.specs.declared.units.Units.{Units}
-use Rattle.ijvm_text.specs.Adds.{far_of}
-use Rattle.ijvm_text.specs.Adding.{jumped, nothing, then}
+use Rattle.ijvm_text.specs.Adds.{Adds}
+use Rattle.ijvm_text.specs.Adding.{joined, no_code, then}
+use Rattle.ijvm_text.specs.Bytes.{code_bytes}
 use Rattle.ijvm_text.specs.Parts.{AddsPart, AddsParts, AreUnits, no_parts, part_then, whole}
 use Rattle.ijvm_program.specs.declared.line.CodeLine.{CodeLine}
-use Rattle.ijvm_program.specs.declared.line.Jump.{Jump}
-use Rattle.ijvm_program.specs.declared.line.Jump.TheVariants.{Ifeq}
-use Rattle.ijvm_program.specs.declared.line.Operation.{Operation}
-use Rattle.ijvm_program.specs.declared.line.Operation.TheVariants.{To}
-use Rattle.ijvm_program.specs.Layout.{instr_of}
 use Rattle.ijvm_program.specs.Program.{ProgramView}
 use Rattle.ijvm_program.specs.Unit.{UnitView}
-use Rattle.method_linker.specs.Linked.{code_bytes, code_distances, distance, layout_of, line_bytes, line_distance, method_part}
+use Rattle.method_linker.specs.Linked.{distance, layout_of, line_instr, line_jumps, method_part, unit_code, unit_jumps}
 use Rattle.method_linker.specs.Steps.{AddsLine, AddsLines, AddsUnit}
 
 -- ---- lines
-
-length-jump : (j : Jump) (d e : ℤ) → length (spelling (instr_of 0 d (To j 0))) ≡ length (spelling (instr_of 0 e (To j 0)))
-length-jump Ifeq d e = refl
-length-jump _ d e = refl
-
--- how long an instruction is does not depend on how far it jumps
-length-spelling : (first : ℕ) (d e : ℤ) (o : Operation) → length (spelling (instr_of first d o)) ≡ length (spelling (instr_of first e o))
-length-spelling first d e (To jump target) = length-jump jump d e
-length-spelling first d e _ = refl
-
-pub line_jumped : (a b : Text) (first : ℕ) (line : CodeLine) (z o : ℤ) → b.bytes.items ≡ a.bytes.items ++ spelling (instr_of first o line.operation) →
-    far_of b.far ≡ option_or (far_of a.far) (first_far ((line.line, z) ∷ [])) → (is_far z ≡ false → o ≡ z) → AddsLine first a b line z
-line_jumped a b first line z o is far near =
-    jumped a b line.line z (spelling (instr_of first o line.operation)) (spelling (instr_of first z line.operation))
-    (length-spelling first o z line.operation) is far
-    (λ h. ap (λ (k : ℤ). spelling (instr_of first k line.operation)) (near h))
 
 line_at : (lines : List CodeLine) (i : ℕ) (d : CodeLine) → i < length lines →
     (i, get_or lines i d) ≡ get_or (enumerate_from 0 lines) i (i, get_or lines i d)
@@ -58,16 +36,19 @@ line_more first lines i d far a b end h is added rest =
     let inside : i < length all = omega (arith, length-enumerate_from 0 lines) in
     let item : drop i all ≡ (i, x) ∷ drop (i + 1) all =
     drop_more all i (i, x) inside ∙ ap (λ (y : ℕ × CodeLine). y ∷ drop (i + 1) all) (sym (line_at lines i d h)) in
+    let one : Instr = line_instr first lines (i, x) in
+    let more : List Instr = map (line_instr first lines) (drop (i + 1) all) in
     subst (AddsLines first lines a end) (sym item)
-    (then a b end (line_bytes first lines (i, x)) (flat_map (line_bytes first lines) (drop (i + 1) all))
-    (line_distance lines (i, x) ∷ []) (map (line_distance lines) (drop (i + 1) all)) (subst (AddsLine first a b x) is added) rest)
+    (subst (λ (l : List ℕ). Adds a end l (line_jumps lines (i, x) ++ flat_map (line_jumps lines) (drop (i + 1) all))) (sym (joined (one ∷ []) more))
+    (then a b end (code_bytes (one ∷ [])) (code_bytes more) (line_jumps lines (i, x)) (flat_map (line_jumps lines) (drop (i + 1) all))
+    (subst (AddsLine first a b x) is added) rest))
 
 -- no further line
 pub lines_all : (first : ℕ) (lines : List CodeLine) (i : ℕ) (a b : Text) → length lines ≤ i →
     (AddsLines first lines b b (drop i (enumerate_from 0 lines)) → AddsLines first lines a b (enumerate_from 0 lines)) → AddsUnit first a b lines
-unfolding code_bytes code_distances
+unfolding unit_code unit_jumps
 lines_all first lines i a b past all =
-    all (subst (AddsLines first lines b b) (sym (drop_all i (enumerate_from 0 lines) (omega (arith, past, length-enumerate_from 0 lines)))) (nothing b))
+    all (subst (AddsLines first lines b b) (sym (drop_all i (enumerate_from 0 lines) (omega (arith, past, length-enumerate_from 0 lines)))) (no_code b))
 
 -- ---- methods
 

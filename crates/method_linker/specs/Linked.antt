@@ -1,11 +1,12 @@
 -- The image of a program: its parts are main's code and the methods with their headers, its pool the constants and then the methods'
 -- entries. And when a program has no image.
-use Rattle.std.specs.Prelude.{ℕ, ◌+◌, ℤ, pos, ◌-ℤ◌, List, [], ◌++◌, length, map}
+use Rattle.std.specs.Prelude.{ℕ, ◌+◌, ℤ, pos, ◌-ℤ◌, List, [], ◌∷◌, ◌++◌, length, map}
 use Rattle.std.specs.List.{flat_map, enumerate_from}
-use Rattle.ijvm_instr.specs.Instructions.{spelling}
+use Rattle.ijvm_instr.specs.declared.instr.Instr.{Instr}
 use Rattle.ijvm_instr.specs.Jumps.{Jump}
 use Rattle.ijvm_image.specs.Header.{header}
 use Rattle.ijvm_image.specs.Image.{ImageView}
+use Rattle.ijvm_text.specs.Bytes.{code_bytes}
 use Rattle.ijvm_text.specs.Layout.{ExceedsJump, ExceedsPool, ExceedsText, IsImageOf, Layout, Part, begins}
 use Rattle.ijvm_program.specs.declared.line.CodeLine.{CodeLine}
 use Rattle.ijvm_program.specs.declared.line.Operation.{Operation}
@@ -25,18 +26,23 @@ distance lines position (Plain instr) = pos 0
 distance lines position (Constant index) = pos 0
 distance lines position (Call index) = pos 0
 
-abbrev pub line_bytes : ℕ → List CodeLine → ℕ × CodeLine → List ℕ
-line_bytes first lines (position, line) = spelling (instr_of first (distance lines position line.operation) line.operation)
+abbrev pub line_instr : ℕ → List CodeLine → ℕ × CodeLine → Instr
+line_instr first lines (position, line) = instr_of first (distance lines position line.operation) line.operation
 
-unfoldable pub code_bytes : ℕ → List CodeLine → List ℕ
-code_bytes first lines = flat_map (line_bytes first lines) (enumerate_from 0 lines)
+-- a jump has the number of its line in the source
+abbrev pub jumps_at : ℕ → ℤ → Operation → List Jump
+jumps_at line distance (To jump target) = (line, distance) ∷ []
+jumps_at line distance _ = []
 
--- a line's number in the source, and how far it jumps
-abbrev pub line_distance : List CodeLine → ℕ × CodeLine → Jump
-line_distance lines (position, line) = (line.line, distance lines position line.operation)
+abbrev pub line_jumps : List CodeLine → ℕ × CodeLine → List Jump
+line_jumps lines (position, line) = jumps_at line.line (distance lines position line.operation) line.operation
 
-unfoldable pub code_distances : List CodeLine → List Jump
-code_distances lines = map (line_distance lines) (enumerate_from 0 lines)
+-- the code of a unit
+unfoldable pub unit_code : ℕ → List CodeLine → List Instr
+unit_code first lines = map (line_instr first lines) (enumerate_from 0 lines)
+
+unfoldable pub unit_jumps : List CodeLine → List Jump
+unit_jumps lines = flat_map (line_jumps lines) (enumerate_from 0 lines)
 
 -- ---- the parts
 
@@ -45,15 +51,15 @@ abbrev pub header_of : UnitView → List ℕ
 header_of method = header (length method.parameters + 1) (length method.locals)
 
 abbrev pub method_bytes : ℕ → UnitView → List ℕ
-method_bytes first method = header_of method ++ code_bytes first method.lines
+method_bytes first method = header_of method ++ code_bytes (unit_code first method.lines)
 
 abbrev pub method_part : ℕ → UnitView → Part
-method_part first method = record { bytes = method_bytes first method; jumps = code_distances method.lines }
+method_part first method = record { bytes = method_bytes first method; jumps = unit_jumps method.lines }
 
 unfoldable pub layout_of : ProgramView → Layout
 layout_of program =
     record {
-      main = record { bytes = code_bytes (length program.constants) program.main.lines; jumps = code_distances program.main.lines };
+      main = record { bytes = code_bytes (unit_code (length program.constants) program.main.lines); jumps = unit_jumps program.main.lines };
       methods = map (method_part (length program.constants)) program.methods;
       before = map (λ c. c.value) program.constants;
       after = [];

@@ -1,15 +1,15 @@
 -- What the linker's steps need and leave. Places are addresses in a unit's own code.
 use Rattle.std.specs.Prelude.{ℕ, ◌+◌, ◌<◌, ◌≤◌, ℤ, List, [], ◌∷◌, length, map, All}
 use Rattle.std.specs.List.{range_with_len, flat_map}
-use Rattle.ijvm_instr.specs.Instructions.{spelling}
 use Rattle.ijvm_text.specs.declared.text.Text.{Text}
 use Rattle.ijvm_text.specs.Adds.{Adds}
+use Rattle.ijvm_text.specs.Bytes.{code_bytes}
 use Rattle.ijvm_program.specs.declared.line.CodeLine.{CodeLine}
 use Rattle.ijvm_program.specs.declared.line.Operation.{Operation}
 use Rattle.ijvm_program.specs.declared.line.Operation.TheVariants.{Plain, Constant, Call, To}
 use Rattle.ijvm_program.specs.Layout.{instr_of, line_address}
 use Rattle.ijvm_program.specs.Unit.{UnitView}
-use Rattle.method_linker.specs.Linked.{code_bytes, code_distances, line_bytes, line_distance}
+use Rattle.method_linker.specs.Linked.{jumps_at, line_instr, line_jumps, unit_code, unit_jumps}
 
 -- the places of a unit's lines
 unfoldable pub line_places : List CodeLine → List ℕ
@@ -40,12 +40,13 @@ pub record IsLinkableUnit (first : ℕ) (unit : UnitView) : Type 0 where
 
 -- the instruction of a line that jumps so far is added
 abbrev pub AddsLine : ℕ → Text → Text → CodeLine → ℤ → Type 0
-AddsLine first old new line distance = Adds old new (spelling (instr_of first distance line.operation)) ((line.line, distance) ∷ [])
+AddsLine first old new line distance =
+    Adds old new (code_bytes (instr_of first distance line.operation ∷ [])) (jumps_at line.line distance line.operation)
 
 -- the instructions of these of the lines are added, each with its position
 abbrev pub AddsLines : ℕ → List CodeLine → Text → Text → List (ℕ × CodeLine) → Type 0
-AddsLines first lines old new some = Adds old new (flat_map (line_bytes first lines) some) (map (line_distance lines) some)
+AddsLines first lines old new some = Adds old new (code_bytes (map (line_instr first lines) some)) (flat_map (line_jumps lines) some)
 
 -- the code of a unit is added
 abbrev pub AddsUnit : ℕ → Text → Text → List CodeLine → Type 0
-AddsUnit first old new lines = Adds old new (code_bytes first lines) (code_distances lines)
+AddsUnit first old new lines = Adds old new (code_bytes (unit_code first lines)) (unit_jumps lines)

@@ -4,10 +4,10 @@ ghost use Rattle.std.specs.Prelude.{◌≡◌, ◌<◌, ◌^◌, length, All, If
 ghost use Rattle.ijvm_program.specs.Layout.{line_size};
 ghost use Rattle.method_linker.specs.Steps.{line_places, HasIndex, IsLinkable, AddsLine, AddsUnit};
 
-use crate::instruction::{distance, instr_of};
-use ijvm_instr::push_instr;
-use ijvm_program::{CodeLine, size_of};
-use ijvm_text::{Text, offset_of};
+use crate::distance::distance;
+use ijvm_instr::Instr;
+use ijvm_program::{CodeLine, Operation, size_of};
+use ijvm_text::Text;
 use std::alloc::{AllocError, Global};
 
 /// Where each line stands in the unit's code. Code of 2^30 bytes or more may be reported as out of memory.
@@ -32,11 +32,12 @@ fn push_line(text: &mut Text, line: &CodeLine, first: u32, distance: i32) -> Res
     requires { HasIndex first line.now.operation }
     ensures { OnOk result (AddsLine first text.old text.new line.now distance) }
 {
-    text.keep_if_far(line.line, distance);
-    push_instr(
-        &mut text.bytes,
-        instr_of(line.operation, first, offset_of(distance)),
-    )
+    match line.operation {
+        Operation::Plain(instr) => text.add(instr),
+        Operation::Constant(index) => text.add(Instr::LdcW(index as u16)),
+        Operation::Call(index) => text.add(Instr::Invokevirtual((first + index) as u16)),
+        Operation::To { jump, .. } => text.add_jump(jump, line.line, distance),
+    }
 }
 
 /// Appends the code of these lines.

@@ -10,7 +10,7 @@ use crate::method::push_methods;
 use crate::pool::{pool_of, pool_size};
 use ijvm_image::Image;
 use ijvm_program::Program;
-use ijvm_text::{Jump, Text, Units};
+use ijvm_text::{FarJump, Text, Units};
 use std::alloc::{AllocError, Global};
 
 /// The words that a pool has room for.
@@ -32,7 +32,7 @@ fn units_of(alloc: Global, program: &Program) -> Result<Units, AllocError>
 }
 
 /// The refusal of a jump that leads too far.
-fn too_far(jump: Jump) -> LinkError
+fn too_far(jump: FarJump) -> LinkError
     ensures { result ≡ LinkError.JumpTooFar jump.line jump.distance }
 {
     LinkError::JumpTooFar(jump.line, jump.distance)

@@ -2,9 +2,9 @@
 #![tactic(auto)]
 
 mod code;
+mod distance;
 mod error;
 mod image;
-mod instruction;
 mod method;
 mod pool;
 

@@ -3,7 +3,7 @@
 ghost use Rattle.std.specs.Prelude.{◌≤◌, ◌+◌, [], length, map, All, OnOk};
 ghost use Rattle.ijvm_text.specs.Adds.{Adds};
 ghost use Rattle.ijvm_text.specs.Parts.{AddsPart, AddsParts};
-ghost use Rattle.method_linker.specs.Linked.{code_distances, header_of, method_bytes, method_part};
+ghost use Rattle.method_linker.specs.Linked.{header_of, method_bytes, method_part, unit_jumps};
 ghost use Rattle.method_linker.specs.Steps.{IsLinkableUnit};
 
 use crate::code::push_code;
@@ -27,7 +27,7 @@ fn push_counts(text: &mut Text, method: &Unit) -> Result<(), AllocError>
 /// Appends the counts and the code of a method.
 fn push_text(alloc: Global, text: &mut Text, method: &Unit, first: u32) -> Result<(), AllocError>
     requires { IsLinkableUnit first method.now }
-    ensures { OnOk result (Adds text.old text.new (method_bytes first method.now) (code_distances method.now.lines)) }
+    ensures { OnOk result (Adds text.old text.new (method_bytes first method.now) (unit_jumps method.now.lines)) }
 {
     push_counts(text, method)?;
     push_code(alloc, text, method.lines(), first)

@@ -1,24 +1,23 @@
 -- The code of tests, choices and loops, piece by piece.
-use Rattle.std.proofs.Common.{◌≡◌, ℕ, ℤ, pos, ◌+◌, ◌-◌, false, List, [], ◌∷◌, ◌++◌, length, refl, sym, ap, ◌∙◌, subst, arith}
+use Rattle.std.proofs.Common.{◌≡◌, ℕ, ℤ, pos, ◌+◌, ◌-◌, List, [], ◌∷◌, ◌++◌, length, refl, sym, ap, ◌∙◌, subst, arith}
 use Rattle.std.specs.Prelude.{neg_ℤ}
 use Rattle.std.specs.List.{zip}
-use Rattle.std.specs.Option.{option_or}
 use Rattle.ijvm_instr.specs.declared.instr.Instr.{Instr}
 use Rattle.ijvm_instr.specs.declared.instr.Instr.TheVariants.{Iflt, IfIcmpeq, Goto}
-use Rattle.ijvm_instr.specs.Jumps.{HasLines, Jump, distances, first_far, is_far, jumps_of}
+use Rattle.ijvm_instr.specs.Jumps.{HasLines, Jump, distances, jumps_of}
 use Rattle.tiny_tree.specs.Tree.{Cond, Expr, Equal, Different, Less}
 use Rattle.tiny_code.specs.Code.{Places, choice, code_size, if_code, leave_code, loop, test_code}
 use Rattle.tiny_code.specs.Image.{if_lines, leave_lines, while_lines}
 use Rattle.tiny_code.specs.Lined.{distances_append, leave_lined, test_lined}
 use Rattle.tiny_code.specs.Standing.{bytes_size}
 use Rattle.ijvm_text.specs.declared.text.Text.{Text}
-use Rattle.tiny_emit.specs.declared.jump.Way.{Way}
-use Rattle.tiny_emit.specs.declared.jump.Way.TheVariants.{IfEqual}
-use Rattle.ijvm_text.specs.Adding.{joined, jumped, then}
-use Rattle.ijvm_text.specs.Adds.{Adds, AddsCode, IsCode, far_of}
+use Rattle.ijvm_program.specs.declared.line.Jump as kinds
+use Rattle.ijvm_program.specs.declared.line.Jump.TheVariants.{Ifeq}
+use Rattle.ijvm_program.specs.Layout.{jump_by}
+use Rattle.ijvm_text.specs.Adding.{joined, then}
+use Rattle.ijvm_text.specs.Adds.{Adds, AddsCode, AddsJump, IsCode}
 use Rattle.ijvm_text.specs.Bytes.{code_bytes}
-use Rattle.tiny_emit.specs.Appended.{AddsJump}
-use Rattle.tiny_emit.specs.Ways.{jump_code, way_of}
+use Rattle.tiny_emit.specs.Appended.{jump_of}
 
 zip_append : (i j : List ℕ) (d e : List ℤ) → length i ≡ length d → zip (i ++ j) (d ++ e) ≡ zip i d ++ zip j e
 zip_append [] j [] e h = refl
@@ -39,29 +38,18 @@ then_code a b c x y i j count h k =
 text_size : (text : Text) (x : List Instr) (i : List ℕ) (m : ℕ) → IsCode text x i → m ≡ length text.bytes.items → m ≡ code_size x
 text_size text x i m h is = is ∙ h.size ∙ bytes_size x
 
-jump_lined : (w : Way) (line : ℕ) (z : ℤ) → HasLines (line ∷ []) (jump_code w z ∷ [])
-jump_lined IfEqual line z = refl
+jump_lined : (j : kinds.Jump) (line : ℕ) (z : ℤ) → HasLines (line ∷ []) (jump_by j z ∷ [])
+jump_lined Ifeq line z = refl
 jump_lined _ line z = refl
 
-jump_size : (w : Way) (o z : ℤ) → code_size (jump_code w o ∷ []) ≡ code_size (jump_code w z ∷ [])
-jump_size IfEqual o z = refl
-jump_size _ o z = refl
-
-pub way_jumped : (a b : Text) (w : Way) (line : ℕ) (z o : ℤ) → b.bytes.items ≡ a.bytes.items ++ code_bytes (jump_code w o ∷ []) →
-    far_of b.far ≡ option_or (far_of a.far) (first_far ((line, z) ∷ [])) → (is_far z ≡ false → o ≡ z) → AddsJump a b w line z
-way_jumped a b w line z o is far near =
-    jumped a b line z (code_bytes (jump_code w o ∷ [])) (code_bytes (jump_code w z ∷ []))
-    (bytes_size (jump_code w o ∷ []) ∙ jump_size w o z ∙ sym (bytes_size (jump_code w z ∷ []))) is far
-    (λ h. ap (λ (k : ℤ). code_bytes (jump_code w k ∷ [])) (near h))
-
-jump_added : (a b : Text) (w : Way) (line : ℕ) (z : ℤ) → AddsJump a b w line z → AddsCode a b (jump_code w z ∷ []) (line ∷ [])
-jump_added a b IfEqual line z h = h
+jump_added : (a b : Text) (j : kinds.Jump) (line : ℕ) (z : ℤ) → AddsJump a b j line z → AddsCode a b (jump_by j z ∷ []) (line ∷ [])
+jump_added a b Ifeq line z h = h
 jump_added a b _ line z h = h
 
-module _ (a b c d e f : Text) (test : List Instr) (w v : Way) (same : w ≡ v) (line m n : ℕ) (x y : List Instr) (i j : List ℕ)
+module _ (a b c d e f : Text) (test : List Instr) (w v : kinds.Jump) (same : w ≡ v) (line m n : ℕ) (x y : List Instr) (i j : List ℕ)
     (straight : HasLines [] test) (count : HasLines i x) where
   abbrev chosen : ℕ → ℕ → List Instr
-  chosen k l = test ++ (jump_code v (pos (6 + k)) ∷ (x ++ (Goto (pos (3 + l)) ∷ y)))
+  chosen k l = test ++ (jump_by v (pos (6 + k)) ∷ (x ++ (Goto (pos (3 + l)) ∷ y)))
 
   abbrev Added : ℕ → ℕ → Type 0
   Added k l = AddsCode a f (chosen k l) (line ∷ (i ++ line ∷ j))
@@ -72,24 +60,24 @@ module _ (a b c d e f : Text) (test : List Instr) (w v : Way) (same : w ≡ v) (
       let after : List Instr = Goto (pos (3 + n)) ∷ y in
       let past_all : AddsCode d f after (line ∷ j) = then_code d e f (Goto (pos (3 + n)) ∷ []) y (line ∷ []) j refl past second in
       let sides : AddsCode c f (x ++ after) (i ++ line ∷ j) = then_code c d f x after i (line ∷ j) count first past_all in
-      let all : AddsCode b f (jump_code v (pos (6 + m)) ∷ (x ++ after)) (line ∷ (i ++ line ∷ j)) =
-      then_code b c f (jump_code v (pos (6 + m)) ∷ []) (x ++ after) (line ∷ []) (i ++ line ∷ j) (jump_lined v line (pos (6 + m)))
+      let all : AddsCode b f (jump_by v (pos (6 + m)) ∷ (x ++ after)) (line ∷ (i ++ line ∷ j)) =
+      then_code b c f (jump_by v (pos (6 + m)) ∷ []) (x ++ after) (line ∷ []) (i ++ line ∷ j) (jump_lined v line (pos (6 + m)))
       (jump_added b c v line (pos (6 + m)) on) sides in
-      then_code a b f test (jump_code v (pos (6 + m)) ∷ (x ++ after)) [] (line ∷ (i ++ line ∷ j)) straight tested all
+      then_code a b f test (jump_by v (pos (6 + m)) ∷ (x ++ after)) [] (line ∷ (i ++ line ∷ j)) straight tested all
 
   pub choice_added : (first second : Text) → IsCode first x i → IsCode second y j →
       m ≡ length first.bytes.items → n ≡ length second.bytes.items →
       AddsCode a b test [] → AddsJump b c w line (pos (6 + m)) → AddsCode c d x i →
       AddsCode d e (Goto (pos (3 + n)) ∷ []) (line ∷ []) → AddsCode e f y j →
-      AddsCode a f (choice test (jump_code v) x y) (line ∷ (i ++ line ∷ j))
+      AddsCode a f (choice test (jump_by v) x y) (line ∷ (i ++ line ∷ j))
   choice_added first second front back m_is n_is tested on one past two =
       subst (λ (k : ℕ). Added (code_size x) k) (text_size second y j n back n_is)
       (subst (λ (k : ℕ). Added k n) (text_size first x i m front m_is)
-      (choice_of tested (subst (λ (k : Way). AddsJump b c k line (pos (6 + m))) same on) one past two))
+      (choice_of tested (subst (λ (k : kinds.Jump). AddsJump b c k line (pos (6 + m))) same on) one past two))
 
 module _ (p : Places) (local line : ℕ) (a b : List Instr) (i j : List ℕ) (Q : List Instr → List ℕ → Type 0) where
   abbrev Chosen : Cond → Type 0
-  Chosen t = Q (choice (test_code p local t) (jump_code (way_of t)) a b) (line ∷ (i ++ line ∷ j))
+  Chosen t = Q (choice (test_code p local t) (jump_by (jump_of t)) a b) (line ∷ (i ++ line ∷ j))
 
   pub if_different : (t : Cond) (l r : Expr) → t ≡ Different l r → Chosen t → Q (if_code p local t a b) (if_lines line t i j)
   if_different t l r e h = subst (λ (k : Cond). Q (if_code p local k a b) (if_lines line k i j)) (sym e) (subst Chosen e h)

@@ -1,9 +1,12 @@
 -- What is appended for the parts of a program as they stand in memory: their code, and their jumps.
-use Rattle.std.specs.Prelude.{ℕ, ℤ, ◌+◌, List, [], ◌∷◌, ◌++◌, map, Option}
+use Rattle.std.specs.Prelude.{ℕ, ◌+◌, List, [], ◌∷◌, ◌++◌, map, Option}
 use Rattle.std.specs.Option.{option_map}
 use Rattle.ijvm_instr.specs.declared.instr.Instr.{Instr}
 use Rattle.ijvm_instr.specs.declared.instr.Instr.TheVariants.{Istore, Pop, Isub}
 use Rattle.ijvm_instr.specs.Jumps.{HasLines}
+use Rattle.ijvm_program.specs.declared.line.Jump.{Jump}
+use Rattle.ijvm_program.specs.declared.line.Jump.TheVariants.{Iflt, IfIcmpeq}
+use Rattle.ijvm_program.specs.Layout.{jump_by}
 use Rattle.tiny_tree.specs.declared.tree.Block.{Block}
 use Rattle.tiny_tree.specs.declared.tree.Cond.{Cond}
 use Rattle.tiny_tree.specs.declared.tree.Expr.{Expr}
@@ -18,14 +21,13 @@ use Rattle.tiny_code.specs.Image.{else_lines, if_lines, leave_lines, statement_l
 use Rattle.tiny_pool.specs.declared.table.Table.{Table}
 use Rattle.tiny_pool.specs.Places.{places_in}
 use Rattle.ijvm_text.specs.declared.text.Text.{Text}
-use Rattle.ijvm_text.specs.Adds.{Adds, AddsCode, IsCode}
-use Rattle.ijvm_text.specs.Bytes.{code_bytes}
-use Rattle.tiny_emit.specs.declared.jump.Way.{Way}
-use Rattle.tiny_emit.specs.Ways.{jump_code, way_of}
+use Rattle.ijvm_text.specs.Adds.{AddsCode, IsCode}
 
--- a jump that is taken so, of a statement in this line, is added
-abbrev pub AddsJump : Text → Text → Way → ℕ → ℤ → Type 0
-AddsJump old new way line distance = Adds old new (code_bytes (jump_code way distance ∷ [])) ((line, distance) ∷ [])
+-- the jump of a test: where it holds, and for != where its sides are equal
+abbrev pub jump_of : tree.Cond → Jump
+jump_of (tree.Equal a b) = IfIcmpeq
+jump_of (tree.Different a b) = IfIcmpeq
+jump_of (tree.Less a b) = Iflt
 
 -- what leads out of the loop of a `while`, or into its body of this size, is added
 abbrev pub AddsLeave : Places → ℕ → Text → Text → ℕ → Cond → ℕ → Type 0
@@ -88,7 +90,7 @@ module _ (table : Table) (local : ℕ) where
   -- a choice between two codes, of which the test jumps to the second, is added
   abbrev pub AddsChoice : Text → Text → ℕ → Cond → Text → Text → Type 0
   AddsChoice old new line c first second = (a b : List Instr) (i j : List ℕ) → HasLines i a → IsCode first a i → IsCode second b j →
-      AddsCode old new (choice (code_of_test c) (jump_code (way_of (cond_tree c))) a b) (line ∷ (i ++ line ∷ j))
+      AddsCode old new (choice (code_of_test c) (jump_by (jump_of (cond_tree c))) a b) (line ∷ (i ++ line ∷ j))
 
   -- an `if` with the codes of its two blocks is added
   abbrev pub AddsIf : Text → Text → ℕ → Cond → Text → Text → Type 0

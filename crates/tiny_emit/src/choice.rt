@@ -3,13 +3,13 @@
 ghost use Rattle.std.specs.Prelude.{◌≡◌, ◌<◌, ◌^◌, [], ℕ, OnOk};
 ghost use Rattle.tiny_code.specs.Code.{Places};
 ghost use Rattle.ijvm_text.specs.Adds.{AddsCode, Puts};
-ghost use Rattle.tiny_emit.specs.Ways.{way_of};
-ghost use Rattle.tiny_emit.specs.Appended.{AddsChoice, AddsIf, AddsLeave, AddsWhile, code_of_difference, code_of_sides, code_of_test};
+ghost use Rattle.tiny_emit.specs.Appended.{AddsChoice, AddsIf, AddsLeave, AddsWhile, code_of_difference, code_of_sides, code_of_test, jump_of};
 ghost use Rattle.tiny_tree.specs.View.{cond_tree};
 
 use crate::expr::put_expr;
-use crate::jump::{Way, add_backward_jump, add_forward_jump};
+use crate::jump::{add_backward_jump, add_forward_jump};
 use ijvm_instr::Instr;
+use ijvm_program::Jump;
 use ijvm_text::{Text, put};
 use std::alloc::AllocError;
 use tiny_pool::Table;
@@ -58,14 +58,14 @@ fn add_test(text: &mut Text, table: &Table, local: u8, cond: &Cond) -> Result<()
     put_test(&mut text.bytes, table, local, cond)
 }
 
-/// When a test jumps.
-fn way_of(cond: &Cond) -> Way
-    ensures { result ≡ way_of (cond_tree cond.now) }
+/// The jump of a test.
+fn jump_of(cond: &Cond) -> Jump
+    ensures { result ≡ jump_of (cond_tree cond.now) }
 {
     match cond {
-        Cond::Equal { .. } => Way::IfEqual,
-        Cond::Different { .. } => Way::IfEqual,
-        Cond::Less { .. } => Way::IfNegative,
+        Cond::Equal { .. } => Jump::IfIcmpeq,
+        Cond::Different { .. } => Jump::IfIcmpeq,
+        Cond::Less { .. } => Jump::Iflt,
     }
 }
 
@@ -82,9 +82,9 @@ fn add_choice(
     ensures { OnOk result (AddsChoice table.now local text.old text.new line cond.now first.now second.now) }
 {
     add_test(text, table, local, cond)?;
-    add_forward_jump(text, way_of(cond), line, 6 + first.size()?)?;
+    add_forward_jump(text, jump_of(cond), line, 6 + first.size()?)?;
     text.add_text(first)?;
-    add_forward_jump(text, Way::Always, line, 3 + second.size()?)?;
+    add_forward_jump(text, Jump::Goto, line, 3 + second.size()?)?;
     text.add_text(second)
 }
 
@@ -113,14 +113,14 @@ fn add_leave(text: &mut Text, line: u32, cond: &Cond, size: u32) -> Result<(), A
     ensures { (p : Places) (local : ℕ) → OnOk result (AddsLeave p local text.old text.new line cond.now size) }
 {
     match cond {
-        Cond::Different { .. } => add_forward_jump(text, Way::IfEqual, line, 6 + size),
+        Cond::Different { .. } => add_forward_jump(text, Jump::IfIcmpeq, line, 6 + size),
         Cond::Equal { .. } => {
-            add_forward_jump(text, Way::IfEqual, line, 6)?;
-            add_forward_jump(text, Way::Always, line, 6 + size)
+            add_forward_jump(text, Jump::IfIcmpeq, line, 6)?;
+            add_forward_jump(text, Jump::Goto, line, 6 + size)
         }
         Cond::Less { .. } => {
-            add_forward_jump(text, Way::IfNegative, line, 6)?;
-            add_forward_jump(text, Way::Always, line, 6 + size)
+            add_forward_jump(text, Jump::Iflt, line, 6)?;
+            add_forward_jump(text, Jump::Goto, line, 6 + size)
         }
     }
 }

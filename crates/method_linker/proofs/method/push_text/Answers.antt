@@ -1,7 +1,8 @@
 use Rattle.std.proofs.Common.{[]}
 use Rattle.std.proofs.lemmas.Result.{on_ok_weaker}
 use Rattle.ijvm_text.specs.Adding.{then}
-use Rattle.method_linker.specs.Linked.{code_bytes, code_distances, header_of}
+use Rattle.ijvm_text.specs.Bytes.{code_bytes}
+use Rattle.method_linker.specs.Linked.{header_of, unit_code, unit_jumps}
 use Rattle.method_linker.proofs.method.push_text.Goals as goal
 
 pub returns : goal.returns
@@ -9,4 +10,4 @@ returns c =
     let lines = c.args.method.now.lines in
     let code = rw c.lines.ensures at c.push_code.ensures in
     on_ok_weaker c.push_code.result
-    (λ e. then _ _ _ (header_of c.args.method.now) (code_bytes c.args.first lines) [] (code_distances lines) c.in_ok-push_counts.ensures e) code
+    (λ e. then _ _ _ (header_of c.args.method.now) (code_bytes (unit_code c.args.first lines)) [] (unit_jumps lines) c.in_ok-push_counts.ensures e) code

@@ -3,7 +3,7 @@ use Rattle.tiny_code.specs.Code.{test_code}
 use Rattle.tiny_code.specs.Lined.{test_lined}
 use Rattle.tiny_pool.specs.Places.{places_in}
 use Rattle.tiny_tree.specs.View.{cond_tree}
-use Rattle.tiny_emit.specs.Ways.{way_of}
+use Rattle.tiny_emit.specs.Appended.{jump_of}
 use Rattle.tiny_emit.proofs.Sides.{choice_added}
 use Rattle.tiny_emit.proofs.choice.add_choice.Goals as goal
 
@@ -11,7 +11,7 @@ pub returns : goal.returns
 returns c =
     on_ok_weaker c.add_text-2.result
     (λ last a b i j count first second. choice_added _ _ _ _ _ _ (test_code (places_in c.args.table.now) c.args.local (cond_tree c.args.cond.now))
-    c.way_of.result (way_of (cond_tree c.args.cond.now)) c.way_of.ensures c.args.line c.in_ok-size.field-0 c.in_ok-size-2.field-0 a b i j
+    c.jump_of.result (jump_of (cond_tree c.args.cond.now)) c.jump_of.ensures c.args.line c.in_ok-size.field-0 c.in_ok-size-2.field-0 a b i j
     (test_lined (places_in c.args.table.now) c.args.local (cond_tree c.args.cond.now)) count c.args.first.now c.args.second.now first second c.in_ok-size.ensures.is c.in_ok-size-2.ensures.is
     c.in_ok-add_test.ensures c.in_ok-add_forward_jump.ensures (c.in_ok-add_text.ensures.adds _ _ first) c.in_ok-add_forward_jump-2.ensures (last _ _ second))
     c.add_text-2.ensures.adds

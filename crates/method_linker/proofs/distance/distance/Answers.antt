@@ -1,7 +1,7 @@
 use Rattle.std.proofs.Common.{arith, get_or}
 use Rattle.std.proofs.lemmas.Int.{ints}
 use Rattle.method_linker.proofs.Places.{place_in, place_is, place_fits, apart}
-use Rattle.method_linker.proofs.instruction.distance.Goals as goal
+use Rattle.method_linker.proofs.distance.distance.Goals as goal
 
 pub bounds-places-target : goal.bounds-places-target
 bounds-places-target c =
