@@ -12,6 +12,7 @@ use std::alloc::{AllocError, Global};
 use tiny_pool::Table;
 use tiny_tree::{Block, Expr, Statement};
 
+/// Appends a value, and an instruction that takes it.
 fn put_value(
     bytes: &mut Vec<u8>,
     table: &Table,
@@ -25,6 +26,7 @@ fn put_value(
     put(bytes, instr)
 }
 
+/// Appends a call, and drops its value.
 fn put_call_alone(
     bytes: &mut Vec<u8>,
     table: &Table,
@@ -38,32 +40,6 @@ fn put_call_alone(
     put(bytes, Instr::Pop)
 }
 
-/// Appends a value, and an instruction that takes it.
-fn add_value(
-    text: &mut Text,
-    table: &Table,
-    local: u8,
-    value: &Expr,
-    instr: Instr,
-) -> Result<(), AllocError>
-    ensures { OnOk result (AddsCode text.old text.new (code_of_expr table.now local value.now ++ instr ∷ []) []) }
-{
-    put_value(&mut text.bytes, table, local, value, instr)
-}
-
-/// Appends a call, and drops its value.
-fn add_call(
-    text: &mut Text,
-    table: &Table,
-    local: u8,
-    function: u32,
-    arguments: &[Expr],
-) -> Result<(), AllocError>
-    ensures { OnOk result (AddsCode text.old text.new (code_of_call_alone table.now local function arguments.now) []) }
-{
-    put_call_alone(&mut text.bytes, table, local, function, arguments)
-}
-
 /// Appends a value that goes into a variable.
 fn add_store(
     text: &mut Text,
@@ -75,7 +51,7 @@ fn add_store(
     ensures { OnOk result (AddsCode text.old text.new (code_of_store table.now local place value.now) []) }
 {
     let instr = Instr::Istore(local_of(local, place)?);
-    add_value(text, table, local, value, instr)
+    put_value(&mut text.bytes, table, local, value, instr)
 }
 
 #[cycle(block)]
@@ -94,7 +70,7 @@ fn add_statement(
         Statement::Call {
             function,
             arguments,
-        } => add_call(text, table, local, *function, arguments.items()),
+        } => put_call_alone(&mut text.bytes, table, local, *function, arguments.items()),
         Statement::If {
             line,
             cond,
@@ -109,8 +85,8 @@ fn add_statement(
             let body = text_of(alloc, table, local, body)?;
             add_while(text, table, local, *line, cond, &body)
         }
-        Statement::Return(value) => add_value(text, table, local, value, Instr::Ireturn),
-        Statement::Put(value) => add_value(text, table, local, value, Instr::Out),
+        Statement::Return(value) => put_value(&mut text.bytes, table, local, value, Instr::Ireturn),
+        Statement::Put(value) => put_value(&mut text.bytes, table, local, value, Instr::Out),
         Statement::Halt => text.add(Instr::Halt),
     }
 }
