@@ -3,7 +3,8 @@
     for name in named_cases(read_index(), ["refused", "run/echo"]):
         case = read_case(name)
 
-A case is a call of mic: its words, the files and the standard input that it finds, and the Answer that must come.
+A case is a call of mic or mic-check: its words, the files and the standard input that it finds, and the Answer that must
+come.
 `difference(answer, case.wanted)` is the first difference in one line, or None.
 """
 import os
@@ -13,6 +14,7 @@ from dataclasses import dataclass, field
 DATA = os.path.join(os.path.dirname(os.path.dirname(os.path.abspath(__file__))), "crates", "cases", "data")
 ENDING = ".case"
 
+PROGRAMS = ["mic", "mic-check"]
 PARTS = ["mic", "file", "console", "fails", "out", "err", "status", "left", "written"]
 WANTED = PARTS[4:]  # what must come of the call
 SEVERAL = {"file", "fails", "written"}
@@ -52,6 +54,7 @@ class NoAnswer:
 @dataclass
 class Case:
     name: str
+    program: str = PROGRAMS[0]
     words: list = field(default_factory=list)
     files: dict = field(default_factory=dict)
     console: bytes = b""
@@ -170,7 +173,8 @@ class Reader:
 
     def begin(self, line):
         """Begins the part of a line `PART`, `PART NAME`, `PART NAME = PATH` or, for a part without contents, `PART WORDS`."""
-        part, _, rest = line.partition(" ")
+        word, _, rest = line.partition(" ")
+        part = PARTS[0] if word in PROGRAMS else word
         if part not in PARTS:
             raise Refusal("no line of a case")
         if not self.may_precede(part):
@@ -178,7 +182,7 @@ class Reader:
         self.put()
         self.part, self.name, self.contents = part, "", []
         if part in WITHOUT_CONTENTS:
-            self.take_words(part, rest)
+            self.take_words(part, word, rest)
             return
         front, is_taken, path = line.partition(" = ")
         self.name = front.partition(" ")[2]
@@ -193,10 +197,10 @@ class Reader:
         order = PARTS.index(part) - PARTS.index(self.part)
         return order > 0 or order == 0 and part in SEVERAL
 
-    def take_words(self, part, text):
+    def take_words(self, part, first, text):
         words = [it for it in text.split(" ") if it]
         if part == "mic":
-            self.case.words = words
+            self.case.program, self.case.words = first, words
         elif part == "status":
             if not re.fullmatch(r"\d{1,3}", text, re.ASCII) or int(text) > 255:
                 raise Refusal("no status from 0 to 255")

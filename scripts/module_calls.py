@@ -3,8 +3,8 @@
     with ModuleCalls(module, ["node", "firefox"], seconds=20) as calls:
         for way, answer in calls.answers_of(case):
 
-It is what native_calls.py is for a program: its head says what scripts/run-cases asks for. Every case can be made, since
-the module takes the numbers of the calls that fail. Each thread has a node of its own; a browser makes one call at a time.
+It is what native_calls.py is for programs: its head says what scripts/run-cases asks for. Every call of mic can be made, since
+the module takes the numbers of the calls that fail; it has no function for those of mic-check. Each thread has a node of its own; a browser makes one call at a time.
 """
 import atexit
 import base64
@@ -167,8 +167,8 @@ class ModuleCalls:
                 node.close()
         self.opened.close()
 
-    def can_make(self, case):
-        return True
+    def lacks(self, case):
+        return None if case.program == "mic" else f"the module has no {case.program}"
 
     def node(self):
         """This thread's node."""

@@ -1,12 +1,12 @@
-"""Makes the calls of cases by a program of this machine: real files in a temporary folder, real standard streams.
+"""Makes the calls of cases by programs of this machine: real files in a temporary folder, real standard streams.
 
-    with NativeCalls("/usr/bin/mic", seconds=20) as calls:
+    with NativeCalls("/usr/bin/mic", "/usr/bin/mic-check", seconds=20) as calls:
         for way, answer in calls.answers_of(case):
 
 This is what scripts/run-cases asks of whatever makes calls:
 
   name               of what is called, for the first line
-  can_make(case)     whether the call of a case can be made: not every way to fail can be had
+  lacks(case)        why the call of a case cannot be made, in the words after "because", or None
   endless            how many calls have not ended so far
   answers_of(case)   gives pairs: how the call was made, a text for messages that may be empty, and its Answer or NoAnswer.
                      Several threads may call it at once
@@ -41,8 +41,9 @@ class Unanswered(Exception):
 
 
 class NativeCalls:
-    def __init__(self, program, seconds):
+    def __init__(self, program, check_program, seconds):
         self.name, self.seconds, self.endless = program, seconds, 0
+        self.programs = {"mic": program, "mic-check": check_program}
         self.room = tempfile.mkdtemp(prefix="run-cases-")
         self.full = os.open("/dev/full", os.O_WRONLY)
 
@@ -53,8 +54,12 @@ class NativeCalls:
         os.close(self.full)
         shutil.rmtree(self.room, ignore_errors=True)
 
-    def can_make(self, case):
-        return "files" not in case.fails and all(calls == [1] for calls in case.fails.values())
+    def lacks(self, case):
+        if self.programs[case.program] is None:
+            return f"there is no {case.program}"
+        if "files" in case.fails or any(calls != [1] for calls in case.fails.values()):
+            return "their calls cannot be made to fail so from outside"
+        return None
 
     def answers_of(self, case):
         if "console" in case.fails:
@@ -89,7 +94,7 @@ class NativeCalls:
     def call(self, case, folder, given):
         stdout, stderr = (self.full if it in case.fails else subprocess.PIPE for it in ("out", "err"))
         how = {"stdin": given, "stdout": stdout, "stderr": stderr, "cwd": folder, "start_new_session": True}
-        with subprocess.Popen([self.name, *case.words], **how) as process:
+        with subprocess.Popen([self.programs[case.program], *case.words], **how) as process:
             try:
                 ends = time.monotonic() + self.seconds
                 out, err = printed_by(process, ends)

@@ -1,13 +1,30 @@
 //! A case's call is made, with files, console and streams in memory.
 
-use crate::case::{Answer, Case};
+use crate::case::{Answer, Case, Program};
 use crate::noted::NotedFiles;
 use cli_call::mic_main;
+use cli_check::check_main;
+use cli_outside::Status;
 use mic_base::{MemSink, MemSource};
 use std::alloc::{AllocError, Global};
 
 /// The most bytes that `out` and `err` take.
 const ROOM: u32 = 1_200_000;
+
+/// Makes the call of the case's program.
+fn call(
+    alloc: Global,
+    case: &Case,
+    files: &mut NotedFiles,
+    console: &mut MemSource,
+    out: &mut MemSink,
+    err: &mut MemSink,
+) -> Status {
+    match case.program {
+        Program::Mic => mic_main(alloc, &case.words, files, console, out, err),
+        Program::MicCheck => check_main(alloc, &case.words, files, console, out, err),
+    }
+}
 
 /// What comes of the case's call.
 pub fn answer_of(alloc: Global, case: &Case) -> Result<Answer, AllocError> {
@@ -22,14 +39,7 @@ pub fn answer_of(alloc: Global, case: &Case) -> Result<Answer, AllocError> {
     );
     let mut out = MemSink::new(alloc, ROOM, Vec::from_slice(alloc, &failing.out)?)?;
     let mut err = MemSink::new(alloc, ROOM, Vec::from_slice(alloc, &failing.err)?)?;
-    let status = mic_main(
-        alloc,
-        &case.words,
-        &mut files,
-        &mut console,
-        &mut out,
-        &mut err,
-    );
+    let status = call(alloc, case, &mut files, &mut console, &mut out, &mut err);
     Ok(Answer {
         status: status.0,
         out: Vec::from_slice(alloc, out.bytes())?,

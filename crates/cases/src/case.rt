@@ -1,4 +1,4 @@
-//! A case: a call of `mic`, what lies before it, and what must come of it.
+//! A case: a call of `mic` or `mic-check`, what lies before it, and what must come of it.
 
 use std::alloc::{AllocError, Global};
 
@@ -52,10 +52,18 @@ pub struct Failing {
     pub err: Vec<u64>,
 }
 
+/// The program that a case calls.
+#[derive(Clone, Copy, Drop)]
+pub enum Program {
+    Mic,
+    MicCheck,
+}
+
 #[derive(Drop)]
 pub struct Case {
     /// The lines up to the first that says what must come of the call.
     pub inputs: String,
+    pub program: Program,
     pub words: Vec<String>,
     pub files: Vec<CaseFile>,
     pub console: Vec<u8>,
@@ -67,6 +75,7 @@ impl Case {
     pub fn new(alloc: Global) -> Case {
         Case {
             inputs: String::new(alloc),
+            program: Program::Mic,
             words: Vec::new(alloc),
             files: Vec::new(alloc),
             console: Vec::new(alloc),

@@ -1,4 +1,4 @@
-//! Runs the cases that `index.txt` names: each is a call of `mic` in memory, and what must come of it.
+//! Runs the cases that `index.txt` names: each is a call of `mic` or `mic-check` in memory, and what must come of it.
 //! `cases show FILE` prints a case with what comes of it now.
 #![tactic(auto)]
 

@@ -19,7 +19,7 @@ impl Part {
     /// The part that a line with this first word begins.
     pub fn of(head: &str) -> Option<Part> {
         match head {
-            "mic" => Some(Part::Call),
+            "mic" | "mic-check" => Some(Part::Call),
             "file" => Some(Part::File),
             "console" => Some(Part::Console),
             "fails" => Some(Part::Fails),

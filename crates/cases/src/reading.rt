@@ -12,7 +12,7 @@
 //! | end halt
 //! ```
 
-use crate::case::{Case, CaseFile, Failing, Refusal};
+use crate::case::{Case, CaseFile, Failing, Program, Refusal};
 use crate::content::content_of;
 use crate::part::Part;
 use std::alloc::{AllocError, Global};
@@ -91,7 +91,7 @@ fn section_after(
         return Err(Refusal("the part stands behind a later one, or twice"));
     }
     put(case, section)?;
-    begin(rt, case, next, rest)?;
+    begin(rt, case, next, head, rest)?;
     section_of(rt, next, line)
 }
 
@@ -114,15 +114,32 @@ fn put(case: &mut Case, section: Section) -> Result<(), AllocError> {
     Ok(())
 }
 
-/// Takes what stands after the first word of a part without contents.
-fn begin(rt: &HostRuntime, case: &mut Case, part: Part, rest: &str) -> Result<(), Refusal> {
+/// Takes the first word and what stands after it, of a part without contents.
+fn begin(
+    rt: &HostRuntime,
+    case: &mut Case,
+    part: Part,
+    head: &str,
+    rest: &str,
+) -> Result<(), Refusal> {
     match part {
-        Part::Call => case.words = words_of(rt.alloc(), rest)?,
+        Part::Call => {
+            case.program = program_of(head);
+            case.words = words_of(rt.alloc(), rest)?;
+        }
         Part::Fails => fail(rt.alloc(), &mut case.failing, rest)?,
         Part::Status => case.wanted.status = status_of(rest)?,
         _ => {}
     }
     Ok(())
+}
+
+fn program_of(head: &str) -> Program {
+    if head == "mic-check" {
+        Program::MicCheck
+    } else {
+        Program::Mic
+    }
 }
 
 /// The part that this line begins. `PART NAME` has its contents on lines of their own, and `PART NAME = PATH` begins with those of a file beside the cases.
