@@ -1,8 +1,8 @@
 #!/bin/sh
 # install.sh [--released | --uninstall] [PREFIX]: puts the proved mic under PREFIX, /usr/local where none is given: the
-# program and the scripts of classroom/ (as mic-NAME) in bin, their man pages, the completions of three shells, and in
-# share/mic the documents, the examples, the exercises without their solutions, and the editors' files. With --released
-# the program is that of release/, which needs no toolchain. --uninstall removes what an installation put there.
+# programs mic and mic-check and the scripts of classroom/ (as mic-NAME) in bin, their man pages, the completions of three
+# shells, and in share/mic the documents, the examples, the exercises without their solutions, and the editors' files. With
+# --released the programs are those of release/, which needs no toolchain. --uninstall removes what an installation put there.
 set -eu
 umask 022
 usage="usage: ./install.sh [--released | --uninstall] [PREFIX]"
@@ -76,6 +76,12 @@ program=$("scripts/$what-program") || exit 1
 
 room=$(mktemp -d)
 trap 'rm -rf "$room"' EXIT
+# a release that was made before mic-check is installed without it
+judge=
+case $what in
+proved) judge=$(scripts/proved-program mic_check) || exit 1 ;;
+released) [ -z "$(find release -name 'mic-check-*')" ] || judge=$(scripts/released-program --check) || exit 1 ;;
+esac
 new=$room/installed
 case $what in
 released) cp release/VERSION "$room/VERSION" ;;
@@ -89,6 +95,13 @@ put 644 man/mic.1 share/man/man1/mic.1
 put 644 shell/mic.bash share/bash-completion/completions/mic
 put 644 shell/_mic share/zsh/site-functions/_mic
 put 644 shell/mic.fish share/fish/vendor_completions.d/mic.fish
+if [ -n "$judge" ]; then
+    put 755 "$judge" bin/mic-check
+    put 644 man/mic-check.1 share/man/man1/mic-check.1
+    put 644 shell/mic-check.bash share/bash-completion/completions/mic-check
+    put 644 shell/_mic-check share/zsh/site-functions/_mic-check
+    put 644 shell/mic-check.fish share/fish/vendor_completions.d/mic-check.fish
+fi
 for file in README.md CONTRIBUTING.md CHANGELOG.md LICENSE benchmarks/README.md release/*.html; do
     [ ! -f "$file" ] || put 644 "$file" "share/mic/$file"
 done

@@ -1,6 +1,6 @@
 #!/bin/sh
 # package.sh [--released] [VERSION]: makes in the folder out/ a tarball and a Debian package of what install.sh installs,
-# with the documents as HTML too. The program is the proved one, or with --released that of release/. VERSION is the
+# with the documents as HTML too. The programs are the proved ones, or with --released those of release/. VERSION is the
 # day and the name of its commit where none is given. The same sources give the same two files.
 # Needs git, binutils, cmark-gfm, dpkg and Python 3.9.
 set -eu
@@ -45,6 +45,15 @@ case $(need loader):$(need library | paste -sd , -) in
 *) refuse "the program needs more than the C library of x86-64 or arm64:
 $needs" ;;
 esac
+judge=
+if [ -z "$released" ]; then
+    judge=$(scripts/proved-program mic_check) || exit 1
+elif [ -n "$(find release -name 'mic-check-*')" ]; then
+    judge=$(scripts/released-program --check) || exit 1
+fi
+level() { grep -E '^(glibc|processor) '; }
+[ -z "$judge" ] || [ "$(scripts/needs "$judge" | level)" = "$(echo "$needs" | level)" ] || refuse "mic-check needs another machine than mic:
+$(scripts/needs "$judge")"
 for phrase in "glibc $glibc" "$processor"; do
     grep -q "${phrase}[^0-9.]" README.md || refuse "the program needs $phrase, and README.md does not say so"
 done
@@ -88,8 +97,9 @@ mic ($version) unstable; urgency=medium
  -- $maintainer  $(LC_ALL=C date -u -d "@$SOURCE_DATE_EPOCH" '+%a, %d %b %Y %H:%M:%S +0000')
 END
 cat >"$share/lintian/overrides/mic" <<END
-# the very file that was proved is installed, so that one sum shows that it is this file
+# the very files that were proved are installed, so that one sum shows that it is such a file
 mic: unstripped-binary-or-object [usr/bin/mic]
+mic: unstripped-binary-or-object [usr/bin/mic-check]
 END
 cat >"$deb/DEBIAN/control" <<END
 Package: mic
@@ -107,6 +117,9 @@ Description: simulator of the machines of Tanenbaum's book, Mic-1, Mic-2 and Mic
  programs in the small language Tiny, places microprograms written in MAL, and
  clocks the datapaths of Mic-1, Mic-2 and Mic-3 one cycle after another. It is
  proved to compute what the definition of IJVM says.
+ .
+ mic-check proves of a microprogram that it interprets IJVM, or shows where
+ that is not known.
  .
  The documents, examples and exercises are in /usr/share/mic. Scripts in Python
  (mic-grade, mic-waves and others) grade submissions and show what a run does.
