@@ -25,5 +25,7 @@ returns-in-Ok-not_shown_text g c =
     let text = c.in-Ok-not_shown_text.ensures in
     record {
       names = c.print-in-Ok-not_shown_text.ensures.names;
-      does = NotShown c.deref-in-Ok-not_shown_text.result.now (text.0, c.deref-in-Ok-not_shown_text.ensures.value ∙ text.1) c.print-in-Ok-not_shown_text.ensures.does;
+      does =
+          NotShown c.deref-in-Ok-not_shown_text.result.now (text.0, c.deref-in-Ok-not_shown_text.ensures.value ∙ text.1)
+          c.print-in-Ok-not_shown_text.ensures.does;
     }
