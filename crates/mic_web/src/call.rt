@@ -8,6 +8,7 @@ ghost use Rattle.mic_web.specs.Seen.{seen};
 use crate::failing::Failing;
 use crate::given::{FileSpans, NotMade, Span, words_of};
 use crate::outside::PageOutside;
+use crate::program::Program;
 use crate::told::{Told, tell};
 use std::alloc::Global;
 
@@ -42,23 +43,23 @@ impl Call {
         })
     }
 
-    /// Makes the call, and writes out what came of it. There is none where that does not fit.
-    pub(crate) fn make(
+    /// Makes the call of a program, and writes out what came of it. There is none where that does not fit.
+    pub(crate) fn make<P: Program>(
         self,
         out: &mut [u8],
         err: &mut [u8],
         written: &mut [u8],
         table: &mut [FileSpans],
     ) -> Option<Told>
-        ensures made { IfSome result (λ told. IsMade (map string_bytes self.words.items) (seen self.outside) told out.new err.new written.new table.new) }
-        ensures none { IfNone result (IsUnfitAfter (map string_bytes self.words.items) (seen self.outside) out.new err.new written.new table.new) }
+        ensures made { IfSome result (λ told. IsMade P.Ends (map string_bytes self.words.items) (seen self.outside) told out.new err.new written.new table.new) }
+        ensures none { IfNone result (IsUnfitAfter P.Ends (map string_bytes self.words.items) (seen self.outside) out.new err.new written.new table.new) }
     {
         let Call {
             alloc,
             words,
             mut outside,
         } = self;
-        let status = outside.call(alloc, &words);
+        let status = P::call(alloc, &words, &mut outside);
         tell(&outside, status, out, err, written, table)
     }
 }

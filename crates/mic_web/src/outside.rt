@@ -1,10 +1,7 @@
 //! The outside of a call, in memory: files, a console and two sinks.
 
-ghost use Rattle.std.specs.Prelude.{◌≡◌, ◌≢◌, Err, [], map, string_bytes, All, IfOk, IsErrOf};
+ghost use Rattle.std.specs.Prelude.{◌≡◌, ◌≢◌, Err, [], map, All, IfOk, IsErrOf};
 ghost use Rattle.mic_base.specs.Memory.{sink_bytes, sink_faults, sink_passed};
-ghost use Rattle.cli_words.specs.Words.{request_of};
-ghost use Rattle.cli_call.specs.CallEnds.{CallEnds};
-ghost use Rattle.cli_call.specs.Answers.{IsAnswer};
 ghost use Rattle.mic_web.specs.Called.{Filled, IsGiven};
 ghost use Rattle.mic_web.specs.Given.{IsFileAt, file_given};
 ghost use Rattle.mic_web.specs.Seen.{noted_contents, noted_faults, seen};
@@ -12,8 +9,6 @@ ghost use Rattle.mic_web.specs.Seen.{noted_contents, noted_faults, seen};
 use crate::failing::Failing;
 use crate::given::{FileSpans, NotMade, bytes_of, text_of};
 use crate::noted::NotedFiles;
-use cli_call::mic_main;
-use cli_outside::Status;
 use mic_base::{MemSink, MemSource};
 use std::alloc::Global;
 
@@ -77,20 +72,5 @@ impl PageOutside {
             out: sink_for(alloc, out_room, failing.out)?,
             err: sink_for(alloc, err_room, failing.err)?,
         })
-    }
-
-    /// Makes the call.
-    pub(crate) fn call(&mut self, alloc: Global, words: &[String]) -> Status
-        ensures ends { CallEnds (request_of (map string_bytes words.now)) (seen self.old) (seen self.new) result.0 }
-        ensures answer { IsAnswer (request_of (map string_bytes words.now)) (seen self.old) (seen self.new) result.0 }
-    {
-        mic_main(
-            alloc,
-            words,
-            &mut self.files,
-            &mut self.console,
-            &mut self.out,
-            &mut self.err,
-        )
     }
 }
