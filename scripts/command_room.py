@@ -1,9 +1,9 @@
 """A new folder in which shell commands are run, none of which can hang the caller.
 
-    with Room(mic, ["examples", "classroom"]) as room:
+    with Room({"mic": path}, ["examples", "classroom"]) as room:
         ran = room.run("mic run examples/hello.jas")    # ran.printed, ran.status
 
-A command finds copies of the named folders of the repository, the program as `mic`, and a home of its own. It has no
+A command finds copies of the named folders of the repository, the programs by their names, and a home of its own. It has no
 terminal, no display, and no input but what is typed. It is ended after SECONDS, and what it has begun ends with it. A file
 that it writes has at most BYTES.
 """
@@ -19,7 +19,7 @@ from dataclasses import dataclass
 TOP = os.path.dirname(os.path.dirname(os.path.abspath(__file__)))
 SECONDS = 60
 BYTES = 64 * 2**20
-LEFT_OUT = {"DISPLAY", "WAYLAND_DISPLAY", "MIC"}
+LEFT_OUT = {"DISPLAY", "WAYLAND_DISPLAY", "MIC", "MIC_CHECK"}
 
 
 @dataclass
@@ -31,12 +31,13 @@ class Ran:
 
 
 class Room:
-    def __init__(self, mic, copied):
+    def __init__(self, programs, copied):
         self.place = tempfile.mkdtemp(prefix="command-room-")
         self.folder = os.path.join(self.place, "here")
         for name in ("bin", "home", "here"):
             os.mkdir(os.path.join(self.place, name))
-        os.symlink(mic, os.path.join(self.place, "bin", "mic"))
+        for name, path in programs.items():
+            os.symlink(path, os.path.join(self.place, "bin", name))
         for name in copied:
             shutil.copytree(os.path.join(TOP, name), os.path.join(self.folder, name))
         kept = {name: value for name, value in os.environ.items() if name not in LEFT_OUT}

@@ -17,7 +17,7 @@ import time
 
 KEYS = {"ArrowLeft": 37, "ArrowUp": 38, "ArrowRight": 39, "ArrowDown": 40, "Home": 36, "End": 35, "PageUp": 33, "PageDown": 34, "Enter": 13, "Escape": 27,
         "Tab": 9, " ": 32, "F1": 112, "F8": 119, "F9": 120, "F10": 121, "F11": 122, "Backspace": 8}
-CONTROL, SHIFT = 2, 8
+ALT, CONTROL, SHIFT = 1, 2, 8
 COMMANDS, ANSWERS = 3, 4  # the descriptors of the pipe in the browser
 
 
@@ -123,7 +123,7 @@ class Browser:
     def key(self, key, modifiers=0):
         given = {"key": key, "code": key, "windowsVirtualKeyCode": KEYS.get(key) or ord(key.upper()), "modifiers": modifiers}
         text = {"Enter": "\r", "Tab": "\t"}.get(key) or (key if len(key) == 1 else None)
-        kind = {"type": "keyDown", "text": text} if text and not modifiers & CONTROL else {"type": "rawKeyDown"}
+        kind = {"type": "keyDown", "text": text} if text and not modifiers & (ALT | CONTROL) else {"type": "rawKeyDown"}
         self.call("Input.dispatchKeyEvent", **given, **kind)
         self.call("Input.dispatchKeyEvent", type="keyUp", **given)
 

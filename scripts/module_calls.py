@@ -3,8 +3,9 @@
     with ModuleCalls(module, ["node", "firefox"], seconds=20) as calls:
         for way, answer in calls.answers_of(case):
 
-It is what native_calls.py is for programs: its head says what scripts/run-cases asks for. Every call of mic can be made, since
-the module takes the numbers of the calls that fail; it has no function for those of mic-check. Each thread has a node of its own; a browser makes one call at a time.
+It is what native_calls.py is for programs: its head says what scripts/run-cases asks for. Every call can be made, since the
+module takes the numbers of the calls that fail; those of mic-check by a module that has its function, as all have that were
+made since there is mic-check. Each thread has a node of its own; a browser makes one call at a time.
 """
 import atexit
 import base64
@@ -32,6 +33,7 @@ ENGINE = TOP / "workbench/engine"
 RELEASED = TOP / "release/mic.html"
 PROGRAMS = {"node": ["node", "nodejs"], "chromium": ["chromium", "chromium-browser", "google-chrome"], "firefox": ["firefox", "firefox-esr"]}
 ENGINES = list(PROGRAMS)
+FUNCTIONS = {"mic": b"mic_web_call", "mic-check": b"mic_check_call"}  # of the module, by what they call
 ROOM = 1_200_000  # bytes of each sink, as the gate's cases have it
 
 
@@ -65,6 +67,7 @@ def take_released_cases():
 def request_of(case, seconds):
     """A case as workbench/engine/tests/json.js reads it."""
     return {
+        "program": case.program,
         "words": case.words,
         "files": {name: base64_of(contents) for name, contents in case.files.items()},
         "input": base64_of(case.console),
@@ -148,6 +151,7 @@ class ModuleCalls:
         self.seconds, self.engines, self.endless = seconds, engines, 0
         self.name = f"the module in {', '.join(engines)}"
         self.programs = {engine: program_of(engine) for engine in engines}
+        self.programs_inside = [name for name, function in FUNCTIONS.items() if function in module]
         self.nodes, self.own = [], threading.local()
         self.pages, self.opened = {}, contextlib.ExitStack()
         self.room = Path(self.opened.enter_context(tempfile.TemporaryDirectory(prefix="module-calls-")))
@@ -168,7 +172,7 @@ class ModuleCalls:
         self.opened.close()
 
     def lacks(self, case):
-        return None if case.program == "mic" else f"the module has no {case.program}"
+        return None if case.program in self.programs_inside else f"the module has no {case.program}"
 
     def node(self):
         """This thread's node."""

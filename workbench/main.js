@@ -9,13 +9,15 @@ import { byId, element, fill } from "./page/dom.js";
 import { Editor } from "./page/editor.js";
 import { buildExercise, renderExercise, renderExerciseList } from "./page/exercise_view.js";
 import { renderFiles, renderSaid, renderTabs } from "./page/files_view.js";
-import { buildFrame, buildTabs, showPart } from "./page/frame.js";
+import { buildFrame, buildTabs } from "./page/frame.js";
 import { goToLine } from "./page/go_to.js";
 import { handOut, openLink } from "./page/hand_out.js";
 import { buildFiles } from "./page/intake.js";
 import { buildMemory, renderMemory } from "./page/memory_view.js";
 import { buildPaper } from "./page/paper.js";
+import { showPart } from "./page/parts.js";
 import { buildProfile, renderProfile } from "./page/profile_view.js";
+import { buildProof, renderProof, saidOf } from "./page/proof_view.js";
 import { RecordedEngine, showRecorded } from "./page/recorded.js";
 import { buildSettings, renderBusy, renderSettings } from "./page/settings_view.js";
 import { startEngines } from "./page/start_engine.js";
@@ -32,6 +34,7 @@ const VIEWS = [
   ["memory", "Memory", buildMemory, renderMemory],
   ["profile", "Profile", buildProfile, renderProfile],
   ["compare", "Compare", buildCompare, renderCompare],
+  ["proof", "Proof", buildProof, renderProof],
   ["cache", "Cache", buildCache, renderCache],
   ["exercise", "Exercise", buildExercise, renderExercise],
 ];
@@ -95,6 +98,12 @@ function renderCurrent(bench, editor) {
   if (bench.wantedLine) editor.goTo(bench.wantedLine);
 }
 
+// What a screen reader speaks of the view
+function spokenWords({ view, stepping, result }) {
+  if (view === "datapath" && stepping) return spokenOf(stepping);
+  return view === "proof" && result.proof ? saidOf(result.proof) : "";
+}
+
 // What is shown anew for each kind of change
 function renderer(bench, editor, boxes) {
   const parts = {
@@ -108,16 +117,16 @@ function renderer(bench, editor, boxes) {
     marks: () => renderMarks(bench, editor),
     stale: () => { renderStale(bench); renderAsked(bench); },
     exercises: () => renderExerciseList(bench),
-    exercise: () => { if (bench.view === "exercise") renderViews(bench, boxes); },
+    answers: () => { if (["exercise", "proof"].includes(bench.view)) renderViews(bench, boxes); },
     notice: () => { byId("notice").hidden = !bench.notice; byId("notice").textContent = bench.notice; },
-    spoken: () => { byId("spoken").textContent = bench.stepping && bench.view === "datapath" ? spokenOf(bench.stepping) : ""; },
+    spoken: () => { byId("spoken").textContent = spokenWords(bench); },
   };
   const run = ["busy", "views", "stepper", "marks", "stale", "exercises", "said", "notice", "spoken"];
   const concerned = {
     notice: ["notice"],
     files: ["files", "said"],
     current: ["current", "files", "settings", ...run],
-    text: ["said", "marks", "stale", "files", "exercise"],
+    text: ["said", "marks", "stale", "files", "answers"],
     checked: ["said"],
     marks: ["marks"],
     result: ["views", "stepper", "marks", "stale"],
@@ -145,7 +154,7 @@ function buildPage(bench) {
   buildFrame(bench);
   buildPaper(bench);
   byId("hand-out").addEventListener("click", () => handOut(bench));
-  for (const id of ["run", "step"]) byId(id).addEventListener("click", () => showPart("run"));
+  for (const id of ["run", "step", "prove"]) byId(id).addEventListener("click", () => showPart("run"));
   window.workbench = bench;     // for those who look at it from the browser's console, and for the checks
 }
 

@@ -8,7 +8,7 @@ import re
 import subprocess
 import tempfile
 
-from devtools import CONTROL, SHIFT, Browser
+from devtools import ALT, CONTROL, SHIFT, Browser
 
 from .runs import LONG, SHORT, TOP, example
 from .trace import Program, read_cycles
@@ -87,7 +87,7 @@ def check_page(results, mic, chromium, path, is_long):
     with Browser(chromium, 1440, 900) as browser:
         page = Page(browser, "file://" + path)
         results.check("the page opens from a file", page.start())
-        for check in (refusals, runs, steps, pipeline_and_cache, other_views, waiting, files, links):
+        for check in (refusals, runs, steps, pipeline_and_cache, other_views, proofs, waiting, files, links):
             check(results, page, program, is_long)
         exercises(results, page, is_long)
         results.note("no message in the browser's console", browser.problems())
@@ -249,6 +249,49 @@ def other_views(results, page, program, is_long):
     browser.value("workbench.removeFile('quick_jumps.mal')")
 
 
+NO_CHECK = "has no mic_check_call"  # of a module that was made before there was mic-check
+HAS_PROOFS = "!!document.getElementById('prove')"  # which a page of that time has not either
+
+
+def prove(page):
+    """Has the microprogram in the editor proved, by the key, and returns what is shown"""
+    page.browser.value("workbench.say('')")
+    page.browser.key("Enter", ALT)
+    page.browser.wait("!workbench.busy && (workbench.result.proof || workbench.notice)")
+    return page.text("#proved")
+
+
+def proofs(results, page, program, is_long):
+    """A microprogram is proved; of one that is not shown a statement is gone to by keys alone"""
+    browser = page.browser
+    page.open_file("quick_jumps.mal")
+    shown = prove(page) if browser.value(HAS_PROOFS) else None
+    if shown is None or NO_CHECK in browser.value("workbench.notice"):
+        results.skip("the module of this page has no mic-check: nothing is proved in it")
+        return
+    results.check("a microprogram is proved, with fewer cycles", shown.startswith("Proved") and re.search(r"GOTO\s+6\s+7\s+1 fewer", shown)
+                  and re.search(r"IADD\s+4\s+4\s*\n", shown), shown)
+    rows = "[...document.querySelectorAll('table.costs tr.other td:first-child')].map(cell => cell.textContent)"
+    results.check("the rows with fewer cycles stand out", browser.value(rows) == ["IFEQ", "IFLT", "IF_ICMPEQ", "GOTO"], browser.value(rows))
+    line = 1 + browser.value("workbench.current.text.split('\\n').findIndex(row => row.startsWith('isub3'))")
+    page.replace(line, "wr; ", "")
+    results.check("an answer is of the text before", "before your last change" in page.text("#proved"), page.text("#proved"))
+    browser.value("document.activeElement.blur()")
+    shown = prove(page)
+    results.check("a forgotten wr is not shown", shown.startswith("Not shown") and "ISUB" in shown and "wrong" not in shown, shown)
+    browser.value("[...document.querySelectorAll('.way button')].find(link => link.textContent === 'isub3').focus()")
+    browser.key("Enter")
+    caret = "(() => { const a = document.activeElement; return a.tagName === 'TEXTAREA' ? a.value.slice(0, a.selectionStart).split('\\n').length : 0; })()"
+    results.check("Enter on a statement goes to its line", browser.value(caret) == line, browser.value(caret))
+    page.choose("machine", "mic2")
+    browser.click("#prove")
+    said = page.text("#proof-of")
+    results.check("on Mic-2 the button says why nothing is proved", "Mic-1" in said and browser.value("document.getElementById('prove').getAttribute('aria-disabled')") == "true"
+                  and not browser.value("!!workbench.result.proof"), said)
+    page.choose("machine", "mic1")
+    browser.value("workbench.removeFile('quick_jumps.mal')")
+
+
 def waiting(results, page, program, is_long):
     """A program that asks for more input than there is"""
     browser = page.browser
@@ -334,6 +377,8 @@ def exercises(results, page, is_long):
             points = re.search(r"([\d.]+) of ([\d.]+) points", page.text("#exercise"))
             right = points and (points[1] == points[2]) == (what == "solution")
             results.check("%s: the %s" % (name, what), right, page.text("#exercise")[-300:])
+            if browser.value("typeof workbench.exercise.proved === 'string'") and NO_CHECK not in page.text("#exercise"):
+                results.check("%s: the %s is proved" % (name, what), page.text("#exercise-proof").startswith("Proved"), page.text("#exercise-proof"))
         browser.value("workbench.removeFile(workbench.current.name)")
 
 

@@ -62,7 +62,7 @@ function layOut(memory, { words, files, input, limits, fails }) {
   };
 }
 
-/** The arguments of the module's function: an address and a count for each slice, and the address of what is told. */
+/** The arguments of a function of the module: an address and a count for each slice, and the address of what is told. */
 function argumentsOf(laid, { words, files, limits, fails }) {
   const slices = [
     [laid.given, laid.given.length],
@@ -104,7 +104,8 @@ function answerOf(laid, fails) {
   };
 }
 
-function instanceOf(compiled) {
+/** A new instance of the module, which has this function. */
+function instanceOf(compiled, called) {
   let instance;
   try {
     instance = new WebAssembly.Instance(compiled, {});
@@ -114,9 +115,9 @@ function instanceOf(compiled) {
     }
     throw new BadModule(String(error));
   }
-  const { memory, mic_web_call, host_take } = instance.exports;
-  if (!memory || !mic_web_call || !host_take) {
-    throw new BadModule("the module has no mic_web_call, host_take and memory");
+  const missing = [called, "host_take", "memory"].filter((name) => !instance.exports[name]);
+  if (missing.length > 0) {
+    throw new BadModule(`the module has no ${missing.join(", ")}`);
   }
   return instance;
 }
@@ -141,10 +142,10 @@ function untrapped(run) {
  */
 export function makeCall(compiled, request) {
   const read = readRequest(request);
-  const { exports } = instanceOf(compiled);
+  const { exports } = instanceOf(compiled, read.called);
   const began = performance.now();
   const laid = layOut(new ModuleMemory(exports), read);
-  const code = untrapped(() => exports.mic_web_call(...argumentsOf(laid, read)));
+  const code = untrapped(() => exports[read.called](...argumentsOf(laid, read)));
   if (code !== 0) {
     throw NO_ANSWER[code](read.limits);
   }

@@ -11,7 +11,7 @@ class NamedError extends Error {
 /** There is no memory for the call. */
 export class OutOfMemory extends NamedError {}
 
-/** What is given is no call: a word or a file's name is no text in UTF-8. */
+/** What is given is no call: a word or a file's name is no text in UTF-8, or there is no such program. */
 export class NotACall extends NamedError {}
 
 /** The files that were written are more, or longer, than the limits allow. */
@@ -26,7 +26,7 @@ export class Stopped extends NamedError {}
 /** The call took longer than its limit of time. */
 export class TimedOut extends NamedError {}
 
-/** The bytes are no module, or not this one. */
+/** The bytes are no module, or one without the function that is called. */
 export class BadModule extends NamedError {}
 
 /** The worker could not be started. */

@@ -1,4 +1,4 @@
-// What a call is given: words, files, console input, limits, and the numbers of the calls that fail.
+// What a call is given: the program, words, files, console input, limits, and the numbers of the calls that fail.
 import { NotACall } from "./errors.js";
 
 /**
@@ -21,7 +21,8 @@ import { NotACall } from "./errors.js";
 
 /**
  * @typedef {object} Request
- * @property {string[]} words The words after `mic`.
+ * @property {"mic" | "mic-check"} [program] The program that is called, `mic` by default.
+ * @property {string[]} words The words after the program's name.
  * @property {Record<string, string | Uint8Array> | Map<string, string | Uint8Array>} [files]
  * @property {string | Uint8Array} [input] Console input.
  * @property {Limits} [limits]
@@ -29,6 +30,12 @@ import { NotACall } from "./errors.js";
  */
 
 const MIB = 1 << 20;
+
+/** The programs of the module, each with the module's function that calls it. */
+const PROGRAMS = new Map([
+  ["mic", "mic_web_call"],
+  ["mic-check", "mic_check_call"],
+]);
 
 export const DEFAULT_LIMITS = Object.freeze({ time: Infinity, out: 16 * MIB, err: 16 * MIB, written: 8 * MIB, rows: 64 });
 
@@ -54,13 +61,21 @@ function allLimits(limits) {
   return { ...DEFAULT_LIMITS, ...Object.fromEntries(given) };
 }
 
+function functionOf(program) {
+  if (!PROGRAMS.has(program)) {
+    throw new NotACall(`there is no program ${program}`);
+  }
+  return PROGRAMS.get(program);
+}
+
 /**
- * A request with everything in bytes, and with all limits.
+ * A request with everything in bytes, with all limits, and with the module's function for its program.
  * @param {Request} request
  */
-export function readRequest({ words, files = {}, input = "", limits = {}, fails = {} }) {
+export function readRequest({ program = "mic", words, files = {}, input = "", limits = {}, fails = {} }) {
   const { files: reads = [], console: inputs = [], out = [], err = [] } = fails;
   return {
+    called: functionOf(program),
     words: words.map(utf8Of),
     files: entriesOf(files).map(([name, contents]) => ({ name: utf8Of(name), contents: bytesOf(contents) })),
     input: bytesOf(input),

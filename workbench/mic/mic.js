@@ -14,6 +14,7 @@ import { readRefusal } from "./refusal.js";
 import { readReport, reportInWords, thousands } from "./report.js";
 import { Call } from "./setting.js";
 import { readStore } from "./store.js";
+import { readVerdict } from "./verdict.js";
 
 const REFUSED = new Set([64, 65, 66, 67, 75]);
 const INPUT_FAILED = 70;
@@ -141,6 +142,14 @@ export class Mic {
     const placed = await this.accepted(call, { words: ["micro", machine, "--", name, "store.mic"], files });
     const listed = await this.answer({ words: ["print-micro", "--", "store.mic"], files: { "store.mic": placed.written["store.mic"] } });
     return readStore(version, placed.text, listed.text, micro ? text : null);
+  }
+
+  // Whether a microprogram for Mic-1 is proved to interpret IJVM, by mic-check
+  async judge(file) {
+    const call = new Call({ machine: "mic1", micro: file }), store = await this.store("mic1", file);
+    const answer = await this.accepted(call, { program: "mic-check", ...call.request(["micro.mal"]) });
+    if (answer.status > 1) throw new Error(`mic-check has judged nothing: ${latin1(answer.err).slice(0, 200)}`);
+    return readVerdict(answer.status === 0, answer.text, store);
   }
 
   async resetRegisters(call) {

@@ -5,7 +5,7 @@ import { kindOf } from "../mic/refusal.js";
 import { DEFAULT_BOUND, MOST_BOUND } from "../mic/setting.js";
 import { Conflict, StorageFull } from "./store.js";
 
-const NO_RESULT = Object.freeze({ ran: null, stepping: null, refusal: null, profile: null, difference: null, cache: null });
+const NO_RESULT = Object.freeze({ ran: null, stepping: null, refusal: null, profile: null, difference: null, cache: null, proof: null });
 export const STARTS = { jas: ".main\n        HALT\n.end-main\n", tiny: "fn main() {\n}\n", mal: "" };
 const CHECK_AFTER = 350, SAVE_AFTER = 300;  // milliseconds after the last key
 
@@ -184,11 +184,16 @@ export class Bench {
     return [...found, ...cases.filter(one => one.program).map(one => ({ name: `(${one.name} of ${name})`, text: one.program }))];
   }
 
+  // The name of the microprogram of one's own that is clocked: the one in the editor, or the one that is chosen; or ""
+  get ownMicro() {
+    if (!this.current) return "";
+    return this.current.kind === "mal" ? this.current.name : this.settings.micro;
+  }
   setting() {
-    const { machine, map, bound, program, micro } = this.settings, isMicro = this.current && this.current.kind === "mal";
+    const { machine, map, bound, program } = this.settings, isMicro = this.current && this.current.kind === "mal";
     if (!this.current) throw new Error("Open a program first.");
     if (!this.current.kind) throw new Error(`${this.current.name}: a name must end in .jas, .tiny or .mal.`);
-    const file = this.textOf(isMicro ? program : this.current.name), microName = isMicro ? this.current.name : micro;
+    const file = this.textOf(isMicro ? program : this.current.name), microName = this.ownMicro;
     if (!file) throw new Error("Choose a program that the microprogram runs, at the top.");
     if (microName && machine === "mic3") throw new Error("Mic-3 clocks the microprogram that ships, and no other: choose Mic-1 or Mic-2.");
     if (!Number.isInteger(bound) || bound < 0 || bound > MOST_BOUND) throw new Error("The bound is a number of cycles from 0 to 1,000,000,000.");

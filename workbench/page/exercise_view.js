@@ -5,6 +5,7 @@ import { textOfBytes } from "../program/bytes.js";
 import { exerciseOptions, gradeCase } from "../program/exercise.js";
 import { button, byId, cell, element, fill, headRow, link, soft, tableRow } from "./dom.js";
 import { markdown } from "./markdown.js";
+import { verdictParts } from "./proof_view.js";
 
 const SHOWN = 300;              // letters of an input or output
 
@@ -48,7 +49,7 @@ export function renderExercise(bench, box) {
     exists ? button("begin anew", () => anew(bench, exercise), { title: "a new file with the start" }) : null,
     ...(graded ? pointsParts(graded, isStale) : []));
   const note = runsWith ? element("p", { className: "soft" }, `It runs with ${runsWith}.`) : null;
-  fill(box, markdown(exercise.task), note, bar, casesTable(bench, exercise, graded));
+  fill(box, markdown(exercise.task), note, bar, ...exerciseProof(bench, exercise, graded), casesTable(bench, exercise, graded));
 }
 
 function pointsParts({ rows }, isStale) {
@@ -58,6 +59,26 @@ function pointsParts({ rows }, isStale) {
     element("span", { className: `points ${got === full ? "good" : "bad"}`, role: "status" }, `${got} of ${full} points`),
     soft(`${passed} of ${counted(rows.length, "case")} passed, ${cycles} cycles${when}`),
   ];
+}
+
+// What mic-check says of the microprogram, where the exercise asks for it. It gives no points
+function exerciseProof(bench, exercise, graded) {
+  if (!graded || !graded.proof) return [];
+  const { verdict, missing } = graded.proof, file = { name: fileOf(exercise), text: graded.text };
+  if (missing) return [element("p", { className: "soft" }, `Nothing is said of all programs: ${missing}.`)];
+  const hint = !verdict.isProved && exercise.proved ? [element("p", {}, exercise.proved)] : [];
+  return [element("div", { id: "exercise-proof" }, ...verdictParts(bench, { file, verdict }), ...hint)];
+}
+
+// A refusal is that of the cases too
+async function proofOf(bench, file) {
+  try {
+    return { verdict: await bench.mic.judge(file) };
+  } catch (error) {
+    if (error.name === "BadModule") return { missing: error.message };
+    if (error.refusal) return null;
+    throw error;
+  }
 }
 
 function begin(bench, exercise, exists) {
@@ -78,11 +99,13 @@ function check(bench, exercise) {
     if (!bench.tabs.has(name)) bench.openFile(name);
     const file = bench.textOf(name), rows = [];
     bench.graded = null;
+    if (exercise.proved !== null) bench.busy.text = "proving";
+    const proof = exercise.proved === null ? null : await proofOf(bench, file);
     for (const one of exercise.cases) {
       bench.busy.text = `case ${one.name}`;
       rows.push(await gradeCase(bench.mic, exercise, one, file));
     }
-    bench.graded = { rows, text: file.text };
+    bench.graded = { rows, proof, text: file.text };
     const { results = {} } = bench.store.settings();
     bench.store.keepSettings({ results: { ...results, [exercise.name]: [gotPoints(rows), fullPoints(rows)] } });
     const refused = rows.find(row => row.refusal && row.refusal.file === name);

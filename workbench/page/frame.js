@@ -1,5 +1,7 @@
 // The page's frame: type size, light and dark, widths, the parts of a small window, and the keys.
 import { ask, button, byId, element } from "./dom.js";
+import { showPart } from "./parts.js";
+import { runProof } from "./proof_view.js";
 import { stepByKey } from "./stepper.js";
 
 const SMALLEST = 10, LARGEST = 32, LEAST_LEFT = 240, LEAST_RIGHT = 420;
@@ -47,12 +49,6 @@ function dress(bench, theme) {
   byId("theme").textContent = isDark() ? "light" : "dark";
 }
 
-// On a small window one part of the page is shown at a time
-export function showPart(part) {
-  document.body.dataset.part = part;
-  for (const one of document.querySelectorAll("#switch button")) one.setAttribute("aria-selected", String(one.dataset.part === part));
-}
-
 function buildSplit() {
   const split = byId("split"), widen = x => {
     const left = Math.max(LEAST_LEFT, Math.min(innerWidth - LEAST_RIGHT, x - byId("left").offsetLeft));
@@ -73,6 +69,7 @@ function keys(bench, event) {
   const control = event.ctrlKey || event.metaKey;
   if (byId("dialog").open) return false;
   if (control && event.key === "Enter") runByKey(bench, event.shiftKey);
+  else if (event.altKey && event.key === "Enter") proveByKey(bench);
   else if (event.key === "F2") byId("editor").querySelector("textarea").focus();
   else if (control && event.key === "s") byId("tabs").querySelector(".tools button")?.click();
   else if (control && event.key === "g") bench.goToLine();
@@ -88,8 +85,15 @@ async function runByKey(bench, withSteps) {
   if (withSteps && bench.stepping) byId("step-on").focus();
 }
 
+// The answer is shown, also on a small window
+function proveByKey(bench) {
+  showPart("run");
+  return runProof(bench);
+}
+
 const KEYS = [
-  ["Ctrl+Enter", "run"], ["Ctrl+Shift+Enter", "step: run, and show it cycle by cycle"], ["Esc", "stop the run"], ["← →", "previous, next cycle"],
+  ["Ctrl+Enter", "run"], ["Ctrl+Shift+Enter", "step: run, and show it cycle by cycle"], ["Alt+Enter", "prove the microprogram"],
+  ["Esc", "stop the run, or the proof"], ["← →", "previous, next cycle"],
   ["↑ ↓", "previous, next instruction"], ["Page up, Page down", "previous, next line"], ["F10, Shift+F10", "next, previous line over calls"],
   ["F11, Shift+F11", "out of a method; back to its call"], ["F8, Shift+F8", "on, back to a breakpoint or a write of the watched word"],
   ["Home, End", "first, last cycle"], ["F9", "a breakpoint in the line of the caret; also a click beside its number"],

@@ -1,6 +1,7 @@
 // The row at the top: machine, program or microprogram, and what else a run has; and the buttons.
 import { kindOf } from "../mic/refusal.js";
 import { byId, element, fill } from "./dom.js";
+import { runProof, whyNoProof } from "./proof_view.js";
 
 const numberIn = id => Number(byId(id).value.replace(/[ ,_']/g, ""));
 
@@ -17,6 +18,7 @@ export function buildSettings(bench) {
   }
   byId("run").addEventListener("click", () => bench.run(false));
   byId("step").addEventListener("click", () => bench.run(true));
+  byId("prove").addEventListener("click", () => runProof(bench));
   byId("stop").addEventListener("click", () => bench.stop());
 }
 
@@ -32,12 +34,21 @@ export function renderSettings(bench) {
   if (settings.micro && kindOf(settings.micro) !== "mal") settings.micro = "";
   for (const name of ["machine", "map", "program", "micro", "window", "from"]) byId(name).value = settings[name];
   byId("bound").value = settings.bound.toLocaleString("en-US");
+  renderProve(bench);
+}
+
+// Where nothing can be proved the button says why
+function renderProve(bench) {
+  const why = whyNoProof(bench), button = byId("prove");
+  button.hidden = bench.ownMicro === "";
+  button.setAttribute("aria-disabled", String(why !== ""));
+  button.title = why || "prove that it interprets IJVM (Alt+Enter)";
 }
 
 export function renderBusy(bench) {
   const { busy, took } = bench, seconds = time => (time < 9950 ? `${(time / 1000).toFixed(1)} s` : `${Math.round(time / 1000)} s`);
   byId("stop").disabled = busy === null;
-  byId("run").disabled = byId("step").disabled = busy !== null;
+  for (const id of ["run", "step", "prove"]) byId(id).disabled = busy !== null;
   document.body.classList.toggle("busy", busy !== null);
   byId("busy").textContent = busy ? `${busy.text} … ${seconds(performance.now() - busy.since)}` : took ? `${Math.round(took)} ms` : "";
 }

@@ -1,4 +1,4 @@
-// An engine for tests in node: each call is a process of the program `mic`, in a folder of its own.
+// An engine for tests in node: each call is a process of the program `mic`, or of `mic-check`, in a folder of its own.
 import { spawnSync } from "node:child_process";
 import { mkdtempSync, readFileSync, readdirSync, rmSync, writeFileSync } from "node:fs";
 import { tmpdir } from "node:os";
@@ -7,15 +7,15 @@ import { join } from "node:path";
 const MOST_BYTES = 1 << 28;
 
 export class NativeEngine {
-  constructor(program) {
-    this.program = program;
+  constructor(mic, check = null) {
+    this.programs = { mic, "mic-check": check };
   }
 
-  async call({ words, files = {}, input = "" }) {
+  async call({ program = "mic", words, files = {}, input = "" }) {
     const folder = mkdtempSync(join(tmpdir(), "workbench."));
     try {
       for (const [name, bytes] of Object.entries(files)) writeFileSync(join(folder, name), bytes);
-      const { status, stdout, stderr, error } = spawnSync(this.program, words, { cwd: folder, input, maxBuffer: MOST_BYTES });
+      const { status, stdout, stderr, error } = spawnSync(this.programs[program], words, { cwd: folder, input, maxBuffer: MOST_BYTES });
       if (error) throw error;
       const names = readdirSync(folder).filter(name => !(name in files));
       const written = Object.fromEntries(names.map(name => [name, new Uint8Array(readFileSync(join(folder, name)))]));

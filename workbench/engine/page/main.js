@@ -55,6 +55,7 @@ function chooseFile() {
   showFile();
   const example = EXAMPLES.find(({ name }) => name === byId("name").value);
   if (example?.words) {
+    byId("program").value = "mic";
     byId("words").value = example.words;
     byId("input").value = example.input;
   }
@@ -142,7 +143,7 @@ async function runWords(words) {
   setRunning(true);
   say("Running.");
   try {
-    const answer = await engine.call({ words, files: files.contents, input: byId("input").value });
+    const answer = await engine.call({ program: byId("program").value, words, files: files.contents, input: byId("input").value });
     showStream("out", answer.out);
     showStream("err", answer.err);
     sayAnswer(answer, takeWritten(answer.written));
@@ -196,7 +197,9 @@ async function begin() {
   listFiles("examples/countdown.jas");
   chooseFile();
   if (location.hash) {
-    byId("words").value = decodeURIComponent(location.hash.slice(1));
+    const [, program, words] = /^(mic-check (?=\S))?(.*)$/s.exec(decodeURIComponent(location.hash.slice(1)));
+    byId("program").value = program ? "mic-check" : "mic";
+    byId("words").value = words;
   }
   try {
     const module = await compileModule(await unpacked(bytesOfBase64(dataOf("module"))));

@@ -5,7 +5,7 @@ import fs from "node:fs";
 import { makeCall } from "../call.js";
 import { Engine, compileModule } from "../engine.js";
 import { nodeWorker } from "./node_worker.js";
-import { BREAKING, EMPTY } from "./tiny_module.js";
+import { BREAKING, EMPTY, TWO_PROGRAMS } from "./tiny_module.js";
 
 const compiled = await compileModule(fs.readFileSync(process.argv[2]));
 const startWorker = nodeWorker(new URL("../worker.js", import.meta.url));
@@ -14,6 +14,7 @@ const text = (bytes) => new TextDecoder().decode(bytes);
 const ABC = ".main\n BIPUSH 'A'\n OUT\n BIPUSH 'B'\n OUT\n BIPUSH 'C'\n OUT\n HALT\n.end-main\n";
 const ECHO_ONE = ".main\n IN\n OUT\n HALT\n.end-main\n";
 const ENDLESS = ".main\nagain: GOTO again\n.end-main\n";
+const IDLE = "Main1 goto Main1\n";
 const abc = { words: ["run", "abc.jas"], files: { "abc.jas": ABC } };
 const endless = { words: ["run", "--bound=1000000000", "endless.jas"], files: { "endless.jas": ENDLESS } };
 const assemble = { words: ["assemble", "abc.jas", "abc.ijvm"], files: { "abc.jas": ABC } };
@@ -82,7 +83,15 @@ const TESTS = {
     assert.equal(makeCall(compiled, { ...abc, fails: { err: [1] } }).status, 71);
   },
 
-  "NotACall: a text with half of a surrogate pair"() {
+  "each program is called by a function of its own"() {
+    const module = new WebAssembly.Module(TWO_PROGRAMS);
+    throwsAs("Trapped", () => makeCall(module, { words: [] }));
+    throwsAs("Trapped", () => makeCall(module, { program: "mic", words: [] }));
+    throwsAs("NotACall", () => makeCall(module, { program: "mic-check", words: [] }));
+  },
+
+  "NotACall: a text with half of a surrogate pair, or a program that is not there"() {
+    throwsAs("NotACall", () => makeCall(compiled, { program: "micro", words: [] }));
     throwsAs("NotACall", () => makeCall(compiled, { words: ["\ud800"] }));
     throwsAs("NotACall", () => makeCall(compiled, { words: [], files: { "\udc00": "" } }));
   },
@@ -108,6 +117,7 @@ const TESTS = {
   async "BadModule: bytes of another kind"() {
     await rejectsAs("BadModule", compileModule(new Uint8Array([1, 2, 3])));
     throwsAs("BadModule", () => makeCall(new WebAssembly.Module(EMPTY), { words: [] }));
+    throwsAs("BadModule", () => makeCall(new WebAssembly.Module(BREAKING), { program: "mic-check", words: [] }));
   },
 
   async "NoWorker: the worker does not start"() {
@@ -168,6 +178,27 @@ const TESTS = {
     });
   },
 };
+
+const CHECKED = {
+  "mic-check judges a microprogram"() {
+    const judged = makeCall(compiled, { program: "mic-check", words: ["idle.mal"], files: { "idle.mal": IDLE } });
+    assert.equal(judged.status, 1);
+    assert.match(text(judged.out), /^not shown: /);
+    assert.deepEqual(judged.written, {});
+  },
+
+  "mic-check refuses what is no microprogram"() {
+    const refused = makeCall(compiled, { program: "mic-check", words: ["abc.jas"], files: { "abc.jas": ABC } });
+    assert.equal(refused.status, 65);
+    assert.match(text(refused.err), /abc\.jas/);
+  },
+};
+
+if (WebAssembly.Module.exports(compiled).some(({ name }) => name === "mic_check_call")) {
+  Object.assign(TESTS, CHECKED);
+} else {
+  console.log("left out: the module has no mic-check");
+}
 
 let failed = 0;
 for (const [name, test] of Object.entries(TESTS)) {

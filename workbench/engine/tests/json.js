@@ -16,8 +16,8 @@ function base64Of(bytes) {
 
 const withValues = (object, change) => Object.fromEntries(Object.entries(object).map(([name, value]) => [name, change(value)]));
 
-export function requestOf({ words, files, input, limits, fails }) {
-  return { words, files: withValues(files, bytesOf), input: bytesOf(input), limits, fails };
+export function requestOf({ program, words, files, input, limits, fails }) {
+  return { program, words, files: withValues(files, bytesOf), input: bytesOf(input), limits, fails };
 }
 
 export function replyOf({ status, out, err, written, left, full, time, memory }) {
