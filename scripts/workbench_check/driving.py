@@ -285,9 +285,8 @@ def proofs(results, page, program, is_long):
     results.check("Enter on a statement goes to its line", browser.value(caret) == line, browser.value(caret))
     page.choose("machine", "mic2")
     browser.click("#prove")
-    said = page.text("#proof-of")
-    results.check("on Mic-2 the button says why nothing is proved", "Mic-1" in said and browser.value("document.getElementById('prove').getAttribute('aria-disabled')") == "true"
-                  and not browser.value("!!workbench.result.proof"), said)
+    said, is_off = page.text("#proof-of"), browser.value("document.getElementById('prove').getAttribute('aria-disabled') === 'true'")
+    results.check("on Mic-2 the button says why nothing is proved", "Mic-1" in said and is_off and not browser.value("!!workbench.result.proof"), said)
     page.choose("machine", "mic1")
     browser.value("workbench.removeFile('quick_jumps.mal')")
 

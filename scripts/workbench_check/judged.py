@@ -89,8 +89,9 @@ class Compared:
                 self.want("the counts of " + row["name"], cost["counts"], [int(n) for n in re.findall(r"\d+", cost["text"].partition(" where ")[0])])
         counts = [[int(n) for n in re.findall(r"\d+", text.partition(" where ")[0])] for row in rows for text in row[1:]]
         pairs = [*zip(counts[::2], counts[1::2])]
-        for word, number in (("fewer", sum(any(a < b for a, b in zip(*pair)) for pair in pairs)), ("more", sum(any(a > b for a, b in zip(*pair)) for pair in pairs))):
+        for word, is_so in (("fewer", lambda one, other: one < other), ("more", lambda one, other: one > other)):
             found = re.search(r"(\d+) (?:instructions )?with %s" % word, self.shown["said"])
+            number = sum(any(is_so(*cycles) for cycles in zip(*pair)) for pair in pairs)
             self.want("how many take " + word, int(found[1]) if found else 0, number)
 
     def not_shown(self):

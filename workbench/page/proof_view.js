@@ -19,8 +19,8 @@ export function runProof(bench) {
   const file = bench.textOf(bench.ownMicro);
   if (whyNoProof(bench) || !file) return bench.choose("proof");
   return bench.during("proving", async () => {
-    bench.clear();
     const verdict = await bench.mic.judge(file);
+    bench.clear();
     bench.result = { ...bench.result, proof: { file, verdict } };
     bench.view = "proof";
   });
@@ -63,7 +63,7 @@ export function verdictParts(bench, { file, verdict }) {
 const fewerOf = ({ own, shipped }) => own.counts.map((cycles, k) => shipped.counts[k] - cycles);
 
 function comparedWords(rows) {
-  const quicker = rows.filter(row => fewerOf(row).some(fewer => fewer > 0)).length, slower = rows.filter(row => fewerOf(row).some(fewer => fewer < 0)).length;
+  const number = test => rows.filter(row => fewerOf(row).some(test)).length, quicker = number(fewer => fewer > 0), slower = number(fewer => fewer < 0);
   if (!quicker && !slower) return "as many as with the one that ships";
   const counted = [quicker ? `${quicker} instructions with fewer` : "", slower ? `${slower} with more` : ""].filter(Boolean);
   return counted.join(", and ");

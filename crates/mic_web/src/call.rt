@@ -52,7 +52,8 @@ impl Call {
         table: &mut [FileSpans],
     ) -> Option<Told>
         ensures made { IfSome result (λ told. IsMade P.Ends (map string_bytes self.words.items) (seen self.outside) told out.new err.new written.new table.new) }
-        ensures none { IfNone result (IsUnfitAfter P.Ends (map string_bytes self.words.items) (seen self.outside) out.new err.new written.new table.new) }
+        ensures none { IfNone result
+            (IsUnfitAfter P.Ends (map string_bytes self.words.items) (seen self.outside) out.new err.new written.new table.new) }
     {
         let Call {
             alloc,
