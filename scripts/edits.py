@@ -68,7 +68,11 @@ def body_around(lines, at):
 
 
 def text_of(crate, file):
-    with open(os.path.join(TOP, "crates", crate, file), encoding="utf-8") as it:
+    """The text of a file of a crate, in which an edit finds nothing if there is no such file."""
+    path = os.path.join(TOP, "crates", crate, file)
+    if not os.path.isfile(path):
+        return ""
+    with open(path, encoding="utf-8") as it:
         return it.read()
 
 
