@@ -12,10 +12,10 @@ use Rattle.ijvm_meaning.specs.Frames.{State}
 use Rattle.ijvm_simulation.specs.Stands.{Origin, IsAt, RegistersStand}
 use Rattle.ijvm_simulation.specs.Passes.{Moment, is_inside, outcome_at}
 use Rattle.micro_terms.specs.Environment.{Environment}
-use Rattle.mic1_cycles.specs.Trail.{Trail, world_of, given_by}
+use Rattle.mic1_cycles.specs.Trail.{given_by}
 use Rattle.mic1_cycles.specs.Symbols.{byte_in as byte_symbol}
 use Rattle.mic1_cycles.specs.declared.path.Path.{Path}
-use Rattle.mic1_cycles.specs.Paths.{trail_of, refusal_of}
+use Rattle.mic1_cycles.specs.Paths.{refusal_of}
 use Rattle.mic1_cycles.specs.declared.refusal.Stop.TheVariants.{OutOfMap as Out}
 use Rattle.mic1_passes.specs.Moments.{moment}
 use Rattle.mic1_checks.specs.Transfer.{AreAlike, Transfers, TransfersLimits, OneEnd}
@@ -32,12 +32,14 @@ came : (word : ℕ → ℕ) (o : Option Byte) (b : Byte) → arrived (byte_symbo
 came word None b = refl
 came word (Some n) b = refl
 
-module _ (o : Origin) (stalls entry entry' : ℕ) (e : Environment) (last last' : Path) (s : State) (a : AreAlike entry entry' last last') where
-  same_trail : trail_of last ≡ trail_of last'
-  same_trail = λ i. record { writes = a.writes i; taken = a.taken i; given = a.given i }
-
+module _ (o : Origin) (stalls entry entry' : ℕ) (e : Environment) (last last' : Path) (s : State) (a : AreAlike e entry entry' last last') where
   same_world : (moment e stalls entry last).world ≡ (moment e stalls entry' last').world
-  same_world = ap (λ (t : Trail). world_of e.word e.start t) same_trail
+  same_world = λ i.
+      record {
+        words = a.writes e.start.words i;
+        untaken = drop (a.taken i) e.start.untaken;
+        given = e.start.given ++ given_by e.word (a.given i);
+      }
 
   stands : IsAt mic1_meaning IsReady entry o s (moment e stalls entry last).state (moment e stalls entry last).world →
       IsAt mic1_meaning IsReadyOrArriving entry' o s (moment e stalls entry' last').state (moment e stalls entry' last').world

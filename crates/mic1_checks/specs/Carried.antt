@@ -29,11 +29,11 @@ use Rattle.mic1_checks.specs.Start.{start_moment}
 use Rattle.mic1_checks.specs.Transfer.{AreAlike, Carries}
 
 -- the first path is at a boundary after n + 1 cycles, and the second at one alike
-pub record AreAtBoundary (entry entry' row n : ℕ) (b : Followed) (c : Counts) (p q : Path) : Type 0 where
+pub record AreAtBoundary (e : Environment) (entry entry' row n : ℕ) (b : Followed) (c : Counts) (p q : Path) : Type 0 where
   pub its_row : c.row ≡ row
   pub first : n ≡ c.first
   pub second : b ≡ ends.Boundary c.second
-  pub alike : AreAlike entry entry' p q
+  pub alike : AreAlike e entry entry' p q
   pub short : c.second < 1024
 
 -- the second path meets the stack's end too, with the same console

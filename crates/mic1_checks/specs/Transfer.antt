@@ -7,15 +7,22 @@ use Rattle.ijvm_simulation.specs.Stands.{Origin, IsAt}
 use Rattle.ijvm_simulation.specs.Passes.{Moment, pass}
 use Rattle.ijvm_simulation.specs.Law.{Moves, Overruns}
 use Rattle.micro_terms.specs.Environment.{Environment}
+use Rattle.mic1_cycles.specs.Trail.{written_by}
 use Rattle.mic1_cycles.specs.declared.path.Path.{Path}
 use Rattle.mic1_cycles.specs.declared.refusal.Stop.{Stop}
 use Rattle.mic1_cycles.specs.declared.refusal.Stop.TheVariants.{Limit, OutOfMap}
+use Rattle.mic1_cycles.specs.declared.symbols.Write.{Write}
 use Rattle.mic1_passes.specs.Moments.{moment, StopsAt}
 use Rattle.mic1_checks.specs.Ready.{IsReadyOrArriving}
 use Rattle.mic1_checks.specs.Words.{HasWords}
 
--- two paths have come to boundaries, each of its own entry, and have the same numbers there; of the second, the opcode may be under way
-pub record AreAlike (entry entry' : ℕ) (p p' : Path) : Type 0 where
+-- these writes leave the same memory
+abbrev pub LeaveAlike : Environment → List Write → List Write → Type 0
+LeaveAlike e ws ws' = (words : List ℕ) → written_by e.word ws words ≡ written_by e.word ws' words
+
+-- two paths have come to boundaries, each of its own entry, and have the same numbers and the same memory there; of the second, the
+-- opcode may be under way
+pub record AreAlike (e : Environment) (entry entry' : ℕ) (p p' : Path) : Type 0 where
   pub sp : p.symbols.sp ≡ p'.symbols.sp
   pub lv : p.symbols.lv ≡ p'.symbols.lv
   pub cpp : p.symbols.cpp ≡ p'.symbols.cpp
@@ -24,7 +31,7 @@ pub record AreAlike (entry entry' : ℕ) (p p' : Path) : Type 0 where
   pub opcode : p.symbols.mbr.plain ≡ (unwrap_or p'.symbols.byte p'.symbols.mbr).plain
   pub mpc : p.symbols.mpc ≡ entry
   pub mpc' : p'.symbols.mpc ≡ entry'
-  pub writes : p.writes.items ≡ p'.writes.items
+  pub writes : LeaveAlike e p.writes.items p'.writes.items
   pub taken : p.taken ≡ p'.taken
   pub given : p.given.items ≡ p'.given.items
 
@@ -38,7 +45,7 @@ pub record LeadAlike (store store' : List ℕ) (stalls entry entry' n n' : ℕ) 
   pub begins : IsNoEnd first'.symbols.mpc
   pub passes : pass mic1_meaning store n (moment e stalls entry first) ≡ Some (moment e stalls entry last)
   pub passes' : pass mic1_meaning store' n' (moment e stalls entry' first') ≡ Some (moment e stalls entry' last')
-  pub alike : AreAlike entry entry' last last'
+  pub alike : AreAlike e entry entry' last last'
   pub words : HasWords (moment e stalls entry' last').state (moment e stalls entry' last').world
   pub short : n' < 1024
 

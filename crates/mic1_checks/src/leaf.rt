@@ -2,6 +2,7 @@
 ghost use Rattle.std.specs.Prelude.{◌≡◌, ◌==◌, ℕ, IsTrue, Ok, [], ◌∷◌};
 ghost use Rattle.mic_words.specs.declared.machine.Machine.TheVariants.{Mic1};
 ghost use Rattle.micro_terms.specs.Meaning.{Grows, Holds};
+ghost use Rattle.mic1_cycles.specs.Known.{Knows};
 ghost use Rattle.mic1_checks.specs.Transfer.{IsNoEnd};
 ghost use Rattle.mic1_checks.specs.Carried.{AreAtBoundary, AreAtLimit, CarriesFrom};
 
@@ -12,6 +13,7 @@ use crate::start::{Start, path_from};
 use crate::stores::Stores;
 use mic1_cycles::{Answer, Path};
 use mic1_passes::{Followed, Work, follow};
+use micro_terms::Nodes;
 use std::alloc::{AllocError, Global};
 
 /// The cycles of both stores from one boundary to the next, each without the first cycle.
@@ -37,23 +39,33 @@ pub enum Tried {
 }
 
 /// The second path's end beside the first one's boundary after so many cycles.
-fn at_boundary(row: u32, n: u32, b: Followed, p: &Path, q: &Path, stores: &Stores<'_>) -> Tried
-    ensures alike { (c : Counts) → result ≡ Tried.Alike c → AreAtBoundary stores.now.entry stores.now.other_entry row n b c p.now q.now }
-    ensures stopped { result ≡ Tried.Stopped → ⊥ }
+fn at_boundary(
+    start: &Start,
+    n: u32,
+    b: Followed,
+    p: &Path,
+    q: &Path,
+    stores: &Stores<'_>,
+    nodes: &Nodes,
+    alloc: Global,
+) -> Result<Tried, AllocError>
+    ensures alike { (c : Counts) → result ≡ Ok (Tried.Alike c) → Holds nodes.now (λ e. Knows e start.now.known →
+        AreAtBoundary e stores.now.entry stores.now.other_entry start.now.row n b c p.now q.now) }
+    ensures stopped { result ≡ Ok Tried.Stopped → ⊥ }
 {
     let Followed::Boundary(k) = b else {
-        return Tried::Unlike(ends_unlike(b, Followed::Boundary(n)));
+        return Ok(Tried::Unlike(ends_unlike(b, Followed::Boundary(n))));
     };
     if k >= 1024 {
-        return Tried::Unlike(Difference::TooMuch);
+        return Ok(Tried::Unlike(Difference::TooMuch));
     }
-    match unlike(p, q, stores) {
-        Some(difference) => Tried::Unlike(difference),
-        None => Tried::Alike(Counts {
-            row,
+    match unlike(p, q, stores, nodes, &start.known, alloc)? {
+        Some(difference) => Ok(Tried::Unlike(difference)),
+        None => Ok(Tried::Alike(Counts {
+            row: start.row,
             first: n,
             second: k,
-        }),
+        })),
     }
 }
 
@@ -137,7 +149,16 @@ pub fn attempt(
         return Ok(Tried::Asks(answer));
     }
     match a {
-        Followed::Boundary(n) => Ok(at_boundary(start.row, n, b, &first, &second, stores)),
+        Followed::Boundary(n) => at_boundary(
+            start,
+            n,
+            b,
+            &first,
+            &second,
+            stores,
+            &work.nodes,
+            alloc,
+        ),
         Followed::Limit(n) => Ok(at_limit(n, b, &first, &second)),
         _ => Ok(Tried::Unlike(ends_unlike(b, a))),
     }

@@ -19,6 +19,7 @@ mod shape;
 mod start;
 mod stores;
 mod tree;
+mod writes;
 
 pub use all::takes_alike;
 pub use boot::boot_alike;

@@ -1,0 +1,40 @@
+-- Writes in another order.
+use Rattle.std.proofs.Common.{◌≡◌, ◌≢◌, ℕ, zero, suc, ◌<◌, ◌+◌, List, [], ◌∷◌, ◌++◌, length, take, get_or, refl, ap, ◌∙◌, arith}
+use Rattle.std.specs.Prelude.{slice_set}
+use Rattle.std.specs.List.{All, remove}
+use Rattle.std.proofs.lemmas.List.{take_more}
+use Rattle.std.proofs.lemmas.List.Elements.{All-head, All-tail}
+use Rattle.mic1_cycles.specs.declared.symbols.Write.{Write}
+use Rattle.mic1_cycles.specs.Trail.{written_by}
+
+-- of two places the order does not matter
+exchanged : (words : List ℕ) (i j a b : ℕ) → i ≢ j → slice_set (slice_set words i a) j b ≡ slice_set (slice_set words j b) i a
+exchanged [] i j a b h = refl
+exchanged (x ∷ xs) zero zero a b h = absurd (h refl)
+exchanged (x ∷ xs) zero (suc j) a b h = refl
+exchanged (x ∷ xs) (suc i) zero a b h = refl
+exchanged (x ∷ xs) (suc i) (suc j) a b h = ap (λ (ys : List ℕ). x ∷ ys) (exchanged xs i j a b (λ e. h (ap suc e)))
+
+module _ (word : ℕ → ℕ) where
+  abbrev pub IsApart : Write → Write → Type 0
+  IsApart w x = word x.at ≢ word w.at
+
+  -- a write may be the first one, if those before it are at other addresses
+  pub taken_out : (w d : Write) (xs : List Write) (i : ℕ) → i < length xs → get_or xs i d ≡ w → All (IsApart w) (take i xs) → (words : List ℕ) →
+      written_by word xs words ≡ written_by word (w ∷ remove xs i) words
+  taken_out w d [] i within is apart words = absurd (omega (arith, within))
+  taken_out w d (x ∷ xs) zero within is apart words = ap (λ (y : Write). written_by word (y ∷ xs) words) is
+  taken_out w d (x ∷ xs) (suc i) within is apart words =
+      taken_out w d xs i (omega (arith, within)) is (All-tail (IsApart w) x (take i xs) apart) (slice_set words (word x.at) (word x.value))
+      ∙ ap (λ (ys : List ℕ). written_by word (remove xs i) ys)
+      (exchanged words (word x.at) (word w.at) (word x.value) (word w.value) (All-head (IsApart w) x (take i xs) apart))
+
+  written_append : (xs ys : List Write) (words : List ℕ) → written_by word (xs ++ ys) words ≡ written_by word ys (written_by word xs words)
+  written_append [] ys words = refl
+  written_append (x ∷ xs) ys words = written_append xs ys (slice_set words (word x.at) (word x.value))
+
+  -- the words after one more write
+  pub one_more : (ws : List Write) (i : ℕ) (d : Write) → i < length ws → (words : List ℕ) →
+      written_by word (take (i + 1) ws) words ≡ written_by word (get_or ws i d ∷ []) (written_by word (take i ws) words)
+  one_more ws i d within words =
+      ap (λ (xs : List Write). written_by word xs words) (take_more ws i d within) ∙ written_append (take i ws) (get_or ws i d ∷ []) words
