@@ -1,5 +1,5 @@
 -- A boundary of an accepted image's run, at which an instruction comes next.
-use Rattle.std.specs.Prelude.{◌≡◌, ◌+◌, ◌<◌, ℕ, Some, slice_index}
+use Rattle.std.specs.Prelude.{◌≡◌, ◌==◌, ◌||◌, ◌+◌, ◌<◌, ℕ, Bool, Some, slice_index}
 use Rattle.mic_words.specs.Arithmetic.{plus}
 use Rattle.console_port.specs.World.{byte_in}
 use Rattle.ijvm_instr.specs.declared.instr.Instr.{Instr}
@@ -18,6 +18,13 @@ use Rattle.mic1_checks.specs.declared.instruction.Instruction.{Instruction}
 use Rattle.mic1_checks.specs.Ready.{IsReadyOrArriving}
 use Rattle.mic1_checks.specs.Start.{IsStart}
 use Rattle.mic1_checks.specs.Words.{HasWords}
+
+-- each instruction with this opcode takes an operand or copies one: ISTORE, POP, DUP, SWAP, IADD, ISUB, IAND, IOR by each of its
+-- opcodes, IFEQ, IFLT, IF_ICMPEQ, IRETURN, OUT
+abbrev pub takes_operand : ℕ → Bool
+takes_operand opcode =
+    opcode == 0x36 || opcode == 0x57 || opcode == 0x59 || opcode == 0x5F || opcode == 0x60 || opcode == 0x64 || opcode == 0x7E
+    || opcode == 0x80 || opcode == 0xB0 || opcode == 0x99 || opcode == 0x9B || opcode == 0x9F || opcode == 0xAC || opcode == 0xFD
 
 -- the bytes of the instruction's kind stand where this state goes on
 pub record Suits (n : Instruction) (o : Origin) (s : State) : Type 0 where

@@ -53,10 +53,12 @@ pub const BOOT: u32 = 24;
 fn nothing_known(alloc: Global) -> Known
     ensures ranges { result.ranges.items ≡ [] }
     ensures bytes { result.bytes.items ≡ [] }
+    ensures words { result.words.items ≡ [] }
 {
     Known {
         ranges: Vec::new(alloc),
         bytes: Vec::new(alloc),
+        words: Vec::new(alloc),
     }
 }
 

@@ -1,16 +1,18 @@
 //! What is known at a boundary of an accepted image's run.
-ghost use Rattle.std.specs.Prelude.{◌≡◌, ℕ, IfOk};
+ghost use Rattle.std.specs.Prelude.{◌≡◌, ℕ, true, IfOk};
 ghost use Rattle.std.specs.List.{All};
 ghost use Rattle.mic_words.specs.Arithmetic.{plus};
 ghost use Rattle.console_port.specs.World.{byte_in};
 ghost use Rattle.ijvm_instr.specs.declared.instr.Instr.{Instr};
+ghost use Rattle.micro_terms.specs.Environment.{Environment};
 ghost use Rattle.micro_terms.specs.Meaning.{Grows, Holds};
-ghost use Rattle.mic1_checks.specs.Situation.{HasBytes, IsKnown, StartsBefore};
+ghost use Rattle.mic1_cycles.specs.Known.{StandsAt};
+ghost use Rattle.mic1_checks.specs.Situation.{HasBytes, IsKnown, StartsBefore, takes_operand};
 
 use crate::instruction::Instruction;
 use crate::registers::ranges_of_registers;
 use ijvm_simulation::stack_law;
-use mic1_cycles::{Known, KnownByte, Symbols};
+use mic1_cycles::{Known, KnownByte, KnownWord, Symbols};
 use micro_terms::Nodes;
 use std::alloc::{AllocError, Global};
 
@@ -47,6 +49,44 @@ fn bytes_of(
     Ok(bytes)
 }
 
+/// Whether each instruction with this opcode takes an operand or copies one. A call takes one too, but how many is its
+/// method's, and WIDE ISTORE is not told from WIDE ILOAD by the opcode.
+fn has_operand(opcode: u8) -> bool
+    ensures { result ≡ takes_operand opcode }
+{
+    matches!(
+        opcode,
+        0x36 | 0x57
+            | 0x59
+            | 0x5F
+            | 0x60
+            | 0x64
+            | 0x7E
+            | 0x80
+            | 0x99
+            | 0x9B
+            | 0x9F
+            | 0xAC
+            | 0xB0
+            | 0xFD
+    )
+}
+
+/// The words of memory that are known: where the instruction has an operand, the last one is in TOS and at SP.
+fn words_of(n: Instruction, s: &Symbols, alloc: Global) -> Result<Vec<KnownWord>, AllocError>
+    ensures { IfOk result (λ words. (e : Environment) → (takes_operand n.opcode ≡ true → StandsAt e s.now.sp s.now.tos) →
+        All (λ w. StandsAt e w.at w.number) words.items) }
+{
+    let mut words = Vec::new(alloc);
+    if has_operand(n.opcode) {
+        words.push(KnownWord {
+            at: s.sp,
+            number: s.tos,
+        })?;
+    }
+    Ok(words)
+}
+
 /// What is known where an instruction of this kind comes next.
 pub fn known_of(
     n: Instruction,
@@ -59,6 +99,11 @@ pub fn known_of(
 {
     stack_law();
     let bytes = bytes_of(n, s, nodes, alloc)?;
+    let words = words_of(n, s, alloc)?;
     let ranges = ranges_of_registers(alloc)?;
-    Ok(Known { ranges, bytes })
+    Ok(Known {
+        ranges,
+        bytes,
+        words,
+    })
 }

@@ -6,7 +6,7 @@ ghost use Rattle.mic1_cycles.specs.Questions.{AreAnswered};
 ghost use Rattle.mic1_cycles.specs.Known.{Knows};
 ghost use Rattle.mic1_cycles.specs.Sites.{IsAfterWrite, IsByteIn, Reads};
 
-use crate::known::{Known, are_above, is_below, known_byte};
+use crate::known::{Known, are_above, is_below, known_byte, known_word};
 use crate::question::Answer;
 use crate::site::{Site, site_of};
 use crate::symbols::{Byte, Write};
@@ -41,6 +41,18 @@ fn word_after(
     Ok(word)
 }
 
+/// The number of the word at an address in memory where the run starts.
+fn first_word(at: u32, nodes: &mut Nodes, known: &Known) -> Result<u32, AllocError>
+    ensures value { IfOk result (λ i. Holds nodes.new (λ e. Knows e known.now → e.word i ≡ slice_index e.start.words (e.word at))) }
+    ensures grows { Grows nodes.old nodes.new }
+{
+    if let Some(number) = known_word(at, &known.words) {
+        return Ok(number);
+    }
+    let word = nodes.of_kind(Kind::Word { at })?;
+    Ok(word)
+}
+
 /// The number of the word at an address in memory after the writes.
 fn word_at(
     at: u32,
@@ -53,7 +65,7 @@ fn word_at(
         e.word i ≡ slice_index (written_by e.word writes.now e.start.words) (e.word at))) }
     ensures grows { Grows nodes.old nodes.new }
 {
-    let mut word = nodes.of_kind(Kind::Word { at })?;
+    let mut word = first_word(at, nodes, known)?;
     for write in writes {
         word = word_after(*write, at, word, nodes, known, alloc)?;
     }

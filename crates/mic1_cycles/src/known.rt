@@ -4,7 +4,7 @@ ghost use Rattle.std.specs.List.{All};
 ghost use Rattle.console_port.specs.World.{byte_in};
 ghost use Rattle.micro_terms.specs.Environment.{Environment};
 ghost use Rattle.micro_terms.specs.Meaning.{Holds};
-ghost use Rattle.mic1_cycles.specs.Known.{Knows};
+ghost use Rattle.mic1_cycles.specs.Known.{Knows, StandsAt};
 
 use crate::symbols::Write;
 use micro_terms::{Nodes, Range};
@@ -16,12 +16,20 @@ pub struct KnownByte {
     pub byte: u8,
 }
 
+/// A word of memory with its number, at the address that another number stands for.
+#[derive(Clone, Copy, Debug, PartialEq, Eq)]
+pub struct KnownWord {
+    pub at: u32,
+    pub number: u32,
+}
+
 /// What is known at the start.
 #[derive(Drop)]
 pub struct Known {
     /// The ranges of the first numbers.
     pub ranges: Vec<Range>,
     pub bytes: Vec<KnownByte>,
+    pub words: Vec<KnownWord>,
 }
 
 /// Whether a number's word is known to be below this one.
@@ -64,6 +72,18 @@ pub fn known_byte(at: u32, bytes: &[KnownByte]) -> Option<u8>
     for known in bytes {
         if known.at == at {
             return Some(known.byte);
+        }
+    }
+    None
+}
+
+/// The number of the word at the address of a number, if it is known that memory has one there, and which.
+pub fn known_word(at: u32, words: &[KnownWord]) -> Option<u32>
+    ensures { IfSome result (λ number. (e : Environment) → All (λ w. StandsAt e w.at w.number) words.now → StandsAt e at number) }
+{
+    for known in words {
+        if known.at == at {
+            return Some(known.number);
         }
     }
     None

@@ -14,7 +14,7 @@ mod site;
 mod step;
 mod symbols;
 
-pub use known::{Known, KnownByte};
+pub use known::{Known, KnownByte, KnownWord};
 pub use path::Path;
 pub use question::{Answer, Question};
 pub use refusal::Stop;

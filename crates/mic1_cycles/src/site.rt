@@ -7,7 +7,7 @@ ghost use Rattle.mic1_cycles.specs.Questions.{AreAnswered};
 ghost use Rattle.mic1_cycles.specs.Known.{Knows};
 ghost use Rattle.mic1_cycles.specs.Sites.{IsSite};
 
-use crate::known::{Known, is_below};
+use crate::known::{Known, is_below, known_word};
 use crate::question::{Answer, Question, answered};
 use micro_terms::Nodes;
 
@@ -42,6 +42,9 @@ fn at_console(at: u32, nodes: &Nodes, known: &Known, answers: &[Answer]) -> Opti
 pub fn site_of(at: u32, nodes: &Nodes, known: &Known, answers: &[Answer]) -> Site
     ensures { Holds nodes.now (λ e. Knows e known.now → AreAnswered e answers.now → IsSite e at result) }
 {
+    if let Some(_) = known_word(at, &known.words) {
+        return Site::Memory;
+    }
     let console = at_console(at, nodes, known, answers);
     if console == Some(true) {
         return Site::Console;

@@ -11,6 +11,8 @@ use Rattle.micro_terms.specs.declared.node.Node.{Node}
 use Rattle.micro_terms.specs.Meaning.{Fits}
 use Rattle.micro_terms.specs.Ordered.{AreOrdered}
 use Rattle.mic1_cycles.specs.declared.known.KnownByte.{KnownByte}
+use Rattle.mic1_cycles.specs.declared.known.KnownWord.{KnownWord}
+use Rattle.mic1_cycles.specs.Known.{StandsAt}
 use Rattle.mic1_cycles.specs.declared.question.Answer.{Answer}
 use Rattle.mic1_cycles.specs.declared.symbols.Symbols.{Symbols}
 use Rattle.mic1_cycles.specs.Questions.{AreAnswered, truth}
@@ -54,6 +56,8 @@ returns-clause-carries c done timing v o input first loads words boots =
         size = omega (arith, long, map.high);
         bytes = All-same (λ (b : KnownByte). byte_in e.start.words (e.word b.at) ≡ b.byte) _ _ c.nothing_known-known.ensures.bytes
             (All-nil (λ (b : KnownByte). byte_in e.start.words (e.word b.at) ≡ b.byte));
+        words = All-same (λ (w : KnownWord). StandsAt e w.at w.number) _ _ c.nothing_known-known.ensures.words
+            (All-nil (λ (w : KnownWord). StandsAt e w.at w.number));
       };
       words = subst (λ (w : World). (k : ℕ) → slice_index w.words k < 4294967296) (sym t.starts) words;
     } in

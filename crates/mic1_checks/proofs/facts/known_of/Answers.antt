@@ -2,6 +2,7 @@ use Rattle.std.proofs.Common.{List, sym, subst}
 use Rattle.micro_terms.specs.declared.range.Range.{Range}
 use Rattle.micro_terms.specs.Ranges.{IsIn}
 use Rattle.mic1_checks.proofs.Knowledge.{bytes, long_enough, ranges, size}
+use Rattle.mic1_checks.proofs.Operands.{operand_at_top}
 use Rattle.mic1_checks.proofs.facts.known_of.Goals as goal
 
 pub returns-clause-value : goal.returns-clause-value
@@ -15,6 +16,7 @@ returns-clause-value c e fits i b =
         long = long_enough law e n x i b;
         size = size law e n x i b;
         bytes = c.in_ok-bytes.ensures.value e fits (bytes law e n x i b);
+        words = c.in_ok-words.ensures e (operand_at_top e n x i b);
       };
       words = b.words;
     }
