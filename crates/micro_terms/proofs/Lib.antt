@@ -2,6 +2,7 @@ pub mod Agreement
 pub mod Alike
 pub mod Bits
 pub mod Environments
+pub mod Limits
 pub mod Modular
 pub mod Readings
 pub mod Tables

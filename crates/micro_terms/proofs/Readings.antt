@@ -8,7 +8,7 @@ use Rattle.mic_words.specs.Arithmetic.{wrap}
 use Rattle.micro_terms.specs.declared.part.Part.{Part}
 use Rattle.micro_terms.specs.declared.range.Range.{Range}
 use Rattle.micro_terms.specs.declared.term.Term.{Term}
-use Rattle.micro_terms.specs.Ranges.{share, side, end_of, IsIn, IsWithin}
+use Rattle.micro_terms.specs.Ranges.{share, side, IsWithin}
 use Rattle.micro_terms.specs.Value.{value, weight}
 use Rattle.micro_terms.proofs.Modular.{cut_first, sums}
 use Rattle.micro_terms.proofs.Weights.{part_weight, value_lt}
@@ -77,12 +77,6 @@ unfolding side
 side_grows added env env' h t =
     let g = grows added env env' h t.parts.items in omega (arith, g)
 
-least : (added : Bool) (env : ℕ → ℕ) (ranges : List Range) → IsIn env ranges → (t : Term) → side added (end_of ranges false) t ≤ side added env t
-least added env ranges h t = side_grows added (end_of ranges false) env (λ n. (h n).0) t
-
-most : (added : Bool) (env : ℕ → ℕ) (ranges : List Range) → IsIn env ranges → (t : Term) → side added env t ≤ side added (end_of ranges true) t
-most added env ranges h t = side_grows added env (end_of ranges true) (λ n. (h n).1) t
-
 turned : (v p n low high low' high' taken taken' turn : ℕ) → wrap (v + n) ≡ wrap p → v < 4294967296 → turn % 4294967296 ≡ 0 →
     low' ≤ p → p ≤ high' → taken' ≤ n → n ≤ taken → taken + low ≡ low' + turn → taken' + high ≡ high' + turn → high < 4294967296 →
     (low ≤ v) × (v ≤ high)
@@ -92,10 +86,10 @@ turned v p n low high low' high' taken taken' turn e w t a b c d f g h =
     (omega (arith, is), omega (arith, is))
 
 -- a sum that is a word over the whole numbers, once a multiple of 2^32 is added, is that word
-pub within : (turn : ℕ) (r : Range) (env : ℕ → ℕ) (ranges : List Range) → IsIn env ranges → (t : Term) → turn % 4294967296 ≡ 0 → r.high < 4294967296 →
-    side false (end_of ranges true) t + r.low ≡ side true (end_of ranges false) t + turn →
-    side false (end_of ranges false) t + r.high ≡ side true (end_of ranges true) t + turn → IsWithin r (value env t)
-within turn r env ranges h t z small low high =
-    turned (value env t) (side true env t) (side false env t) r.low r.high
-    (side true (end_of ranges false) t) (side true (end_of ranges true) t) (side false (end_of ranges true) t) (side false (end_of ranges false) t) turn
-    (read env t) (value_lt env t) z (least true env ranges h t) (most true env ranges h t) (least false env ranges h t) (most false env ranges h t) low high small
+pub within : (turn : ℕ) (r : Range) (env low high : ℕ → ℕ) → ((n : ℕ) → (low n ≤ env n) × (env n ≤ high n)) → (t : Term) → turn % 4294967296 ≡ 0 → r.high < 4294967296 →
+    side false high t + r.low ≡ side true low t + turn → side false low t + r.high ≡ side true high t + turn → IsWithin r (value env t)
+within turn r env low high h t z small least most =
+    let above : (added : Bool) → side added low t ≤ side added env t = λ added. side_grows added low env (λ n. (h n).0) t in
+    let below : (added : Bool) → side added env t ≤ side added high t = λ added. side_grows added env high (λ n. (h n).1) t in
+    turned (value env t) (side true env t) (side false env t) r.low r.high (side true low t) (side true high t) (side false high t) (side false low t) turn
+    (read env t) (value_lt env t) z (above true) (below true) (above false) (below false) least most small

@@ -1,5 +1,5 @@
 -- How a node ties its number's word to the words of other numbers and to the start.
-use Rattle.std.specs.Prelude.{◌≡◌, ◌<◌, ◌/◌, ◌%◌, ◌==◌, if◌then◌else◌, ℕ, List, Some, bit_and, drop, slice_get, slice_index}
+use Rattle.std.specs.Prelude.{◌≡◌, ◌<◌, ◌/◌, ◌%◌, ◌==◌, if◌then◌else◌, ℕ, Bool, true, false, List, Some, bit_and, drop, slice_get, slice_index}
 use Rattle.mic_words.specs.Arithmetic.{half, signed_byte}
 use Rattle.console_port.specs.World.{byte_in, byte_of, next_byte}
 use Rattle.micro_terms.specs.Value.{value}
@@ -21,6 +21,12 @@ word_of_kind e (kinds.Quarter x) = e.word x / 4
 word_of_kind e (kinds.Piece x at) = byte_of (e.word x) (e.word at % 4)
 word_of_kind e (kinds.SignedPiece x at) = signed_byte (byte_of (e.word x) (e.word at % 4))
 word_of_kind e (kinds.Choice left right same other) = if e.word left == e.word right then e.word same else e.word other
+
+-- whether a word of this kind is a byte of memory without a sign
+abbrev pub is_byte : Kind → Bool
+is_byte (kinds.Byte at) = true
+is_byte (kinds.Piece x at) = true
+is_byte _ = false
 
 -- the node says that its number stands for this word
 abbrev pub IsNode : Environment → ℕ → Node → Type 0

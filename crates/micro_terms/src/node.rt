@@ -1,7 +1,7 @@
 //! What a number stands for.
 ghost use Rattle.std.specs.Prelude.{◌≡◌, ◌<◌, ℕ, IsTrue};
 ghost use Rattle.micro_terms.specs.Environment.{Environment};
-ghost use Rattle.micro_terms.specs.Meaning.{IsNode, word_of_kind};
+ghost use Rattle.micro_terms.specs.Meaning.{IsNode, is_byte, word_of_kind};
 
 use crate::term::Term;
 
@@ -79,7 +79,8 @@ pub fn is_same(a: &Node, b: &Node) -> bool
 /// Whether a word of this kind is a byte without a sign.
 #[tactic(auto, unfolding(console_port::specs::World::byte_in))]
 pub fn is_byte_kind(kind: Kind) -> bool
-    ensures { IsTrue result → (e : Environment) → word_of_kind e kind < 256 }
+    ensures is { result ≡ is_byte kind }
+    ensures small { IsTrue result → (e : Environment) → word_of_kind e kind < 256 }
 {
     match kind {
         Kind::Byte { .. } | Kind::Piece { .. } => true,

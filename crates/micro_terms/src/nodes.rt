@@ -2,7 +2,7 @@
 ghost use Rattle.std.specs.Prelude.{◌≡◌, ◌≢◌, ◌<◌, ◌^◌, ℕ, IfOk, IfSome, IsTrue, bit_and};
 ghost use Rattle.mic_words.specs.Arithmetic.{half};
 ghost use Rattle.micro_terms.specs.Value.{value};
-ghost use Rattle.micro_terms.specs.Ranges.{IsIn, IsWithin};
+ghost use Rattle.micro_terms.specs.Ranges.{IsIn, IsLimited, IsWithin};
 ghost use Rattle.micro_terms.specs.Environment.{Environment};
 ghost use Rattle.micro_terms.specs.Meaning.{Grows, Holds, IsNode};
 
@@ -61,13 +61,13 @@ fn halved_in(node: &Node, _number: u32) -> Option<u32>
 }
 
 /// The range of the word of a number with this node.
-fn range_in(node: &Node, number: u32, ranges: &[Range]) -> Option<Range>
-    ensures { IfSome result (λ r. (e : Environment) → IsNode e (e.word number) node.now → IsIn e.word ranges.now → IsWithin r (e.word number)) }
+fn range_in(node: &Node, number: u32, table: &[Node], ranges: &[Range]) -> Option<Range>
+    ensures { IfSome result (λ r. (e : Environment) → IsNode e (e.word number) node.now → IsLimited e.word table.now ranges.now → IsWithin r (e.word number)) }
 {
     if let Node::Sum(term) = node {
-        return bounds(term, ranges);
+        return bounds(term, table, ranges);
     }
-    Some(range_at(ranges, number))
+    Some(range_at(table, ranges, number))
 }
 
 impl Nodes {
@@ -196,7 +196,10 @@ impl Nodes {
         ensures { IfSome result (λ r. Holds self.now (λ e. IsIn e.word ranges.now → IsWithin r (e.word number))) }
     {
         match self.nodes.get(number as usize) {
-            Some(node) => range_in(node, number, ranges),
+            Some(node) => {
+                let range = range_in(node, number, &self.nodes, ranges)?;
+                Some(range)
+            }
             None => None,
         }
     }
@@ -213,7 +216,7 @@ impl Nodes {
     {
         let first = self.term_of(a, alloc)?;
         let second = self.term_of(b, alloc)?;
-        let is = differ(&first, &second, ranges, alloc)?;
+        let is = differ(&first, &second, &self.nodes, ranges, alloc)?;
         Ok(is)
     }
 }

@@ -1,6 +1,6 @@
 use Rattle.std.proofs.Common.{ℕ, ◌+◌, ◌∙◌, ap, List, take_all}
 use Rattle.std.specs.List.{sum_by}
-use Rattle.micro_terms.specs.Ranges.{share, end_of, side}
+use Rattle.micro_terms.specs.Ranges.{share, limit_of, side}
 use Rattle.micro_terms.specs.declared.part.Part.{Part}
 use Rattle.micro_terms.proofs.Readings.{share_weight}
 use Rattle.micro_terms.proofs.range.side_of.Goals as goal
@@ -9,7 +9,7 @@ pub returns-clause-value : goal.returns-clause-value
 unfolding side
 returns-clause-value c =
     let ps : List Part = c.deref-part-items.result.now in
-    let env : ℕ → ℕ = end_of c.args.ranges.now c.args.greatest in
+    let env : ℕ → ℕ = limit_of c.args.table.now c.args.ranges.now c.args.greatest in
     c.loop-part.invariant.0
     ∙ ap (λ qs. share c.args.added c.args.term.now.constant + sum_by (share_weight c.args.added env) qs)
     (take_all c.loop-part.part-index ps c.loop-part-test.false ∙ c.deref-part-items.ensures.value)
