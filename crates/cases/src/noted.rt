@@ -1,7 +1,7 @@
 //! Files in memory that note which of them are written.
 
 ghost use Rattle.std.specs.Prelude.{Some};
-ghost use Rattle.mic_base.specs.Memory.{files_contents, files_faults};
+ghost use Rattle.mic_base.specs.Prelude.{files_contents, files_faults};
 
 use crate::case::CaseFile;
 use crate::names::has_name;

@@ -1,14 +1,12 @@
 -- How a command ends that first read a program and a microprogram, or failed to.
 use Rattle.std.proofs.Common.{ℕ, List}
 use Rattle.mic_words.specs.declared.machine.Machine.{Machine}
-use Rattle.verifier_facts.specs.Accepted.{VerifiedView}
-use Rattle.mal_parser.specs.Program.{MalView}
-use Rattle.cli_outside.specs.Outside.{LentView, OutsideView, Over}
-use Rattle.cli_outside.specs.Work.{IsHad, IsNotHad}
-use Rattle.cli_programs.specs.Program.{IsAcceptedProgram, IsRefusedProgram}
+use Rattle.verifier_facts.specs.Prelude.{VerifiedView}
+use Rattle.mal_parser.specs.Prelude.{MalView}
+use Rattle.cli_outside.specs.Prelude.{LentView, OutsideView, Over, IsHad, IsNotHad}
+use Rattle.cli_programs.specs.Prelude.{IsAcceptedProgram, IsRefusedProgram}
 use Rattle.cli_boards.specs.declared.job.Job.{Job}
-use Rattle.cli_boards.specs.Own.{NoneChosen}
-use Rattle.cli_boards.specs.Prepared.{Clocked, EndsPrepared, IsPrepared, IsUnprepared, NoMicroprogram, NoProgram, Unprepared}
+use Rattle.cli_boards.specs.Prelude.{NoneChosen, Clocked, EndsPrepared, IsPrepared, IsUnprepared, NoMicroprogram, NoProgram, Unprepared}
 
 module _ {machine : Machine} {job : Job (List ℕ)} {old new : LentView} {status : ℕ} where
   pub no_program : Over (IsNotHad (IsRefusedProgram job.map) job.file) old new status → Over (IsUnprepared machine job) old new status

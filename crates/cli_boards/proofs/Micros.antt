@@ -3,14 +3,14 @@ use Rattle.std.proofs.Common.{◌≡◌, ◌∙◌, ℕ, List, [], ◌∷◌, �
 use Rattle.mic_words.specs.declared.machine.Machine.{Machine}
 use Rattle.mic_words.specs.declared.machine.Machine.TheVariants.{Mic1, Mic2}
 use Rattle.mic_watched.specs.declared.cycle.Cycle.{Cycle}
-use Rattle.mic_watched.specs.Watched.{PrintsOf}
-use Rattle.cli_watchers.specs.Profile.{Profile, Silent, profile_after}
-use Rattle.cli_outside.specs.Outside.{Got, GotInPart}
-use Rattle.mal_shipped.specs.Listing.{program1, program2, listed_program}
+use Rattle.mic_watched.specs.Prelude.{PrintsOf}
+use Rattle.cli_watchers.specs.Prelude.{Profile, Silent, profile_after}
+use Rattle.cli_outside.specs.Prelude.{Got, GotInPart}
+use Rattle.mal_shipped.specs.Prelude.{program1, program2, listed_program}
 use Rattle.std.proofs.Math.Seq.{take-nil}
 use Rattle.std.proofs.lemmas.List.{append-nil}
 use Rattle.std.specs.Prelude.{Option, None, option_map}
-use Rattle.mal_parser.specs.Program.{MalView}
+use Rattle.mal_parser.specs.Prelude.{MalView}
 
 -- each shipped microprogram is its machine's
 pub shipped_machine : (machine : Machine) (p : MalView) → p ≡ listed_program machine → p.machine ≡ machine

@@ -1,18 +1,16 @@
 -- How the run of an accepted program ends with a cache beside it: the report, and then what the cache counted; or less, where a fault cut it.
 use Rattle.std.specs.Prelude.{ℕ, List, ◌++◌, Some, replicate}
-use Rattle.console_port.specs.Loading.{IsLoaded}
+use Rattle.console_port.specs.Prelude.{IsLoaded}
 use Rattle.mic_clock.specs.declared.end.End.{End}
-use Rattle.mic_clock.specs.Meaning.{Meaning}
-use Rattle.mic_clock.specs.View.{BoardView}
+use Rattle.mic_clock.specs.Prelude.{Meaning, BoardView}
 use Rattle.mic_watched.specs.declared.cycle.Cycle.{Cycle}
-use Rattle.verifier_facts.specs.Accepted.{VerifiedView}
-use Rattle.mal_parser.specs.Program.{MalView}
+use Rattle.verifier_facts.specs.Prelude.{VerifiedView}
+use Rattle.mal_parser.specs.Prelude.{MalView}
 use Rattle.mal_shipped.specs.declared.loaded.Loaded.{Loaded}
-use Rattle.cli_watchers.specs.Cached.{accesses_of, cache_line, counts_of}
+use Rattle.cli_watchers.specs.Prelude.{accesses_of, cache_line, counts_of}
 use Rattle.cli_outside.specs.Status as exits
-use Rattle.cli_outside.specs.Messages.{out_of_memory}
-use Rattle.cli_outside.specs.Outside.{OutsideView, Says, TellsOnErr}
-use Rattle.cli_run_texts.specs.Ends.{status_of}
+use Rattle.cli_outside.specs.Prelude.{out_of_memory, OutsideView, Says, TellsOnErr}
+use Rattle.cli_run_texts.specs.Prelude.{status_of}
 use Rattle.cli_boards.specs.Runs.{RunsThrough, report_on}
 
 -- a memory that begins with zeros has a program's image loaded

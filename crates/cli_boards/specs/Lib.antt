@@ -6,3 +6,4 @@ pub mod Profiled
 pub mod OwnRun
 pub mod Cached
 pub mod Commands
+pub mod Prelude

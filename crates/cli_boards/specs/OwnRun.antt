@@ -1,16 +1,13 @@
 -- How the run of an accepted program by a microprogram ends: it has come to its end, or a fault cut it, and its report is printed.
 use Rattle.std.specs.Prelude.{◌≡◌, ℕ, [], Some}
 use Rattle.mic_clock.specs.declared.end.End.{End}
-use Rattle.mic_clock.specs.Meaning.{Meaning}
-use Rattle.mic_clock.specs.View.{BoardView}
-use Rattle.mic_clock.specs.Board.{IsRun, RunIsCutByRead, RunIsCutByWrite}
-use Rattle.verifier_facts.specs.Accepted.{VerifiedView}
-use Rattle.mal_parser.specs.Program.{MalView}
+use Rattle.mic_clock.specs.Prelude.{Meaning, BoardView, IsRun, RunIsCutByRead, RunIsCutByWrite}
+use Rattle.verifier_facts.specs.Prelude.{VerifiedView}
+use Rattle.mal_parser.specs.Prelude.{MalView}
 use Rattle.mal_shipped.specs.declared.loaded.Loaded.{Loaded}
 use Rattle.cli_outside.specs.Status as exits
-use Rattle.cli_outside.specs.Messages.{out_of_memory}
-use Rattle.cli_outside.specs.Outside.{OutsideView, Says, TellsOnErr}
-use Rattle.cli_run_texts.specs.Ends.{status_of}
+use Rattle.cli_outside.specs.Prelude.{out_of_memory, OutsideView, Says, TellsOnErr}
+use Rattle.cli_run_texts.specs.Prelude.{status_of}
 use Rattle.cli_boards.specs.Runs.{IsFirstBoard, IsLeftBy, report_on}
 
 module _ {M State : Type 0} (state : M → State) (m : Meaning State) where

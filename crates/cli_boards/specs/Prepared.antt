@@ -2,11 +2,10 @@
 use Rattle.std.specs.Prelude.{ℕ, List}
 use Rattle.std.specs.Borrow.{Bor}
 use Rattle.mic_words.specs.declared.machine.Machine.{Machine}
-use Rattle.verifier_facts.specs.Accepted.{VerifiedView}
-use Rattle.mal_parser.specs.Program.{MalView}
-use Rattle.cli_outside.specs.Outside.{OutsideView, name_in}
-use Rattle.cli_outside.specs.Work.{IsHad}
-use Rattle.cli_programs.specs.Program.{HasNoProgram, IsAcceptedProgram}
+use Rattle.verifier_facts.specs.Prelude.{VerifiedView}
+use Rattle.mal_parser.specs.Prelude.{MalView}
+use Rattle.cli_outside.specs.Prelude.{OutsideView, name_in, IsHad}
+use Rattle.cli_programs.specs.Prelude.{HasNoProgram, IsAcceptedProgram}
 use Rattle.cli_boards.specs.Own.{IsChosenMicroprogram, NoneChosen}
 use Rattle.cli_boards.specs.declared.job.Job.{Job}
 use Rattle.cli_boards.specs.declared.preparing.Prepared.{Prepared}

@@ -1,7 +1,7 @@
 //! The run of an accepted program with a cache beside it.
 
 ghost use Rattle.std.specs.Prelude.{◌≡◌, ◌≤◌, ◌<◌, ◌%◌, ◌^◌, IfOk, length};
-ghost use Rattle.cli_watchers.specs.Cached.{kept_in, start_kept};
+ghost use Rattle.cli_watchers.specs.Prelude.{kept_in, start_kept};
 ghost use Rattle.cli_boards.specs.Cached.{HasImage, IsCached};
 ghost use Rattle.cli_boards.specs.Runs.{OverPrepared};
 

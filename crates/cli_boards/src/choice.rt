@@ -1,9 +1,8 @@
 //! Which microprogram a command clocks: a person's own file, or the one that ships.
 
 ghost use Rattle.std.specs.Prelude.{◌≡◌, IfOk, OnOk};
-ghost use Rattle.mal_parser.specs.Text.{SpellsProgram};
-ghost use Rattle.cli_outside.specs.Outside.{name_in};
-ghost use Rattle.cli_outside.specs.Work.{IsHad, OverIfErr};
+ghost use Rattle.mal_parser.specs.Prelude.{SpellsProgram};
+ghost use Rattle.cli_outside.specs.Prelude.{name_in, IsHad, OverIfErr};
 ghost use Rattle.cli_boards.specs.Own.{HasNoMicroprogram, IsChosenMicroprogram, NoneChosen};
 
 use crate::microprogram::{Microprogram, placed_microprogram, shipped_microprogram};

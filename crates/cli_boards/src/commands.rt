@@ -1,8 +1,8 @@
 //! The commands, from the files that they read to their status.
 
 ghost use Rattle.std.specs.Prelude.{◌≤◌, ◌<◌, ◌^◌};
-ghost use Rattle.console_port.specs.Map.{IsMap};
-ghost use Rattle.cli_outside.specs.Outside.{Over};
+ghost use Rattle.console_port.specs.Prelude.{IsMap};
+ghost use Rattle.cli_outside.specs.Prelude.{Over};
 ghost use Rattle.cli_boards.specs.Commands.{EndsCache, EndsOwnRun, EndsProfile, EndsTrace};
 ghost use Rattle.cli_boards.specs.Prepared.{job_in};
 

@@ -3,84 +3,65 @@ use Rattle.std.proofs.Common.{◌≡◌, ◌≢◌, ◌∙◌, ◌⊎◌, ℕ, B
 use Rattle.std.specs.Prelude.{MatchOption}
 use Rattle.mic_words.specs.declared.machine.Machine.{Machine}
 use Rattle.mic_words.specs.declared.machine.Machine.TheVariants.{Mic1, Mic2}
-use Rattle.console_port.specs.World.{World}
+use Rattle.console_port.specs.Prelude.{World}
 use Rattle.mic_clock.specs.declared.end.End.{End}
 use Rattle.mic_clock.specs.declared.end.End.TheVariants as ends
-use Rattle.mic_clock.specs.Meaning.{Meaning}
-use Rattle.mic_clock.specs.View.{BoardView}
-use Rattle.mic_clock.specs.Board.{HasEndCause, NoFault}
-use Rattle.mic_image_board.specs.Reset.{IsAtReset}
-use Rattle.mic1_datapath.specs.Mic1.{mic1_meaning, IsReady as IsReady1}
+use Rattle.mic_clock.specs.Prelude.{Meaning, BoardView, HasEndCause, NoFault}
+use Rattle.mic_image_board.specs.Prelude.{IsAtReset}
+use Rattle.mic1_datapath.specs.Mic1.{IsReady as IsReady1}
+use Rattle.mic1_datapath.specs.Prelude.{mic1_meaning}
 use Rattle.mic1_datapath.specs.View.{micro_of as micro_of1}
-use Rattle.mic2_datapath.specs.Mic2.{mic2_meaning, IsReady as IsReady2}
+use Rattle.mic2_datapath.specs.Mic2.{IsReady as IsReady2}
+use Rattle.mic2_datapath.specs.Prelude.{mic2_meaning}
 use Rattle.mic2_datapath.specs.View.{micro_of as micro_of2}
 use Rattle.ijvm_meaning.specs.declared.run.RunEnd.{RunEnd}
 use Rattle.ijvm_meaning.specs.declared.run.RunEnd.TheVariants as defined
-use Rattle.mic3_datapath.specs.Mic3.{mic3_meaning, IsReady as IsReady3}
-use Rattle.mic3_datapath.specs.View.{pipeline_of}
-use Rattle.mic3_interpreter.specs.Timing.{mic3_timing}
-use Rattle.ijvm_meaning.specs.Cost.{Timing, timing_of}
-use Rattle.verifier_facts.specs.Accepted.{VerifiedView, IsAccepted}
-use Rattle.ijvm_simulation.specs.Simulates.{board_end}
-use Rattle.ijvm_simulation.specs.Starts.{EndsAsDefined}
-use Rattle.mal_parser.specs.Program.{MalView}
+use Rattle.mic3_datapath.specs.Mic3.{IsReady as IsReady3}
+use Rattle.mic3_datapath.specs.Prelude.{mic3_meaning, pipeline_of}
+use Rattle.mic3_interpreter.specs.Prelude.{mic3_timing}
+use Rattle.ijvm_meaning.specs.Prelude.{Timing, timing_of}
+use Rattle.verifier_facts.specs.Prelude.{VerifiedView, IsAccepted}
+use Rattle.ijvm_simulation.specs.Prelude.{board_end, EndsAsDefined}
+use Rattle.mal_parser.specs.Prelude.{MalView}
 use Rattle.ijvm_reference.specs.declared.plain.PlainReport.{PlainReport}
 use Rattle.ijvm_reference.specs.Plain as plain
 use Rattle.mal_shipped.specs.declared.loaded.Loaded.{Loaded}
-use Rattle.mal_shipped.specs.Loaded.{IsLoaded}
-use Rattle.mal_shipped.specs.Listing.{listed_program}
-use Rattle.mal_shipped.specs.Shipped.{HasShipped}
+use Rattle.mal_shipped.specs.Prelude.{IsLoaded, listed_program, HasShipped}
 use Rattle.mic_watched.specs.declared.cycle.Cycle.{Cycle}
-use Rattle.mic_watched.specs.Watched.{ShowsCycles}
-use Rattle.mic_base.specs.Causes.{Rose}
+use Rattle.mic_watched.specs.Prelude.{ShowsCycles}
+use Rattle.mic_base.specs.Prelude.{Rose}
 use Rattle.cli_words.specs.declared.request.Processor.{Processor}
 use Rattle.cli_words.specs.declared.request.Processor.TheVariants.{Datapath, Mic3}
 use Rattle.cli_words.specs.declared.table.CommandName.{CommandName}
 use Rattle.cli_words.specs.declared.table.CommandName.TheVariants as name
-use Rattle.cli_words.specs.Words.{Asked, machine_of}
+use Rattle.cli_words.specs.Prelude.{Asked, machine_of}
 use Rattle.cli_outside.specs.Status as exits
-use Rattle.cli_outside.specs.Messages.{out_of_memory}
-use Rattle.cli_outside.specs.Outside.{FilesState, OutsideView, PrintsOnOut, Said, Says, SinkState, SourceState, TellsOnErr, Unsaid, with_files}
-use Rattle.cli_outside.specs.Work.{Ends, IsNotHad, IsUnread, PrintsTextOf, WritesThenPrints}
+use Rattle.cli_outside.specs.Prelude.{out_of_memory, FilesState, OutsideView, PrintsOnOut, Said, Says, SinkState, SourceState, TellsOnErr, Unsaid, with_files, Ends, IsNotHad, IsUnread, PrintsTextOf, WritesThenPrints}
 use Rattle.cli_outside.specs.Work as work
-use Rattle.cli_run_texts.specs.Ends.{status_of}
+use Rattle.cli_run_texts.specs.Prelude.{status_of}
 use Rattle.cli_run_texts.specs.Ends as texts
-use Rattle.cli_programs.specs.Answers.{EndsOver}
-use Rattle.cli_programs.specs.Reference.{IsReferenceRun, IsReported}
+use Rattle.cli_programs.specs.Prelude.{EndsOver, IsReferenceRun, IsReported, SoakEnds}
 use Rattle.cli_programs.specs.Reference as reference
 use Rattle.cli_boards.specs.declared.job.Job.{Job}
-use Rattle.cli_boards.specs.Commands.{EndsOwnRun}
-use Rattle.cli_boards.specs.Own.{IsChosenMicroprogram, NoneChosen}
-use Rattle.cli_boards.specs.Prepared.{EndsPrepared, IsUnprepared}
+use Rattle.cli_boards.specs.Prelude.{EndsOwnRun, IsChosenMicroprogram, NoneChosen, EndsPrepared, IsUnprepared, IsFirstBoard, RunsThrough, IsCached, IsOwnRun, IsProfiled, IsTraced}
 use Rattle.cli_boards.specs.Prepared as preparing
-use Rattle.cli_boards.specs.Runs.{IsFirstBoard, RunsThrough}
-use Rattle.cli_boards.specs.Cached.{IsCached}
 use Rattle.cli_boards.specs.Cached as cached
-use Rattle.cli_boards.specs.OwnRun.{IsOwnRun}
 use Rattle.cli_boards.specs.OwnRun as own_run
-use Rattle.cli_boards.specs.Profiled.{IsProfiled}
 use Rattle.cli_boards.specs.Profiled as profiled
-use Rattle.cli_boards.specs.Traced.{IsTraced}
 use Rattle.cli_boards.specs.Traced as traced
-use Rattle.cli_debug.specs.Debugged.{IsDebugged}
+use Rattle.cli_debug.specs.Prelude.{IsDebugged}
 use Rattle.cli_debug.specs.Debugged as debugging
-use Rattle.cli_rewind.specs.Rewinding.{RewindingView, rewinding}
-use Rattle.cli_rewind.specs.Rewound.{IsRewound, status_after}
+use Rattle.cli_rewind.specs.Prelude.{RewindingView, rewinding, IsRewound, status_after}
 use Rattle.cli_rewind.specs.Rewound as rewound_by
 use Rattle.cli_session.specs.declared.lines.Step.{Step}
-use Rattle.cli_session.specs.Goes.{Goes}
+use Rattle.cli_session.specs.Prelude.{Goes, EndsWithInput, IsNoInput, most_lines, AreDone, place}
 use Rattle.cli_session.specs.Goes as lines_of
-use Rattle.cli_session.specs.Input.{EndsWithInput, IsNoInput}
 use Rattle.cli_session.specs.Input as inputs
-use Rattle.cli_session.specs.Lines.{most_lines}
-use Rattle.cli_session.specs.Meaning.{AreDone, place}
-use Rattle.cli_programs.specs.SoakEnds.{SoakEnds}
 use Rattle.cli_programs.specs.SoakEnds as soaking
-use Rattle.cli_call.specs.ClockedEnd.{ClockedEnd}
+use Rattle.cli_call.specs.Prelude.{ClockedEnd, CallEnds, EndsOn, EndsOnMachine, PrintsMicro, job_of, shipped_job_of, Adrift, ConsoleFailed, Ended, FileFailed, HasFileRead, IsAnswer, IsRun, IsFaultless, IsOnlyTold, IsReference, IsUntouched, Misused, NoMemory, OutOfMap, Refused, Runs, RunsOwn, ShortOfMemory, SinkFailed, TakesFile, TooLong}
 use Rattle.cli_call.specs.ClockedEnd as clocking
-use Rattle.cli_call.specs.CallEnds.{CallEnds, EndsOn, EndsOnMachine, PrintsMicro, job_of, shipped_job_of}
 use Rattle.cli_call.specs.CallEnds as calls
-use Rattle.cli_call.specs.Answers.{Adrift, ConsoleFailed, Done, Ended, FileFailed, HasFileRead, IsAnswer, IsRun, IsFaultless, IsOnlyTold, IsReference, IsUntouched, Misused, NoMemory, OutOfMap, Refused, Runs, RunsOwn, ShortOfMemory, SinkFailed, TakesFile, TooLong}
+use Rattle.cli_call.specs.Answers.{Done}
 
 -- a sink that failed between these has failed since the one before
 either_of : (a a' b b' c d : ℕ) → a ≡ a' → b ≡ b' → Rose a c ⊎ Rose b d → Rose a' c ⊎ Rose b' d

@@ -2,26 +2,25 @@
 use Rattle.std.proofs.Common.{◌≡◌, ℕ, List, None, Some, Option, ap, subst, sym}
 use Rattle.std.specs.Prelude.{MatchOption}
 use Rattle.std.specs.Borrow.{Bor}
-use Rattle.console_port.specs.World.{World}
-use Rattle.mal_shipped.specs.Shipped.{HasShipped}
-use Rattle.mic_clock.specs.Meaning.{Meaning}
-use Rattle.ijvm_meaning.specs.Cost.{Timing}
+use Rattle.console_port.specs.Prelude.{World}
+use Rattle.mal_shipped.specs.Prelude.{HasShipped}
+use Rattle.mic_clock.specs.Prelude.{Meaning}
+use Rattle.ijvm_meaning.specs.Prelude.{Timing}
 use Rattle.mic_words.specs.declared.machine.Machine.TheVariants.{Mic2}
-use Rattle.mic3_datapath.specs.Mic3.{mic3_meaning, IsReady as IsReady3}
-use Rattle.mic3_datapath.specs.View.{pipeline_of}
-use Rattle.mic3_interpreter.specs.Timing.{mic3_timing}
-use Rattle.cli_words.specs.Reading.{Text}
-use Rattle.cli_words.specs.Words.{Asked, HasLimits, asked}
+use Rattle.mic3_datapath.specs.Mic3.{IsReady as IsReady3}
+use Rattle.mic3_datapath.specs.Prelude.{mic3_meaning, pipeline_of}
+use Rattle.mic3_interpreter.specs.Prelude.{mic3_timing}
+use Rattle.cli_words.specs.Prelude.{Text, Asked, HasLimits, asked}
 use Rattle.cli_words.specs.declared.request.Processor.TheVariants.{Mic3}
 use Rattle.cli_words.specs.declared.request.Processor.{Processor}
 use Rattle.cli_words.specs.declared.table.CommandName.{CommandName}
 use Rattle.cli_words.specs.declared.request.Request.{Request}
-use Rattle.cli_outside.specs.Outside.{LentView, Over, name_in}
-use Rattle.cli_programs.specs.Answers.{EndsOver}
+use Rattle.cli_outside.specs.Prelude.{LentView, Over, name_in}
+use Rattle.cli_programs.specs.Prelude.{EndsOver}
 use Rattle.cli_boards.specs.declared.job.Job.{Job}
-use Rattle.cli_boards.specs.Commands.{EndsOwnRun}
-use Rattle.cli_call.specs.CallEnds.{CallEnds, DoesAsked, Done, EndsAs, EndsOnMachine, EndsRun, job_of}
-use Rattle.cli_call.specs.ClockedEnd.{ClockedEnd}
+use Rattle.cli_boards.specs.Prelude.{EndsOwnRun}
+use Rattle.cli_call.specs.CallEnds.{Done}
+use Rattle.cli_call.specs.Prelude.{CallEnds, DoesAsked, EndsAs, EndsOnMachine, EndsRun, job_of, ClockedEnd}
 
 pub call_ends : {words asks : Option Asked} {old new : LentView} {status : ℕ} → words ≡ asks → Over (EndsAs asks) old new status → Over (CallEnds words) old new status
 call_ends same ends = record { names = ends.names; does = rw same (Done ends.does) }

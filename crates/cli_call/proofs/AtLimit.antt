@@ -2,9 +2,7 @@
 use Rattle.std.proofs.Common.{◌≡◌, ℕ, zero, suc, Bool, true, false, nat_le, Some, refl, subst}
 use Rattle.std.proofs.lemmas.Option.{same_Some}
 use Rattle.ijvm_meaning.specs.declared.run.RunEnd.TheVariants as defined
-use Rattle.ijvm_meaning.specs.Step.{StepOutcome, Goes, Halts, Errs, Limits, Stuck, step_outcome}
-use Rattle.ijvm_meaning.specs.Run.{TimedImage, Point, Finish, EndsBy, finish_from, after_test, after_outcome, point_after}
-use Rattle.ijvm_meaning.specs.Limited.{KeepsAtLimit, keeps_at_limit}
+use Rattle.ijvm_meaning.specs.Prelude.{StepOutcome, Goes, Halts, Errs, Limits, Stuck, step_outcome, TimedImage, Point, Finish, EndsBy, finish_from, after_test, after_outcome, point_after, KeepsAtLimit, keeps_at_limit}
 
 -- at a stack limit the definition's cycles are those of the last boundary
 abbrev pub OfLimit : Finish → Type 0

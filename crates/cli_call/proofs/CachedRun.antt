@@ -3,40 +3,31 @@ use Rattle.std.proofs.Common.{◌≡◌, ◌≢◌, ◌∙◌, ℕ, Bool, true, 
 use Rattle.std.specs.Prelude.{IfSome, IsSome, replicate}
 use Rattle.std.proofs.lemmas.Option.{same_Some}
 use Rattle.std.proofs.lemmas.List.{append-nil}
-use Rattle.console_port.specs.Console.{Given, Untaken}
-use Rattle.console_port.specs.World.{World}
-use Rattle.micro_word.specs.ControlStore.{ControlStore}
+use Rattle.console_port.specs.Prelude.{Given, Untaken, World}
+use Rattle.micro_word.specs.Prelude.{ControlStore}
 use Rattle.mic_words.specs.declared.machine.Machine.TheVariants.{Mic1}
 use Rattle.mic_clock.specs.declared.counts.Counts.{Counts}
 use Rattle.mic_clock.specs.declared.end.End.{End}
 use Rattle.mic_clock.specs.declared.end.End.TheVariants as ends
-use Rattle.mic_clock.specs.Board.{NoFault, ShowsRun}
-use Rattle.mic_clock.specs.Run.{HasOneEnd, MicroRun, turns}
-use Rattle.mic_clock.specs.View.{BoardView}
+use Rattle.mic_clock.specs.Prelude.{NoFault, ShowsRun, HasOneEnd, MicroRun, turns, BoardView}
 use Rattle.mic_watched.specs.declared.cycle.Cycle.{Cycle}
-use Rattle.mic_watched.specs.Cycles.{cycles_of}
-use Rattle.mic_image_board.specs.Reset.{IsAtReset, reset_run}
-use Rattle.mic1_datapath.specs.Micro.{Micro}
-use Rattle.mic1_datapath.specs.Mic1.{IsReady, mic1_meaning, registers_of}
-use Rattle.mic1_datapath.specs.View.{micro_of}
+use Rattle.mic_watched.specs.Prelude.{cycles_of}
+use Rattle.mic_image_board.specs.Prelude.{IsAtReset, reset_run}
+use Rattle.mic1_datapath.specs.Prelude.{Micro, IsReady, mic1_meaning, registers_of, micro_of}
 use Rattle.mic1_datapath.specs.declared.mic1.Mic1.{Mic1 as Datapath}
 use Rattle.mal_shipped.specs.declared.loaded.Loaded.{Loaded}
-use Rattle.mal_shipped.specs.Listing.{listed_program}
-use Rattle.mal_shipped.specs.Loaded.{IsLoadedFor}
-use Rattle.mal_shipped.specs.Shipped.{HasShipped}
-use Rattle.verifier_facts.specs.Accepted.{VerifiedView}
-use Rattle.ijvm_meaning.specs.Cost.{timing_of}
-use Rattle.ijvm_simulation.specs.Simulates.{board_end}
-use Rattle.ijvm_simulation.specs.Headline.{HasRun, told_of}
-use Rattle.cli_outside.specs.Outside.{Got, OutsideView, Says}
-use Rattle.cli_run_texts.specs.Ends.{status_of}
+use Rattle.mal_shipped.specs.Prelude.{listed_program, IsLoadedFor, HasShipped}
+use Rattle.verifier_facts.specs.Prelude.{VerifiedView}
+use Rattle.ijvm_meaning.specs.Prelude.{timing_of}
+use Rattle.ijvm_simulation.specs.Prelude.{board_end, HasRun, told_of}
+use Rattle.cli_outside.specs.Prelude.{Got, OutsideView, Says}
+use Rattle.cli_run_texts.specs.Prelude.{status_of}
 use Rattle.cli_run_texts.specs.Report.{report as report_of}
-use Rattle.cli_watchers.specs.Cached.{accesses_of, cache_line, counts_of}
-use Rattle.cli_boards.specs.Cached.{IsCached}
+use Rattle.cli_watchers.specs.Prelude.{accesses_of, cache_line, counts_of}
+use Rattle.cli_boards.specs.Prelude.{IsCached, RunsThrough, report_on}
 use Rattle.cli_boards.specs.Cached as caching
-use Rattle.cli_boards.specs.Runs.{RunsThrough, report_on}
-use Rattle.cli_call.specs.ClockedEnd.{ClockedEnd, CutByRead, CutByWrite, NoRoom, Ran}
-use Rattle.cli_call.specs.Agree.{CountsTheRun, IsQuiet}
+use Rattle.cli_call.specs.ClockedEnd.{NoRoom}
+use Rattle.cli_call.specs.Prelude.{ClockedEnd, CutByRead, CutByWrite, Ran, CountsTheRun, IsQuiet}
 use Rattle.cli_call.proofs.Agreeing.{said, told_input}
 use Rattle.cli_call.proofs.SameRuns.{same_memory, same_runs}
 

@@ -1,21 +1,17 @@
 -- How a run ends, by the end of its board.
 use Rattle.std.proofs.Common.{◌≡◌, ◌≢◌, ◌∙◌, ℕ, List, Some, None, refl, sym, subst}
 use Rattle.std.proofs.lemmas.Option.{same_Some}
-use Rattle.console_port.specs.Console.{StaysFlushed}
-use Rattle.console_port.specs.World.{World}
+use Rattle.console_port.specs.Prelude.{StaysFlushed, World}
 use Rattle.mic_clock.specs.declared.end.End.{End}
 use Rattle.mic_clock.specs.declared.end.End.TheVariants as ends
-use Rattle.mic_clock.specs.Meaning.{Meaning}
-use Rattle.mic_clock.specs.Board.{NoFault, HasEndCause}
-use Rattle.mic_clock.specs.View.{BoardView}
-use Rattle.ijvm_meaning.specs.Cost.{Timing}
-use Rattle.verifier_facts.specs.Accepted.{VerifiedView}
-use Rattle.ijvm_simulation.specs.Simulates.{board_end}
-use Rattle.ijvm_simulation.specs.Headline.{HasRun, IsCutByRead, IsCutByWrite}
-use Rattle.cli_outside.specs.Outside.{OutsideView, Says}
-use Rattle.cli_run_texts.specs.Ends.{status_of}
-use Rattle.cli_boards.specs.Runs.{report_on}
-use Rattle.cli_call.specs.ClockedEnd.{ClockedEnd, CutByRead, CutByWrite, Ran}
+use Rattle.mic_clock.specs.Prelude.{Meaning, NoFault, HasEndCause, BoardView}
+use Rattle.ijvm_meaning.specs.Prelude.{Timing}
+use Rattle.verifier_facts.specs.Prelude.{VerifiedView}
+use Rattle.ijvm_simulation.specs.Prelude.{board_end, HasRun, IsCutByRead, IsCutByWrite}
+use Rattle.cli_outside.specs.Prelude.{OutsideView, Says}
+use Rattle.cli_run_texts.specs.Prelude.{status_of}
+use Rattle.cli_boards.specs.Prelude.{report_on}
+use Rattle.cli_call.specs.Prelude.{ClockedEnd, CutByRead, CutByWrite, Ran}
 
 module _ {M S : Type 0} (state : M → S) (m : Meaning S) (IsReady : ℕ → List ℕ → ℕ → S → World → Type 0) (IsShipped : List ℕ → Type 0) (entry : ℕ) (timing : Timing) where
   module _ (bound : ℕ) (program : VerifiedView) (old new : OutsideView) (board : BoardView M) where

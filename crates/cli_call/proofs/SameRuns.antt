@@ -4,27 +4,19 @@ use Rattle.std.proofs.lemmas.Bool.{cases_lt}
 use Rattle.std.proofs.lemmas.Bool.Decides.{nat_tests}
 use Rattle.std.proofs.lemmas.Grind.{same_number_lists}
 use Rattle.std.proofs.Math.Nat.{mod-lt}
-use Rattle.console_port.specs.Loading.{HasTextWords, IsLoaded}
-use Rattle.console_port.specs.World.{World, Refusal, byte_in}
+use Rattle.console_port.specs.Prelude.{HasTextWords, IsLoaded, World, Refusal, byte_in}
 use Rattle.mic_words.specs.declared.machine.Machine.TheVariants as machines
-use Rattle.micro_word.specs.Coding.{statement_of}
-use Rattle.micro_word.specs.Words.{is_next}
+use Rattle.micro_word.specs.Prelude.{statement_of, is_next}
 use Rattle.micro_word.specs.declared.statement.Placed.{Placed}
 use Rattle.micro_word.specs.declared.statement.PlacedNext.{PlacedNext}
 use Rattle.micro_word.specs.declared.statement.PlacedNext.TheVariants as nexts
 use Rattle.mic_clock.specs.declared.end.End.{End}
-use Rattle.mic_clock.specs.Meaning.{Outcome, Done, Refused}
-use Rattle.mic_clock.specs.Run.{MicroRun, HasOneEnd, after_end_or_step, after_step, bounded, bounded_by, counts_after, end_before, turn, turn_by, turns, word_at}
+use Rattle.mic_clock.specs.Prelude.{Outcome, Done, Refused, MicroRun, HasOneEnd, after_end_or_step, after_step, bounded, bounded_by, counts_after, end_before, turn, turn_by, turns, word_at}
 use Rattle.mic_datapath.specs.declared.ports.Ports.{Ports}
-use Rattle.mic_datapath.specs.Memory.{byte_under_way, outcome}
-use Rattle.mic_datapath.specs.Next.{flag, next_address}
-use Rattle.mic_datapath.specs.Registers.{arrived}
-use Rattle.mic1_datapath.specs.Micro.{Micro}
-use Rattle.mic1_datapath.specs.Microstep.{clock, refusal, result_of, settled, world_after}
-use Rattle.mic1_datapath.specs.Mic1.{driven, mic1_meaning, microstep, step_of_word}
-use Rattle.mal_shipped.specs.Listing.{ListingRow, table1}
-use Rattle.mal_shipped.specs.Shipped.{HasShipped, shipped, statement_among}
-use Rattle.mic_image_board.specs.Reset.{reset_run}
+use Rattle.mic_datapath.specs.Prelude.{byte_under_way, outcome, flag, next_address, arrived}
+use Rattle.mic1_datapath.specs.Prelude.{Micro, clock, refusal, result_of, settled, world_after, driven, mic1_meaning, microstep, step_of_word}
+use Rattle.mal_shipped.specs.Prelude.{ListingRow, table1, HasShipped, shipped, statement_among}
+use Rattle.mic_image_board.specs.Prelude.{reset_run}
 
 -- A loaded memory is one list of words.
 

@@ -2,40 +2,34 @@
 use Rattle.std.specs.Prelude.{ℕ, List, Option, Some, None, MatchOption}
 use Rattle.mic_words.specs.declared.machine.Machine.{Machine}
 use Rattle.mic_words.specs.declared.machine.Machine.TheVariants.{Mic1, Mic2}
-use Rattle.console_port.specs.World.{World}
-use Rattle.mal_parser.specs.ProgramText.{canonical_text}
-use Rattle.mic_clock.specs.Meaning.{Meaning}
-use Rattle.mic1_datapath.specs.Mic1.{mic1_meaning, IsReady as IsReady1}
+use Rattle.console_port.specs.Prelude.{World}
+use Rattle.mal_parser.specs.Prelude.{canonical_text}
+use Rattle.mic_clock.specs.Prelude.{Meaning}
+use Rattle.mic1_datapath.specs.Mic1.{IsReady as IsReady1}
+use Rattle.mic1_datapath.specs.Prelude.{mic1_meaning}
 use Rattle.mic1_datapath.specs.View.{micro_of as micro_of1}
-use Rattle.mic2_datapath.specs.Mic2.{mic2_meaning, IsReady as IsReady2}
+use Rattle.mic2_datapath.specs.Mic2.{IsReady as IsReady2}
+use Rattle.mic2_datapath.specs.Prelude.{mic2_meaning}
 use Rattle.mic2_datapath.specs.View.{micro_of as micro_of2}
-use Rattle.mic3_datapath.specs.Mic3.{mic3_meaning, IsReady as IsReady3}
-use Rattle.mic3_datapath.specs.View.{pipeline_of}
-use Rattle.mic3_interpreter.specs.Timing.{mic3_timing}
-use Rattle.ijvm_meaning.specs.Cost.{Timing, timing_of}
-use Rattle.mal_shipped.specs.Listing.{listed_program}
-use Rattle.mal_shipped.specs.Shipped.{HasShipped}
+use Rattle.mic3_datapath.specs.Mic3.{IsReady as IsReady3}
+use Rattle.mic3_datapath.specs.Prelude.{mic3_meaning, pipeline_of}
+use Rattle.mic3_interpreter.specs.Prelude.{mic3_timing}
+use Rattle.ijvm_meaning.specs.Prelude.{Timing, timing_of}
+use Rattle.mal_shipped.specs.Prelude.{listed_program, HasShipped}
 use Rattle.cli_words.specs.declared.request.Processor.{Processor}
 use Rattle.cli_words.specs.declared.request.Processor.TheVariants.{Datapath, Mic3}
 use Rattle.cli_words.specs.declared.table.CommandName.{CommandName}
 use Rattle.cli_words.specs.declared.table.CommandName.TheVariants as name
-use Rattle.cli_words.specs.Reading.{Text}
-use Rattle.cli_words.specs.Words.{Asked, machine_of}
+use Rattle.cli_words.specs.Prelude.{Text, Asked, machine_of}
 use Rattle.cli_outside.specs.Status as exits
-use Rattle.cli_outside.specs.Messages.{out_of_memory}
-use Rattle.cli_outside.specs.Outside.{LentView, Over, OutsideView, PrintsOnOut, TellsOnErr}
-use Rattle.cli_outside.specs.Work.{PrintsTextOf}
-use Rattle.cli_program_texts.specs.Listing.{Lists}
-use Rattle.cli_program_texts.specs.Summary.{Summarizes}
-use Rattle.cli_programs.specs.Answers.{Assembles, EndsOver}
-use Rattle.cli_programs.specs.Reference.{IsReferenceRun}
-use Rattle.cli_micro.specs.Answers.{MicroAnswers, PrintMicroAnswers}
+use Rattle.cli_outside.specs.Prelude.{out_of_memory, LentView, Over, OutsideView, PrintsOnOut, TellsOnErr, PrintsTextOf}
+use Rattle.cli_program_texts.specs.Prelude.{Lists, Summarizes}
+use Rattle.cli_programs.specs.Prelude.{Assembles, EndsOver, IsReferenceRun, SoakEnds, Compiles, EndsOverTiny}
+use Rattle.cli_micro.specs.Prelude.{MicroAnswers, PrintMicroAnswers}
 use Rattle.cli_boards.specs.declared.job.Job.{Job}
-use Rattle.cli_boards.specs.Commands.{EndsCache, EndsOwnRun, EndsProfile, EndsTrace}
-use Rattle.cli_debug.specs.Debugged.{EndsDebug}
-use Rattle.cli_rewind.specs.Rewound.{EndsRewind}
-use Rattle.cli_programs.specs.SoakEnds.{SoakEnds}
-use Rattle.cli_programs.specs.TinyAnswers.{Compiles, EndsOverTiny}
+use Rattle.cli_boards.specs.Prelude.{EndsCache, EndsOwnRun, EndsProfile, EndsTrace}
+use Rattle.cli_debug.specs.Prelude.{EndsDebug}
+use Rattle.cli_rewind.specs.Prelude.{EndsRewind}
 use Rattle.cli_call.specs.ClockedEnd.{ClockedEnd}
 use Rattle.cli_call.specs.Usage.{usage_text}
 

@@ -4,3 +4,4 @@ pub mod CallEnds
 pub mod Agree
 pub mod Meant
 pub mod Answers
+pub mod Prelude

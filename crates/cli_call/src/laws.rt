@@ -3,9 +3,9 @@
 ghost use Rattle.std.specs.Prelude.{ℕ, List};
 ghost use Rattle.mic_words.specs.declared.machine.Machine.{Machine};
 ghost use Rattle.console_port.specs.declared.map.MemoryMap.{MemoryMap};
-ghost use Rattle.mic1_datapath.specs.Mic1.{mic1_meaning};
-ghost use Rattle.mic2_datapath.specs.Mic2.{mic2_meaning};
-ghost use Rattle.cli_session.specs.Giving.{OnlyGives};
+ghost use Rattle.mic1_datapath.specs.Prelude.{mic1_meaning};
+ghost use Rattle.mic2_datapath.specs.Prelude.{mic2_meaning};
+ghost use Rattle.cli_session.specs.Prelude.{OnlyGives};
 ghost use Rattle.cli_call.specs.Agree.{CacheCountsTheRun, RunIsAsReference, RunsEndAlike};
 ghost use Rattle.cli_call.specs.Meant.{TinyIsAsMeant};
 

@@ -1,6 +1,6 @@
 //! `print-micro`, of the file that is named or of what ships.
 
-ghost use Rattle.cli_outside.specs.Outside.{Over, name_in};
+ghost use Rattle.cli_outside.specs.Prelude.{Over, name_in};
 ghost use Rattle.cli_call.specs.CallEnds.{PrintsMicro};
 
 use cli_micro::{print_micro, print_shipped};

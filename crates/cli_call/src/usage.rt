@@ -2,7 +2,7 @@
 
 ghost use Rattle.cli_call.specs.Usage.{usage_text};
 ghost use Rattle.cli_outside.specs.Status as exits;
-ghost use Rattle.cli_outside.specs.Outside.{SaysTo};
+ghost use Rattle.cli_outside.specs.Prelude.{SaysTo};
 
 use cli_outside::{Status, say};
 use mic_base::Sink;

@@ -4,27 +4,17 @@ use Rattle.std.specs.Prelude.{OnErr, nat_le}
 use Rattle.std.specs.Option.{option_map}
 use Rattle.std.proofs.lemmas.Bool.{cases_lt}
 use Rattle.std.proofs.lemmas.List.{take_min, take-append-le}
-use Rattle.mic_base.specs.Causes.{no_rise}
-use Rattle.console_port.specs.World.{World}
+use Rattle.mic_base.specs.Prelude.{no_rise}
+use Rattle.console_port.specs.Prelude.{World}
 use Rattle.mic_clock.specs.declared.end.End.{End}
-use Rattle.mic_clock.specs.Meaning.{Meaning}
-use Rattle.mic_clock.specs.Run.{MicroRun, bounded, bounded_by, turn}
+use Rattle.mic_clock.specs.Prelude.{Meaning, MicroRun, bounded, bounded_by, turn}
 use Rattle.mic_debugger.specs.declared.plan.Plan.{Plan}
 use Rattle.mic_debugger.specs.declared.plan.Plan.TheVariants as plans
 use Rattle.mic_debugger.specs.declared.until.Until.{Until}
-use Rattle.mic_debugger.specs.Book.{Book}
-use Rattle.mic_debugger.specs.Clocking.{IsDone, IsGoing, IsTold, after, printed, turn_lines}
-use Rattle.mic_debugger.specs.Obeys.{IsLineBroken}
-use Rattle.mic_debugger.specs.Session.{HasReadCause}
-use Rattle.mic_debugger.specs.Stand.{Carries, IsPart, IsWhole, Rules, Stand, plan_at, rules_of, stand_in}
-use Rattle.mic_debugger.specs.Outcome.{KeepFronts}
-use Rattle.cli_session.specs.Meaning.{IsCutShort, IsFrontOf, place}
-use Rattle.mic_debugger.specs.View.{SessionView}
-use Rattle.cli_outside.specs.Outside.{GotInPart, OutsideView}
-use Rattle.cli_session.specs.Giving.{OnlyGives}
-use Rattle.cli_session.specs.Fronts.{IsFront, front_same, front_then, held_front, turn_gives}
-use Rattle.cli_debug.specs.Stand.{IsBrokenOff}
-use Rattle.cli_debug.specs.Debugging.{debugging, debugging_view}
+use Rattle.mic_debugger.specs.Prelude.{Book, IsDone, IsGoing, IsTold, after, printed, turn_lines, IsLineBroken, HasReadCause, Carries, IsPart, IsWhole, Rules, Stand, plan_at, rules_of, stand_in, KeepFronts, SessionView}
+use Rattle.cli_session.specs.Prelude.{IsCutShort, IsFrontOf, place, OnlyGives, IsFront, front_same, front_then, held_front, turn_gives}
+use Rattle.cli_outside.specs.Prelude.{GotInPart, OutsideView}
+use Rattle.cli_debug.specs.Prelude.{IsBrokenOff, debugging, debugging_view}
 use Rattle.cli_debug.proofs.Standing.{leads_on, same_stand, streams_at}
 
 -- ---- fronts

@@ -2,21 +2,17 @@
 use Rattle.std.proofs.Common.{◌≡◌, ◌≢◌, ◌∙◌, ℕ, Bool, List, Option, Some, None, refl, sym, ap, subst}
 use Rattle.std.specs.Prelude.{IfSome}
 use Rattle.std.proofs.lemmas.List.{append-nil}
-use Rattle.mic_clock.specs.Meaning.{Meaning}
-use Rattle.verifier_facts.specs.Accepted.{VerifiedView}
-use Rattle.mal_parser.specs.Program.{MalView}
+use Rattle.mic_clock.specs.Prelude.{Meaning}
+use Rattle.verifier_facts.specs.Prelude.{VerifiedView}
+use Rattle.mal_parser.specs.Prelude.{MalView}
 use Rattle.mal_shipped.specs.declared.loaded.Loaded.{Loaded}
-use Rattle.mic_debugger.specs.View.{SessionView}
+use Rattle.mic_debugger.specs.Prelude.{SessionView}
 use Rattle.cli_outside.specs.Status as exits
-use Rattle.cli_outside.specs.Outside.{OutsideView, TellsOnErr}
+use Rattle.cli_outside.specs.Prelude.{OutsideView, TellsOnErr}
 use Rattle.cli_session.specs.declared.lines.Step.{Step}
 use Rattle.cli_session.specs.declared.lines.Step.TheVariants as steps
-use Rattle.cli_session.specs.Lines.{IsCutIn, IsNext, IsReadOut, most_lines}
-use Rattle.cli_session.specs.Meaning.{Place, place}
-use Rattle.cli_session.specs.Goes.{ConsoleFailed, Goes, On, Over, SinkFailed}
-use Rattle.cli_debug.specs.Stand.{is_quit}
-use Rattle.cli_debug.specs.Debugging.{DebuggingView, debugging, debugging_view}
-use Rattle.cli_debug.specs.Debugged.{Cut, IsDebugged, IsStart, Left, Stopped, report_in}
+use Rattle.cli_session.specs.Prelude.{IsCutIn, IsNext, IsReadOut, most_lines, Place, place, ConsoleFailed, Goes, On, Over, SinkFailed}
+use Rattle.cli_debug.specs.Prelude.{is_quit, DebuggingView, debugging, debugging_view, Cut, IsDebugged, IsStart, Left, Stopped, report_in}
 
 told_as : (left : Option (List ℕ)) (P Q : List ℕ → Type 0) → IfSome left P → ((bytes : List ℕ) → P bytes → Q bytes) → IfSome left Q
 told_as None P Q p f = tt

@@ -1,24 +1,18 @@
 -- How debugging an accepted program ends: what the lines of the console print, and the report; or less, where a fault stopped it.
 use Rattle.std.specs.Prelude.{◌≡◌, ℕ, List, [], Option, None, IfSome}
-use Rattle.mic_base.specs.Causes.{Rose}
-use Rattle.mic_clock.specs.Meaning.{Meaning}
-use Rattle.mic_clock.specs.View.{BoardView}
-use Rattle.verifier_facts.specs.Accepted.{VerifiedView}
-use Rattle.mal_parser.specs.Program.{MalView}
+use Rattle.mic_base.specs.Prelude.{Rose}
+use Rattle.mic_clock.specs.Prelude.{Meaning, BoardView}
+use Rattle.verifier_facts.specs.Prelude.{VerifiedView}
+use Rattle.mal_parser.specs.Prelude.{MalView}
 use Rattle.mal_shipped.specs.declared.loaded.Loaded.{Loaded}
-use Rattle.mic_debugger.specs.Obeys.{session_at}
-use Rattle.mic_debugger.specs.View.{SessionView, listing_of}
+use Rattle.mic_debugger.specs.Prelude.{session_at, SessionView, listing_of}
 use Rattle.cli_outside.specs.Status as exits
-use Rattle.cli_outside.specs.Messages.{out_of_memory}
-use Rattle.cli_outside.specs.Outside.{LentView, Over, OutsideView, TellsOnErr}
-use Rattle.cli_run_texts.specs.Report.{left_report}
+use Rattle.cli_outside.specs.Prelude.{out_of_memory, LentView, Over, OutsideView, TellsOnErr}
+use Rattle.cli_run_texts.specs.Prelude.{left_report}
 use Rattle.cli_boards.specs.declared.job.Job.{Job}
-use Rattle.cli_boards.specs.Prepared.{EndsPrepared}
-use Rattle.cli_boards.specs.Runs.{IsFirstBoard}
+use Rattle.cli_boards.specs.Prelude.{EndsPrepared, IsFirstBoard}
 use Rattle.cli_boards.specs.declared.preparing.Prepared.{Prepared}
-use Rattle.cli_session.specs.Input.{EndsWithInput}
-use Rattle.cli_session.specs.Lines.{IsCutIn, IsNext, IsReadOut, most_lines}
-use Rattle.cli_session.specs.Meaning.{AreDone, IsCutShort, Place, place}
+use Rattle.cli_session.specs.Prelude.{EndsWithInput, IsCutIn, IsNext, IsReadOut, most_lines, AreDone, IsCutShort, Place, place}
 use Rattle.cli_debug.specs.Stand.{is_quit}
 use Rattle.cli_debug.specs.Debugging.{DebuggingView, debugging, debugging_view}
 

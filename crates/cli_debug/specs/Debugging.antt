@@ -1,13 +1,11 @@
 -- What the lines of a debugging session mean.
 use Rattle.std.specs.Prelude.{◌≡◌, ℕ, List, [], ◌∷◌, Some}
-use Rattle.mic_base.specs.Plain.{plain_left}
+use Rattle.mic_base.specs.Prelude.{plain_left}
 use Rattle.mic_base.specs.declared.plain.source.PlainSource.{PlainSource}
-use Rattle.mic_clock.specs.Meaning.{Meaning}
-use Rattle.mic_debugger.specs.Book.{IsBookOf}
-use Rattle.mic_debugger.specs.Stand.{Does, Rules, Stand, StandsAt, rules_of}
-use Rattle.mic_debugger.specs.View.{SessionView}
-use Rattle.cli_outside.specs.Outside.{LentView}
-use Rattle.cli_session.specs.Meaning.{Gone, IsCutShort, Place, SessionMeaning, place}
+use Rattle.mic_clock.specs.Prelude.{Meaning}
+use Rattle.mic_debugger.specs.Prelude.{IsBookOf, Does, Rules, Stand, StandsAt, rules_of, SessionView}
+use Rattle.cli_outside.specs.Prelude.{LentView}
+use Rattle.cli_session.specs.Prelude.{Gone, IsCutShort, Place, SessionMeaning, place}
 use Rattle.cli_debug.specs.Stand.{IsBrokenOff, is_quit}
 
 -- a session, and what its input has left

@@ -1,3 +1,4 @@
 pub mod Stand
 pub mod Debugging
 pub mod Debugged
+pub mod Prelude

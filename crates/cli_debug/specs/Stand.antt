@@ -1,17 +1,13 @@
 -- What a failing sink leaves of a line of the debugger, and which line ends it.
 use Rattle.std.specs.Prelude.{ℕ, Bool, true, false, List, Option}
-use Rattle.mic_clock.specs.Meaning.{Meaning}
-use Rattle.mic_clock.specs.Run.{MicroRun}
+use Rattle.mic_clock.specs.Prelude.{Meaning, MicroRun}
 use Rattle.mic_debugger.specs.declared.reply.Reply.{Reply}
 use Rattle.mic_debugger.specs.declared.reply.Reply.TheVariants as replies
 use Rattle.mic_debugger.specs.declared.table.Verb.{Verb}
 use Rattle.mic_debugger.specs.declared.table.Verb.TheVariants as verbs
-use Rattle.mic_debugger.specs.Commands.{command_of}
-use Rattle.mic_debugger.specs.Stand.{Carries, Does, IsPart, Rules, Stand, plan_at}
-use Rattle.cli_session.specs.Commands.{is_quit_in}
-use Rattle.cli_session.specs.Giving.{OnlyGives}
-use Rattle.cli_session.specs.Meaning.{IsFrontOf}
-use Rattle.cli_outside.specs.Outside.{GotInPart}
+use Rattle.mic_debugger.specs.Prelude.{command_of, Carries, Does, IsPart, Rules, Stand, plan_at}
+use Rattle.cli_session.specs.Prelude.{is_quit_in, OnlyGives, IsFrontOf}
+use Rattle.cli_outside.specs.Prelude.{GotInPart}
 
 -- ---- the line that ends a session
 

@@ -1,7 +1,7 @@
 //! A session over an accepted program.
 
 ghost use Rattle.std.specs.Prelude.{◌≡◌, ◌≤◌, ◌^◌, IfOk};
-ghost use Rattle.cli_outside.specs.Outside.{Over, TellsOnErr};
+ghost use Rattle.cli_outside.specs.Prelude.{Over, TellsOnErr};
 ghost use Rattle.cli_debug.specs.Debugged.{DebugsPrepared, IsStart, left_report_on};
 
 use crate::debugging::Debugging;

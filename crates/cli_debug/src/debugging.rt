@@ -43,8 +43,8 @@ fn answer_line<M: Clocked, F: Files, S: Source, K: Sink, E: Sink>(
 }
 
 impl<M: Clocked> LineSession for Debugging<M> {
-    ghost use Rattle.mic_base.specs.Plain.{plain_left};
-    ghost use Rattle.mic_debugger.specs.Stand.{Rules, Stand};
+    ghost use Rattle.mic_base.specs.Prelude.{plain_left};
+    ghost use Rattle.mic_debugger.specs.Prelude.{Rules, Stand};
     ghost use Rattle.cli_debug.specs.Debugging.{DebuggingView, debugging, debugging_view};
 
     ghost Seen = { DebuggingView M };

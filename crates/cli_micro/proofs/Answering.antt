@@ -2,22 +2,15 @@
 use Rattle.std.proofs.Common.{◌≡◌, ◌⊎◌, ℕ, List, Option, Some, None, false, IsSome, refl, sym, subst}
 use Rattle.mic_words.specs.declared.machine.Machine.{Machine}
 use Rattle.cli_outside.specs.declared.refusal.Refusal.{Refusal}
-use Rattle.cli_outside.specs.Work.{IsRefusal, refusal_by}
-use Rattle.cli_outside.specs.Ways.{by_reason}
+use Rattle.cli_outside.specs.Prelude.{IsRefusal, refusal_by, by_reason}
 use Rattle.mal_parser.specs.declared.error.MalError.{MalError}
-use Rattle.mal_parser.specs.Program.{MalView}
-use Rattle.mal_parser.specs.Text.{is_memory, IsRefused}
+use Rattle.mal_parser.specs.Prelude.{MalView, is_memory, IsRefused}
 use Rattle.store_placement.specs.declared.refusal.PlaceError.{PlaceError}
 use Rattle.store_placement.specs.declared.store_error.StoreError.{StoreError}
 use Rattle.store_placement.specs.declared.store_error.StoreError.TheVariants as store
-use Rattle.store_placement.specs.Chosen.{IsChosenList}
-use Rattle.store_placement.specs.Demands.{Demands}
-use Rattle.store_placement.specs.Program.{demands_of}
+use Rattle.store_placement.specs.Prelude.{IsChosenList, Demands, demands_of, machine_of, RefusesFile}
 use Rattle.store_placement.specs.Refusals as placing
-use Rattle.store_placement.specs.StoreFile.{machine_of, RefusesFile}
-use Rattle.cli_micro.specs.Answers.{IsUnprinted, NoStore, NoText}
-use Rattle.cli_micro.specs.Reasons.{mal_reason, store_reason}
-use Rattle.cli_micro.specs.Refused.{is_refusal}
+use Rattle.cli_micro.specs.Prelude.{IsUnprinted, NoStore, NoText, mal_reason, store_reason, is_refusal}
 use Rattle.cli_micro.proofs.Stores.{refused_file}
 
 -- what refuses the constraints refuses the program's demands, where the constraints are these

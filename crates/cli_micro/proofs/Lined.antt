@@ -3,8 +3,8 @@ use Rattle.std.proofs.Common.{◌≡◌, ℕ, ◌+◌, List, [], ◌∷◌, ◌+
 use Rattle.std.specs.Prelude.{map}
 use Rattle.std.proofs.lemmas.List.FromFn.{map-range_with_len_more}
 use Rattle.std.proofs.lemmas.List.{append-nil}
-use Rattle.mal_parser.specs.ProgramText.{text_of}
-use Rattle.store_placement.specs.First.{below}
+use Rattle.mal_parser.specs.Prelude.{text_of}
+use Rattle.store_placement.specs.Prelude.{below}
 
 pub text_of-append : (xs ys : List (List ℕ)) → text_of (xs ++ ys) ≡ text_of xs ++ text_of ys
 text_of-append [] ys = refl

@@ -2,3 +2,4 @@ pub mod Reasons
 pub mod Texts
 pub mod Answers
 pub mod Refused
+pub mod Prelude

@@ -1,8 +1,8 @@
 -- Why a microprogram or a store file is refused: what follows the file's name in the message.
 use Rattle.std.specs.Prelude.{ℕ, ◌<◌, List, ◌++◌, codes, Option, Some, None, option_map, slice_get, unwrap_or}
 use Rattle.std.specs.Fmt.{decimal}
-use Rattle.mic_base.specs.Digits.{hex_text}
-use Rattle.cli_outside.specs.Messages.{of_file, of_line}
+use Rattle.mic_base.specs.Prelude.{hex_text}
+use Rattle.cli_outside.specs.Prelude.{of_file, of_line}
 use Rattle.mal_parser.specs.declared.error.MalError.{MalError}
 use Rattle.mal_parser.specs.declared.error.MalError.TheVariants as mal
 use Rattle.mal_parser.specs.declared.statement.Statement.{Statement}

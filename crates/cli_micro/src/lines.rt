@@ -1,9 +1,7 @@
 //! The lines that both commands print: an address and its word first, a newline last.
 
 ghost use Rattle.std.specs.Prelude.{◌≡◌, ◌≤◌, ◌<◌, ◌+◌, ◌++◌, ◌∷◌, [], length, OnOk, IsTrue};
-ghost use Rattle.micro_word.specs.Words.{is_canonical, is_valid};
-ghost use Rattle.micro_word.specs.Coding.{statement_of};
-ghost use Rattle.micro_word.specs.ControlStore.{IsStore};
+ghost use Rattle.micro_word.specs.Prelude.{is_canonical, is_valid, statement_of, IsStore};
 ghost use Rattle.cli_micro.specs.Texts.{word_digits, word_text};
 
 use mic_base::Line;

@@ -2,7 +2,7 @@
 use Rattle.std.proofs.Common.{◌≡◌, ◌≢◌, ◌<◌, ℕ, List, Option, Some, None, length, arith, refl, Result, Err}
 use Rattle.std.specs.Prelude.{IfSome, IsSomeAnd, replicate}
 use Rattle.std.proofs.lemmas.List.{length-replicate}
-use Rattle.mic_base.specs.Files.{Contents, Tells, file_in, most_bytes}
+use Rattle.mic_base.specs.Prelude.{Contents, Tells, file_in, most_bytes}
 use Rattle.mic_base.specs.declared.files.FileError.{FileError}
 use Rattle.mic_base.specs.declared.files.FileError.TheVariants as errors
 

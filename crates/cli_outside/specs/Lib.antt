@@ -4,3 +4,4 @@ pub mod Messages
 pub mod Work
 pub mod Ways
 pub mod Given
+pub mod Prelude

@@ -2,9 +2,7 @@
 use Rattle.std.specs.Prelude.{◌≡◌, ℕ, List, ◌++◌, take, Option, Result}
 use Rattle.std.specs.Option.{option_map}
 use Rattle.std.specs.Borrow.{Bor, GName, MutBor}
-use Rattle.mic_base.specs.Causes.{Rose}
-use Rattle.mic_base.specs.Files.{Contents}
-use Rattle.mic_base.specs.Streams.{IsFlushed, Puts}
+use Rattle.mic_base.specs.Prelude.{Rose, Contents, IsFlushed, Puts}
 use Rattle.cli_outside.specs.Status as exits
 
 -- what a sink holds and what it has passed on of that, where these are known, and how often it has failed

@@ -1,7 +1,6 @@
 -- How a command ends that reads one file: it gets nothing from the file, or this is done over what the file holds.
 use Rattle.std.specs.Prelude.{◌≡◌, ◌<◌, ◌≤◌, ℕ, List, length, Option, None, Some, MatchOption, IsSomeAnd, Result, IfErr}
-use Rattle.mic_base.specs.Causes.{Rose}
-use Rattle.mic_base.specs.Files.{Contents, KeepsOthers, Tells, most_bytes}
+use Rattle.mic_base.specs.Prelude.{Rose, Contents, KeepsOthers, Tells, most_bytes}
 use Rattle.cli_outside.specs.Status as exits
 use Rattle.cli_outside.specs.Outside.{LentView, Over, OutsideView, PrintsOnOut, TellsOnErr, with_files}
 use Rattle.cli_outside.specs.Messages.{cannot_read, cannot_write, message, out_of_memory, too_many_bytes}

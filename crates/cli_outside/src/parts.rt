@@ -2,7 +2,7 @@
 
 ghost use Rattle.std.specs.Prelude.{◌≡◌, ◌≤◌, ◌+◌, ◌++◌, length};
 ghost use Rattle.std.specs.Fmt.{decimal, signed_decimal};
-ghost use Rattle.mic_base.specs.Digits.{hex_text};
+ghost use Rattle.mic_base.specs.Prelude.{hex_text};
 ghost use Rattle.cli_outside.specs.Messages.{of_line};
 
 use itoa::Buffer;

@@ -1,8 +1,7 @@
 //! Texts that are put to a sink.
 
 ghost use Rattle.std.specs.Prelude.{◌≡◌, ℕ, OnOk};
-ghost use Rattle.mic_base.specs.Causes.{HasCause};
-ghost use Rattle.mic_base.specs.Streams.{IsFlushed, KeepsFront};
+ghost use Rattle.mic_base.specs.Prelude.{HasCause, IsFlushed, KeepsFront};
 ghost use Rattle.cli_outside.specs.Status as exits;
 ghost use Rattle.cli_outside.specs.Messages.{message, out_of_memory};
 ghost use Rattle.cli_outside.specs.Outside.{PutsBehind, SaysTo, StaysPut};

@@ -7,8 +7,8 @@ use Rattle.std.proofs.lemmas.List.Folds.{concat-append}
 use Rattle.std.specs.List.{concat}
 use Rattle.std.proofs.Math.ListN.{get_or-append}
 use Rattle.std.proofs.Math.Seq.{get_or-append_seam}
-use Rattle.ijvm_image.specs.Image.{ImageView}
-use Rattle.cli_program_texts.specs.Listing.{AreListingLines, IsLineAt, constant_line, pool_text}
+use Rattle.ijvm_image.specs.Prelude.{ImageView}
+use Rattle.cli_program_texts.specs.Prelude.{AreListingLines, IsLineAt, constant_line, pool_text}
 
 -- the lines of the constants from this one on
 pub pool_rest : (index : ℕ) (pool : List ℕ) → index < length pool →

@@ -1,3 +1,4 @@
 pub mod Refusals
 pub mod Summary
 pub mod Listing
+pub mod Prelude

@@ -2,14 +2,12 @@
 use Rattle.std.specs.Prelude.{◌≡◌, ℕ, ◌+◌, List, [], ◌∷◌, ◌++◌, length, slice_get, slice_index, Some, codes}
 use Rattle.std.specs.Fmt.{decimal}
 use Rattle.std.specs.List.{concat}
-use Rattle.mic_base.specs.Digits.{hex_text}
+use Rattle.mic_base.specs.Prelude.{hex_text}
 use Rattle.ijvm_instr.specs.declared.instr.Instr.{Instr}
-use Rattle.ijvm_instr.specs.Instructions.{instr_at}
-use Rattle.ijvm_image.specs.Image.{ImageView, params, others}
-use Rattle.ijvm_instr.specs.Text.{instr_text}
+use Rattle.ijvm_instr.specs.Prelude.{instr_at, instr_text}
+use Rattle.ijvm_image.specs.Prelude.{ImageView, params, others}
 use Rattle.verifier_facts.specs.declared.kind.Kind.TheVariants as kinds
-use Rattle.verifier_facts.specs.Accepted.{VerifiedView}
-use Rattle.verifier_facts.specs.Kinds.{IsKind}
+use Rattle.verifier_facts.specs.Prelude.{VerifiedView, IsKind}
 
 abbrev pub constant_line : ℕ → ℕ → List ℕ
 constant_line index value = codes "pool " ++ decimal index ++ codes " " ++ hex_text 8 value ++ codes "\n"

@@ -1,8 +1,8 @@
 -- What is printed of a file that holds no accepted program: the table of messages. Numbers are decimal, and addresses have 8 hexadecimal digits.
 use Rattle.std.specs.Prelude.{ℕ, List, ◌++◌, Option, Some, None, codes}
 use Rattle.std.specs.Fmt.{decimal, signed_decimal}
-use Rattle.mic_base.specs.Digits.{hex_text}
-use Rattle.cli_outside.specs.Messages.{of_file, of_line}
+use Rattle.mic_base.specs.Prelude.{hex_text}
+use Rattle.cli_outside.specs.Prelude.{of_file, of_line}
 use Rattle.ijvm_image.specs.declared.image.ImageError.{ImageError}
 use Rattle.ijvm_image.specs.declared.image.ImageError.TheVariants as images
 use Rattle.ijvm_asm.specs.declared.error.AsmError.{AsmError}

@@ -1,8 +1,7 @@
 -- The lines that `verify` prints of an accepted program, and `assemble` of an image.
 use Rattle.std.specs.Prelude.{◌≡◌, ℕ, List, ◌++◌, length, codes}
 use Rattle.std.specs.Fmt.{decimal}
-use Rattle.verifier_facts.specs.Accepted.{VerifiedView}
-use Rattle.verifier_facts.specs.Facts.{IsMethodCount}
+use Rattle.verifier_facts.specs.Prelude.{VerifiedView, IsMethodCount}
 
 -- the sizes of text and pool, the number of reached methods, and main's locals
 abbrev pub summary : ℕ → ℕ → ℕ → ℕ → List ℕ

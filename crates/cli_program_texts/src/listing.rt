@@ -1,9 +1,9 @@
 //! The listing of an accepted program.
 
 ghost use Rattle.std.specs.Prelude.{◌≡◌, ◌<◌, ◌+◌, ◌*◌, ◌++◌, Some, OnOk, IfOk, slice_index};
-ghost use Rattle.ijvm_image.specs.Image.{params, others};
-ghost use Rattle.ijvm_instr.specs.Instructions.{instr_at};
-ghost use Rattle.verifier_facts.specs.Kinds.{IsKind};
+ghost use Rattle.ijvm_image.specs.Prelude.{params, others};
+ghost use Rattle.ijvm_instr.specs.Prelude.{instr_at};
+ghost use Rattle.verifier_facts.specs.Prelude.{IsKind};
 ghost use Rattle.cli_program_texts.specs.Listing.{AddsLineAt, AddsLines, Lists, byte_line, constant_line, header_line, instr_line, pool_text};
 
 use cli_outside::{addressed, number, numbered};

@@ -2,20 +2,18 @@
 use Rattle.std.proofs.Common.{◌≡◌, ◌∙◌, ℕ, List, Some, sym, subst, true, false, arith}
 use Rattle.console_port.specs.declared.map.MemoryMap.{MemoryMap}
 use Rattle.ijvm_image.specs.declared.image.ImageError.{ImageError}
-use Rattle.ijvm_image.specs.Image.{ImageView, IsWithinLimits}
-use Rattle.ijvm_image.specs.ImageFile.{IsFileOf, IsRefused as IsRefusedFile}
-use Rattle.ijvm_program.specs.Program.{ProgramView}
+use Rattle.ijvm_image.specs.Prelude.{ImageView, IsWithinLimits, IsFileOf}
+use Rattle.ijvm_image.specs.ImageFile.{IsRefused as IsRefusedFile}
+use Rattle.ijvm_program.specs.Prelude.{ProgramView}
 use Rattle.ijvm_asm.specs.declared.error.AsmError.{AsmError}
-use Rattle.ijvm_asm.specs.Text.{SpellsProgram}
+use Rattle.ijvm_asm.specs.Prelude.{SpellsProgram}
 use Rattle.ijvm_asm.specs.Text as assembler
 use Rattle.method_linker.specs.declared.error.LinkError.{LinkError}
 use Rattle.method_linker.specs.declared.error.LinkError.TheVariants as limits
 use Rattle.method_linker.specs.Linked as linker
-use Rattle.verifier_facts.specs.Accepted.{VerifiedView}
-use Rattle.verifier_facts.specs.Facts.{IsMainCount, IsTrueOf}
-use Rattle.verifier_facts.specs.MainCount.{one_count}
-use Rattle.cli_program_texts.specs.Refusals.{link_reason}
-use Rattle.cli_programs.specs.Program.{AsFile, AsSource, IsNoSource, IsOf, IsAcceptedProgram, IsRefusedProgram, IsSource, NoImage, NoProgram, NoSource, NotAccepted, NotLinked, begins_image}
+use Rattle.verifier_facts.specs.Prelude.{VerifiedView, IsMainCount, IsTrueOf, one_count}
+use Rattle.cli_program_texts.specs.Prelude.{link_reason}
+use Rattle.cli_programs.specs.Prelude.{AsFile, AsSource, IsNoSource, IsOf, IsAcceptedProgram, IsRefusedProgram, IsSource, NoImage, NoProgram, NoSource, NotAccepted, NotLinked, begins_image}
 
 -- ---- links
 

@@ -1,21 +1,18 @@
 -- How `soak` ends: a plain source and a plain sink never fail, so the run is never cut.
 use Rattle.std.proofs.Common.{◌≡◌, ◌∙◌, ℕ, List, [], length, Option, Some, None, refl, sym, subst}
-use Rattle.mic_base.specs.Causes.{no_rise}
-use Rattle.console_port.specs.World.{World}
+use Rattle.mic_base.specs.Prelude.{no_rise}
+use Rattle.console_port.specs.Prelude.{World}
 use Rattle.mic_clock.specs.declared.end.End.{End}
 use Rattle.mic_clock.specs.declared.end.End.TheVariants as ends
-use Rattle.mic_clock.specs.Meaning.{Meaning}
-use Rattle.mic_clock.specs.Board.{NoFault, HasEndCause}
-use Rattle.mic_clock.specs.View.{BoardView}
-use Rattle.ijvm_image.specs.Image.{ImageView}
-use Rattle.ijvm_meaning.specs.Cost.{Timing}
-use Rattle.verifier_facts.specs.Accepted.{VerifiedView}
-use Rattle.ijvm_simulation.specs.Simulates.{board_end}
-use Rattle.ijvm_simulation.specs.Headline.{HasRun}
-use Rattle.cli_outside.specs.Outside.{LentView, Over, PrintsOnOut}
-use Rattle.cli_run_texts.specs.Ends.{status_of}
-use Rattle.cli_programs.specs.SoakSummary.{soak_summary}
-use Rattle.cli_programs.specs.SoakEnds.{soak_bound, IsGenerated, SoakEnds, Ran}
+use Rattle.mic_clock.specs.Prelude.{Meaning, NoFault, HasEndCause, BoardView}
+use Rattle.ijvm_image.specs.Prelude.{ImageView}
+use Rattle.ijvm_meaning.specs.Prelude.{Timing}
+use Rattle.verifier_facts.specs.Prelude.{VerifiedView}
+use Rattle.ijvm_simulation.specs.Prelude.{board_end, HasRun}
+use Rattle.cli_outside.specs.Prelude.{LentView, Over, PrintsOnOut}
+use Rattle.cli_run_texts.specs.Prelude.{status_of}
+use Rattle.cli_programs.specs.Prelude.{soak_summary, soak_bound, IsGenerated, SoakEnds}
+use Rattle.cli_programs.specs.SoakEnds.{Ran}
 
 some_is : {A : Type 0} → (x y : A) → Some x ≡ Some y → x ≡ y
 some_is x y e = cc

@@ -5,3 +5,4 @@ pub mod TinyRefusals
 pub mod TinyAnswers
 pub mod SoakSummary
 pub mod SoakEnds
+pub mod Prelude

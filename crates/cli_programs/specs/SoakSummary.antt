@@ -4,7 +4,7 @@ use Rattle.std.specs.Int.{w32, cast_signed}
 use Rattle.std.specs.Fmt.{decimal, signed_decimal}
 use Rattle.mic_clock.specs.declared.end.End.{End}
 use Rattle.mic_clock.specs.declared.counts.Counts.{Counts}
-use Rattle.cli_run_texts.specs.Report.{clocked_head}
+use Rattle.cli_run_texts.specs.Prelude.{clocked_head}
 
 abbrev pub soak_summary : ℕ → End → Counts → ℕ → List ℕ
 soak_summary size end counts tos =

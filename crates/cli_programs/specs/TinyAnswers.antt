@@ -1,11 +1,10 @@
 -- How a command ends that works over the program that a Tiny file compiles to.
 use Rattle.std.specs.Prelude.{ℕ, List, length}
-use Rattle.ijvm_image.specs.ImageFile.{file_of}
-use Rattle.verifier_facts.specs.Accepted.{VerifiedView}
-use Rattle.cli_outside.specs.Outside.{OutsideView}
-use Rattle.cli_outside.specs.Work.{Ends, WritesThenPrints}
-use Rattle.cli_program_texts.specs.Summary.{sizes}
-use Rattle.tiny_compiler.specs.Compiled.{IsCompiled}
+use Rattle.ijvm_image.specs.Prelude.{file_of}
+use Rattle.verifier_facts.specs.Prelude.{VerifiedView}
+use Rattle.cli_outside.specs.Prelude.{OutsideView, Ends, WritesThenPrints}
+use Rattle.cli_program_texts.specs.Prelude.{sizes}
+use Rattle.tiny_compiler.specs.Prelude.{IsCompiled}
 use Rattle.cli_programs.specs.TinyRefusals.{IsRefusedTiny}
 
 -- over the program that a file compiles to

@@ -1,6 +1,6 @@
 //! `assemble SOURCE IMAGE`: the image of a source is written to a file.
 
-ghost use Rattle.cli_outside.specs.Outside.{Over};
+ghost use Rattle.cli_outside.specs.Prelude.{Over};
 ghost use Rattle.cli_programs.specs.Answers.{Assembles};
 
 use crate::program::assembled;

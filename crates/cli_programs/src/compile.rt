@@ -1,6 +1,6 @@
 //! `compile TINY IMAGE`: the image of a Tiny program is written to a file.
 
-ghost use Rattle.cli_outside.specs.Outside.{Over};
+ghost use Rattle.cli_outside.specs.Prelude.{Over};
 ghost use Rattle.cli_programs.specs.TinyAnswers.{Compiles};
 
 use crate::tiny::program_in_tiny;

@@ -1,7 +1,7 @@
 //! The run of a generated program.
 
 ghost use Rattle.std.specs.Prelude.{◌≤◌, ℕ};
-ghost use Rattle.cli_outside.specs.Outside.{Over};
+ghost use Rattle.cli_outside.specs.Prelude.{Over};
 ghost use Rattle.cli_programs.specs.SoakEnds.{IsGenerated, SoakEnds};
 
 use crate::summary::summary;

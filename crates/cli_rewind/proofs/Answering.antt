@@ -2,29 +2,20 @@
 use Rattle.std.proofs.Common.{◌≡◌, ◌≢◌, inl, inr, ◌-◌, ◌^◌, ℕ, zero, suc, List, [], ◌∷◌, Option, Some, None, Result, Ok, Err, refl, sym, ap, subst, ◌∙◌, arith}
 use Rattle.std.specs.Prelude.{OnErr, OnOk}
 use Rattle.std.proofs.lemmas.List.{append-nil}
-use Rattle.mic_base.specs.Streams.{Holds, IsFlushed, KeepsFront}
-use Rattle.mic_base.specs.Causes.{HasCause, Rose}
-use Rattle.console_port.specs.Console.{IsLost}
-use Rattle.console_port.specs.World.{World}
+use Rattle.mic_base.specs.Prelude.{Holds, IsFlushed, KeepsFront, HasCause, Rose}
+use Rattle.console_port.specs.Prelude.{IsLost, World}
 use Rattle.mic_clock.specs.declared.end.End.{End}
 use Rattle.mic_clock.specs.declared.end.End.TheVariants as ends
-use Rattle.mic_clock.specs.Meaning.{Meaning}
-use Rattle.mic_clock.specs.Run.{MicroRun}
-use Rattle.mic_clock.specs.View.{BoardView}
-use Rattle.mic_clock.specs.Board.{ShowsAs, ShowsRun}
-use Rattle.micro_word.specs.ControlStore.{ControlStore}
-use Rattle.mic_rewind.specs.View.{HistoryView}
-use Rattle.mic_rewind.specs.Rewind.{RewindView, state_of}
-use Rattle.cli_outside.specs.Outside.{FilesState, Got, SinkState, SourceState, outside_view}
+use Rattle.mic_clock.specs.Prelude.{Meaning, MicroRun, BoardView, ShowsAs, ShowsRun}
+use Rattle.micro_word.specs.Prelude.{ControlStore}
+use Rattle.mic_rewind.specs.Prelude.{HistoryView, RewindView, state_of}
+use Rattle.cli_outside.specs.Prelude.{FilesState, Got, SinkState, SourceState, outside_view}
 use Rattle.cli_session.specs.declared.reading.Command.{Command}
 use Rattle.cli_session.specs.declared.reading.CommandError.{CommandError}
-use Rattle.cli_session.specs.Fronts.{front_given, front_lost, in_part}
-use Rattle.cli_session.specs.Meaning.{Gone, IsCutShort, IsFrontOf, place}
+use Rattle.cli_session.specs.Prelude.{front_given, front_lost, in_part, Gone, IsCutShort, IsFrontOf, place}
 use Rattle.cli_rewind.specs.declared.table.Verb.{Verb}
-use Rattle.cli_rewind.specs.Commands.{command_of}
-use Rattle.cli_rewind.specs.Stand.{Cut, Does, Follows, IsBrokenOff, IsCutIn, Stand, StandsAt, Told, at_reset, run_at, shown_run, state_at, states_from}
-use Rattle.cli_rewind.specs.Moves.{IsFront, IsMoved, IsPassedOn, IsTold, IsToldInPart, WasCut, Went, scene}
-use Rattle.cli_rewind.specs.Rewinding.{Lasts, RewindingRules, RewindingView, rewinding, rewinding_view, rules_of}
+use Rattle.cli_rewind.specs.Prelude.{command_of, Cut, Does, Follows, IsBrokenOff, IsCutIn, Stand, StandsAt, Told, at_reset, run_at, shown_run, state_at, states_from, IsFront, IsMoved, IsPassedOn, IsTold, IsToldInPart, WasCut, scene, Lasts, RewindingRules, RewindingView, rewinding, rewinding_view, rules_of}
+use Rattle.cli_rewind.specs.Moves.{Went}
 use Rattle.cli_rewind.proofs.Turning.{end_leaves}
 use Rattle.cli_rewind.proofs.Stepping.{stands_with}
 

@@ -2,12 +2,9 @@
 use Rattle.std.proofs.Common.{◌≡◌, ◌<◌, ◌≤◌, inl, inr, ℕ, zero, suc, List, Option, Some, None, sym, subst, ◌∙◌, arith}
 use Rattle.std.proofs.lemmas.Bool.{cases_lt}
 use Rattle.mic_clock.specs.declared.end.End.{End}
-use Rattle.mic_clock.specs.Meaning.{Meaning}
-use Rattle.mic_clock.specs.Run.{MicroRun}
-use Rattle.cli_session.specs.Meaning.{IsFrontOf}
-use Rattle.cli_session.specs.Giving.{OnlyGives}
-use Rattle.cli_session.specs.Fronts.{IsFront, front_same, front_then, held_front, turn_gives}
-use Rattle.cli_rewind.specs.Stand.{GoesForward, Stand, StopsBy, run_at}
+use Rattle.mic_clock.specs.Prelude.{Meaning, MicroRun}
+use Rattle.cli_session.specs.Prelude.{IsFrontOf, OnlyGives, IsFront, front_same, front_then, held_front, turn_gives}
+use Rattle.cli_rewind.specs.Prelude.{GoesForward, Stand, StopsBy, run_at}
 use Rattle.cli_rewind.proofs.Turning.{earlier, turned}
 
 module _ {State : Type 0} (m : Meaning State) (words : List ℕ) where

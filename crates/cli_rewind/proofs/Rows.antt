@@ -1,15 +1,12 @@
 -- Worked rows of the definitions, evaluated.
 use Rattle.std.proofs.Common.{◌≡◌, ℕ, true, Some, Ok, Err, refl}
 use Rattle.std.specs.Prelude.{codes}
-use Rattle.mic_base.specs.Digits.{hex_text}
-use Rattle.mic_base.specs.Number.{number_of}
-use Rattle.mic_clock.specs.Run.{MicroRun}
+use Rattle.mic_base.specs.Prelude.{hex_text, number_of}
+use Rattle.mic_clock.specs.Prelude.{MicroRun}
 use Rattle.cli_session.specs.declared.reading.CommandError.TheVariants.{BadCommand, BadNumber}
-use Rattle.cli_session.specs.Commands.{command_in}
-use Rattle.cli_session.specs.Texts.{word_text}
+use Rattle.cli_session.specs.Prelude.{command_in, word_text}
 use Rattle.cli_rewind.specs.declared.table.Verb.TheVariants as verbs
-use Rattle.cli_rewind.specs.Commands.{command_of, is_quit}
-use Rattle.cli_rewind.specs.Stand.{Stand, back, kept}
+use Rattle.cli_rewind.specs.Prelude.{command_of, is_quit, Stand, back, kept}
 
 -- ---- how lines are read, over 65,536 memory words
 

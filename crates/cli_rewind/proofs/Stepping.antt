@@ -3,18 +3,11 @@ use Rattle.std.proofs.Common.{◌≡◌, ◌≢◌, ◌≤◌, ◌⊎◌, inl, i
 use Rattle.console_port.specs.declared.fault.BusFault.TheVariants as faults
 use Rattle.mic_clock.specs.declared.end.End.{End}
 use Rattle.mic_clock.specs.declared.end.End.TheVariants as ends
-use Rattle.mic_clock.specs.Meaning.{Meaning, UsesConsole}
-use Rattle.mic_clock.specs.Run.{MicroRun, turn, word_at}
-use Rattle.mic_clock.specs.View.{BoardView}
-use Rattle.micro_word.specs.ControlStore.{ControlStore}
-use Rattle.mic_clock.specs.Board.{IsCutByFault, IsTurned, NoFault, ShowsRun}
-use Rattle.mic_rewind.specs.States.{Snapshot}
-use Rattle.mic_rewind.specs.View.{GoesBack, HistoryView, appended}
-use Rattle.mic_rewind.specs.Rewind.{Keeps, RewindView, state_of}
-use Rattle.cli_session.specs.Fronts.{front_lost, is_untaken, one_untaken, untaken_of}
-use Rattle.cli_session.specs.Meaning.{IsFrontOf}
-use Rattle.cli_rewind.specs.Stand.{GoesForward, IsCutForward, Stand, StandsAt, history_at, kept, run_at, shown_run, state_at, states_from}
-use Rattle.cli_rewind.specs.Moves.{IsMoved}
+use Rattle.mic_clock.specs.Prelude.{Meaning, UsesConsole, MicroRun, turn, word_at, BoardView, IsCutByFault, IsTurned, NoFault, ShowsRun}
+use Rattle.micro_word.specs.Prelude.{ControlStore}
+use Rattle.mic_rewind.specs.Prelude.{Snapshot, GoesBack, HistoryView, appended, Keeps, RewindView, state_of}
+use Rattle.cli_session.specs.Prelude.{front_lost, is_untaken, one_untaken, untaken_of, IsFrontOf}
+use Rattle.cli_rewind.specs.Prelude.{GoesForward, IsCutForward, Stand, StandsAt, history_at, kept, run_at, shown_run, state_at, states_from, IsMoved}
 use Rattle.cli_rewind.proofs.Turning.{earlier, stays, turned}
 use Rattle.cli_rewind.proofs.Giving.{cut_whole}
 use Rattle.cli_rewind.proofs.Snapshots.{latest, same_states, states_kept, states_more, states_none, states_split}

@@ -3,8 +3,7 @@ use Rattle.std.proofs.Common.{◌≡◌, ◌≤◌, inl, inr, ℕ, zero, suc, Li
 use Rattle.std.specs.Fn.{iterate}
 use Rattle.std.proofs.lemmas.Bool.{cases_lt}
 use Rattle.mic_clock.specs.declared.end.End.{End}
-use Rattle.mic_clock.specs.Meaning.{Meaning, Outcome, Done, Refused}
-use Rattle.mic_clock.specs.Run.{MicroRun, after_end_or_step, after_step, bounded, end_before, turn, turn_by, turns, word_at}
+use Rattle.mic_clock.specs.Prelude.{Meaning, Outcome, Done, Refused, MicroRun, after_end_or_step, after_step, bounded, end_before, turn, turn_by, turns, word_at}
 
 iterate-suc : {A : Type 0} (h : A → A) (n : ℕ) (x : A) → iterate h (suc n) x ≡ h (iterate h n x)
 iterate-suc h zero x = refl

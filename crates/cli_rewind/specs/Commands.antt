@@ -3,8 +3,7 @@ use Rattle.std.specs.Prelude.{ℕ, Bool, true, false, List, [], ◌∷◌, Optio
 use Rattle.cli_session.specs.declared.reading.Command.{Command}
 use Rattle.cli_session.specs.declared.reading.CommandError.{CommandError}
 use Rattle.cli_session.specs.declared.table.Argument.TheVariants as arguments
-use Rattle.cli_session.specs.Commands.{command_in, is_quit_in}
-use Rattle.cli_session.specs.Table.{CommandForm, command_form}
+use Rattle.cli_session.specs.Prelude.{command_in, is_quit_in, CommandForm, command_form}
 use Rattle.cli_rewind.specs.declared.table.Verb.{Verb}
 use Rattle.cli_rewind.specs.declared.table.Verb.TheVariants as verbs
 

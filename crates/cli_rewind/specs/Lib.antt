@@ -4,3 +4,4 @@ pub mod Stand
 pub mod Moves
 pub mod Rewinding
 pub mod Rewound
+pub mod Prelude

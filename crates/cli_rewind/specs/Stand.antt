@@ -1,18 +1,12 @@
 -- Where a session stands, and what a line does there: the definition of rewinding.
 use Rattle.std.specs.Prelude.{◌≡◌, ◌<◌, ◌≤◌, ℕ, zero, suc, ◌+◌, ◌-◌, min, max, nat_le, List, [], ◌∷◌, Option, Some, None, Result, Ok, Err}
 use Rattle.mic_clock.specs.declared.end.End.{End}
-use Rattle.mic_clock.specs.Meaning.{Meaning, UsesConsole}
-use Rattle.mic_clock.specs.Run.{MicroRun, turns, word_at}
-use Rattle.mic_clock.specs.Board.{ShowsRun}
-use Rattle.mic_rewind.specs.States.{Snapshot}
-use Rattle.mic_rewind.specs.View.{HistoryView}
-use Rattle.mic_rewind.specs.Rewind.{RewindView, snapshot_of}
+use Rattle.mic_clock.specs.Prelude.{Meaning, UsesConsole, MicroRun, turns, word_at, ShowsRun}
+use Rattle.mic_rewind.specs.Prelude.{Snapshot, HistoryView, RewindView, snapshot_of}
 use Rattle.cli_session.specs.declared.reading.Command.{Command}
 use Rattle.cli_session.specs.declared.reading.CommandError.{CommandError}
-use Rattle.cli_session.specs.Giving.{OnlyGives}
-use Rattle.cli_session.specs.Meaning.{IsFrontOf}
-use Rattle.cli_session.specs.Texts.{state_text, word_line}
-use Rattle.cli_outside.specs.Outside.{GotInPart}
+use Rattle.cli_session.specs.Prelude.{OnlyGives, IsFrontOf, state_text, word_line}
+use Rattle.cli_outside.specs.Prelude.{GotInPart}
 use Rattle.cli_rewind.specs.declared.table.Verb.{Verb}
 use Rattle.cli_rewind.specs.declared.table.Verb.TheVariants as verbs
 use Rattle.cli_rewind.specs.Commands.{command_of}

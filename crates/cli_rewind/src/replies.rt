@@ -1,7 +1,7 @@
 //! What a line does, and what it prints.
 
 ghost use Rattle.std.specs.Prelude.{◌≡◌, ◌≢◌, ◌≤◌, ◌+◌, ◌^◌, Some, Ok, OnErr, IfOk};
-ghost use Rattle.cli_session.specs.Texts.{state_text, word_line};
+ghost use Rattle.cli_session.specs.Prelude.{state_text, word_line};
 ghost use Rattle.cli_rewind.specs.Lines.{back_text};
 ghost use Rattle.cli_rewind.specs.Stand.{as_read};
 ghost use Rattle.cli_rewind.specs.Moves.{ObeysBack, WasCutBy, WentBy};

@@ -1,7 +1,7 @@
 //! A session over an accepted program.
 
 ghost use Rattle.std.specs.Prelude.{◌≡◌, ◌≤◌, ◌<◌, IfOk};
-ghost use Rattle.mic_base.specs.Plain.{plain_left};
+ghost use Rattle.mic_base.specs.Prelude.{plain_left};
 ghost use Rattle.cli_rewind.specs.Rewinding.{rewinding_at};
 ghost use Rattle.cli_rewind.specs.Rewound.{IsStartOf, RewindsPrepared, status_after};
 

@@ -1,8 +1,8 @@
 //! What does the lines of a rewinding session.
 
 ghost use Rattle.std.specs.Prelude.{◌≡◌, ◌∷◌, ℕ, suc, [], IfOk, OnOk, OnErr};
-ghost use Rattle.cli_outside.specs.Outside.{FilesState, SourceState, outside_view, sink_of};
-ghost use Rattle.cli_session.specs.Meaning.{Gone, IsCutShort, place};
+ghost use Rattle.cli_outside.specs.Prelude.{FilesState, SourceState, outside_view, sink_of};
+ghost use Rattle.cli_session.specs.Prelude.{Gone, IsCutShort, place};
 ghost use Rattle.cli_rewind.specs.Commands.{is_quit};
 ghost use Rattle.cli_rewind.specs.Rewinding.{IsCutAt, Lasts, LastsOneLess, rewinding, rewinding_at};
 
@@ -79,7 +79,7 @@ fn answer_line<M: Clocked, F: Files, S: Source, K: Sink, E: Sink>(
 }
 
 impl<M: Clocked> LineSession for Rewinding<M> {
-    ghost use Rattle.mic_base.specs.Plain.{plain_left};
+    ghost use Rattle.mic_base.specs.Prelude.{plain_left};
     ghost use Rattle.cli_rewind.specs.Rewinding.{RewindingRules, RewindingView, rewinding, rewinding_view};
     ghost use Rattle.cli_rewind.specs.Stand.{Stand};
 

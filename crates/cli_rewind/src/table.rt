@@ -1,7 +1,7 @@
 //! The table of a session's commands: the word of each, and what follows it.
 
 ghost use Rattle.std.specs.Prelude.{◌≡◌};
-ghost use Rattle.cli_session.specs.Commands.{is_quit_in};
+ghost use Rattle.cli_session.specs.Prelude.{is_quit_in};
 ghost use Rattle.cli_rewind.specs.Commands.{command_of, is_quit_verb};
 
 use cli_session::{Argument, Command, CommandError, CommandRow};

@@ -1,6 +1,6 @@
 -- How a run ended: the name that its report gives, and the status.
 use Rattle.std.specs.Prelude.{ℕ, List, ◌++◌, codes}
-use Rattle.mic_base.specs.Digits.{hex_text}
+use Rattle.mic_base.specs.Prelude.{hex_text}
 use Rattle.cli_outside.specs.Status as exits
 use Rattle.mic_clock.specs.declared.end.End.{End}
 use Rattle.mic_clock.specs.declared.end.End.TheVariants as ends

@@ -1,13 +1,13 @@
 -- The report of a run, as bytes: its end, its counts and the last boundary, and of a clocked run the registers. Words have 8 hexadecimal digits in lower case.
 use Rattle.std.specs.Prelude.{ℕ, List, ◌++◌, Option, Some, None, codes}
 use Rattle.std.specs.Fmt.{decimal}
-use Rattle.mic_base.specs.Digits.{hex_text}
+use Rattle.mic_base.specs.Prelude.{hex_text}
 use Rattle.mic_clock.specs.declared.end.End.{End}
 use Rattle.mic_clock.specs.declared.end.End.TheVariants as ends
 use Rattle.mic_clock.specs.declared.counts.Boundary.{Boundary}
 use Rattle.mic_clock.specs.declared.counts.Counts.{Counts}
 use Rattle.mic_clock.specs.declared.registers.Registers.{Registers}
-use Rattle.mic_clock.specs.State.{state_line}
+use Rattle.mic_clock.specs.Prelude.{state_line}
 use Rattle.ijvm_reference.specs.declared.plain.PlainReport.{PlainReport}
 use Rattle.cli_run_texts.specs.Ends.{clocked_end, end_name}
 

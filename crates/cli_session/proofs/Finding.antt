@@ -1,7 +1,7 @@
 -- The row that a word names is that of the command with that word.
 use Rattle.std.proofs.Common.{◌≡◌, refl, ℕ, Bool, true, false, List, [], ◌∷◌, map, Option, find, bytes_eq}
 use Rattle.std.specs.Option.{option_map}
-use Rattle.cli_session.specs.Table.{form_of, row_in}
+use Rattle.cli_session.specs.Prelude.{form_of, row_in}
 use Rattle.cli_session.specs.declared.table.CommandRow.{CommandRow}
 
 found : {V : Type 0} (word : List ℕ) (rows : List (CommandRow V)) →

@@ -4,16 +4,13 @@ use Rattle.std.specs.Prelude.{if◌then◌else◌, IfSome, Ok}
 use Rattle.std.specs.Option.{option_map}
 use Rattle.std.proofs.lemmas.List.{append-nil, length-append}
 use Rattle.std.proofs.lemmas.List.Elements.{All-append, All-cons}
-use Rattle.mic_base.specs.Causes.{Rose}
-use Rattle.cli_outside.specs.Outside.{Got, SinkState}
+use Rattle.mic_base.specs.Prelude.{Rose}
+use Rattle.cli_outside.specs.Prelude.{Got, SinkState}
 use Rattle.cli_session.specs.declared.line.Read.{Read}
 use Rattle.cli_session.specs.declared.line.Read.TheVariants as reads
 use Rattle.cli_session.specs.declared.lines.Step.{Step}
 use Rattle.cli_session.specs.declared.lines.Step.TheVariants as steps
-use Rattle.cli_session.specs.Told.{IsCutLine, IsFirstLine, ReadsLineOf, behind_line, line_in}
-use Rattle.cli_session.specs.Lines.{IsReadOn, IsReadOut, MayGoOn, left_after, lines_of}
-use Rattle.cli_session.specs.Meaning.{AreDone, AtOnce, DoesAll, Gone, IsCutShort, Place, SessionMeaning, Then}
-use Rattle.cli_session.specs.Goes.{ConsoleFailed, Goes, On, Over, SinkFailed, step_behind}
+use Rattle.cli_session.specs.Prelude.{IsCutLine, IsFirstLine, ReadsLineOf, behind_line, line_in, IsReadOn, IsReadOut, MayGoOn, left_after, lines_of, AreDone, AtOnce, DoesAll, Gone, IsCutShort, Place, SessionMeaning, Then, ConsoleFailed, Goes, On, Over, SinkFailed, step_behind}
 
 -- ---- what is printed
 

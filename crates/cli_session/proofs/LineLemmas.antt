@@ -6,7 +6,7 @@ use Rattle.std.proofs.lemmas.Bool.Decides.{nat_tests}
 use Rattle.std.proofs.lemmas.List.{append-nil, length-append}
 use Rattle.std.proofs.lemmas.Option.{same_Some}
 use Rattle.cli_session.specs.declared.line.Read.TheVariants as reads
-use Rattle.cli_session.specs.Told.{IsFirstLine, ReadsLine, behind_line, line_in}
+use Rattle.cli_session.specs.Prelude.{IsFirstLine, ReadsLine, behind_line, line_in}
 
 -- the bytes of the line that were read so far, and those that are left
 pub record IsUnderway (told line rest : List ℕ) : Type 0 where

@@ -1,7 +1,7 @@
 -- How a line is read as a command of a table.
 use Rattle.std.specs.Prelude.{ℕ, ℤ, pos, negsuc, ◌==◌, ◌&&◌, ◌||◌, Bool, false, not, List, length, take, drop, nat_le, nat_lt, if◌then◌else◌, Option, Some, None, Result, Ok, Err}
 use Rattle.std.specs.List.{prefix_len}
-use Rattle.mic_base.specs.Number.{number_of}
+use Rattle.mic_base.specs.Prelude.{number_of}
 use Rattle.mic_base.specs.declared.number.NumberError.{NumberError}
 use Rattle.cli_session.specs.declared.table.Argument.{Argument}
 use Rattle.cli_session.specs.declared.table.Argument.TheVariants as arguments

@@ -4,11 +4,10 @@ use Rattle.std.specs.Prelude.{OnErr}
 use Rattle.std.specs.Option.{option_map}
 use Rattle.std.proofs.lemmas.List.{append-nil, take-append-drop}
 use Rattle.std.proofs.Math.Seq.{take-length}
-use Rattle.console_port.specs.Console.{Given, IsLost, Untaken}
+use Rattle.console_port.specs.Prelude.{Given, IsLost, Untaken}
 use Rattle.mic_clock.specs.declared.end.End.{End}
-use Rattle.mic_clock.specs.Meaning.{Meaning, Outcome, Done, Refused}
-use Rattle.mic_clock.specs.Run.{MicroRun, after_end_or_step, after_step, end_before, turn_by, word_at}
-use Rattle.cli_outside.specs.Outside.{Got, GotInPart}
+use Rattle.mic_clock.specs.Prelude.{Meaning, Outcome, Done, Refused, MicroRun, after_end_or_step, after_step, end_before, turn_by, word_at}
+use Rattle.cli_outside.specs.Prelude.{Got, GotInPart}
 use Rattle.cli_session.specs.Meaning.{IsFrontOf}
 use Rattle.cli_session.specs.Giving.{OnlyGives}
 

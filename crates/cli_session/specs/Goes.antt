@@ -1,7 +1,7 @@
 -- How a session goes on line by line, between the console and the two sinks.
 use Rattle.std.specs.Prelude.{◌≡◌, ℕ, Bool, true, false, List, Some, IfSome}
-use Rattle.mic_base.specs.Causes.{Rose}
-use Rattle.cli_outside.specs.Outside.{LentView}
+use Rattle.mic_base.specs.Prelude.{Rose}
+use Rattle.cli_outside.specs.Prelude.{LentView}
 use Rattle.cli_session.specs.declared.line.Read.{Read}
 use Rattle.cli_session.specs.declared.line.Read.TheVariants as reads
 use Rattle.cli_session.specs.declared.lines.Step.{Step}

@@ -1,7 +1,6 @@
 -- The input of a program whose session takes its lines from the console, and how a command ends that takes that input from a file.
 use Rattle.std.specs.Prelude.{◌≡◌, ℕ, List, [], Option, Some, None}
-use Rattle.cli_outside.specs.Outside.{OutsideView}
-use Rattle.cli_outside.specs.Work.{IsFileRead, IsUnread}
+use Rattle.cli_outside.specs.Prelude.{OutsideView, IsFileRead, IsUnread}
 
 -- the bytes of the named file, or none where no file is named
 abbrev pub IsInput : Option (List ℕ) → OutsideView → List ℕ → Type 0

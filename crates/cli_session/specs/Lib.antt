@@ -8,3 +8,4 @@ pub mod Table
 pub mod Commands
 pub mod Input
 pub mod Texts
+pub mod Prelude

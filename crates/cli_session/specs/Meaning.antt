@@ -1,9 +1,8 @@
 -- What the lines of a session do: where they lead it, one after the other, and what a failing sink leaves.
 use Rattle.std.specs.Prelude.{◌≡◌, ◌≤◌, ◌⊎◌, ℕ, suc, Bool, List, [], ◌∷◌, ◌++◌, length, Option, IfSome}
-use Rattle.mic_base.specs.Causes.{Rose}
-use Rattle.mic_base.specs.Streams.{KeepsFront}
-use Rattle.console_port.specs.Console.{StaysFlushed}
-use Rattle.cli_outside.specs.Outside.{Got, LentView, OutsideView}
+use Rattle.mic_base.specs.Prelude.{Rose, KeepsFront}
+use Rattle.console_port.specs.Prelude.{StaysFlushed}
+use Rattle.cli_outside.specs.Prelude.{Got, LentView, OutsideView}
 
 -- what a sink holds is a front of these bytes, where that is known
 abbrev pub IsFrontOf : Option (List ℕ) → List ℕ → Type 0

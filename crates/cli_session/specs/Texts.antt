@@ -1,10 +1,10 @@
 -- Lines that sessions print. Words have 8 hexadecimal digits in lower case.
 use Rattle.std.specs.Prelude.{ℕ, List, ◌++◌, codes, slice_get, unwrap_or}
-use Rattle.mic_base.specs.Digits.{hex_text}
+use Rattle.mic_base.specs.Prelude.{hex_text}
 use Rattle.mic_clock.specs.declared.end.End.{End}
 use Rattle.mic_clock.specs.declared.registers.Registers.{Registers}
-use Rattle.mic_clock.specs.State.{state_line}
-use Rattle.cli_run_texts.specs.Ends.{end_name}
+use Rattle.mic_clock.specs.Prelude.{state_line}
+use Rattle.cli_run_texts.specs.Prelude.{end_name}
 
 unfoldable pub end_line : End → List ℕ
 end_line e = codes "end " ++ end_name e ++ codes "\n"

@@ -1,8 +1,7 @@
 //! The input of the program that a session is about.
 
 ghost use Rattle.std.specs.Prelude.{◌≡◌, IfOk, OnOk};
-ghost use Rattle.cli_outside.specs.Outside.{name_in};
-ghost use Rattle.cli_outside.specs.Work.{OverIfErr};
+ghost use Rattle.cli_outside.specs.Prelude.{name_in, OverIfErr};
 ghost use Rattle.cli_session.specs.Input.{IsInput, IsNoInput};
 
 use cli_outside::{Outside, Status};

@@ -1,7 +1,7 @@
 //! One line of the console.
 
 ghost use Rattle.std.specs.Prelude.{◌≡◌, ◌==◌, if◌then◌else◌};
-ghost use Rattle.mic_base.specs.Causes.{HasCause};
+ghost use Rattle.mic_base.specs.Prelude.{HasCause};
 ghost use Rattle.cli_session.specs.Told.{ReadsLine};
 
 use arrayvec::ArrayVec;

@@ -2,7 +2,7 @@
 
 ghost use Rattle.std.specs.Prelude.{◌≡◌, ◌≤◌, length, map};
 ghost use Rattle.std.specs.List.{prefix_len};
-ghost use Rattle.mic_base.specs.Number.{number_of};
+ghost use Rattle.mic_base.specs.Prelude.{number_of};
 ghost use Rattle.cli_session.specs.Commands.{behind_word, command_in, first_word, is_blank, is_word_byte, ranged, unindented, with_argument};
 ghost use Rattle.cli_session.specs.Table.{form_of};
 

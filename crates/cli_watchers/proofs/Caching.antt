@@ -9,17 +9,15 @@ use Rattle.mic_words.specs.declared.machine.Machine.{Machine}
 use Rattle.mic_words.specs.declared.machine.Machine.TheVariants.{Mic1, Mic2}
 use Rattle.micro_word.specs.declared.statement.Mem.{Mem}
 use Rattle.micro_word.specs.declared.statement.Mem.TheVariants as mems
-use Rattle.micro_word.specs.Coding.{statement_of}
-use Rattle.console_port.specs.View.{BusView}
+use Rattle.micro_word.specs.Prelude.{statement_of}
+use Rattle.console_port.specs.Prelude.{BusView}
 use Rattle.mic_clock.specs.declared.registers.Registers.{Registers}
 use Rattle.mic_watched.specs.declared.cycle.Cycle.{Cycle}
-use Rattle.mic_watched.specs.Watched.{kept_of}
+use Rattle.mic_watched.specs.Prelude.{kept_of}
 use Rattle.mem_cache.specs.declared.counts.CacheCounts.{CacheCounts}
-use Rattle.mem_cache.specs.Accesses.{Access, Read, Write, Fetch, asks_for, hits_of, misses_of}
-use Rattle.mem_cache.specs.Tally.{Tally, after_asking, after_hit, after_miss, counted, empty_tally, has_block}
-use Rattle.mem_cache.specs.View.{AllLead, CacheView, answered}
+use Rattle.mem_cache.specs.Prelude.{Access, Read, Write, Fetch, asks_for, hits_of, misses_of, Tally, after_asking, after_hit, after_miss, counted, empty_tally, has_block, AllLead, CacheView, answered}
 use Rattle.cli_watchers.specs.declared.cache.WordAccess.{WordAccess}
-use Rattle.cli_watchers.specs.Cached.{CacheKept, SaysNothing, access_at, access_in, accesses_by, accesses_of, after_access, after_cycle, all_counted, at_mar, at_pc, counts_of, has_room, kept_after, kept_of_cycles}
+use Rattle.cli_watchers.specs.Prelude.{CacheKept, SaysNothing, access_at, access_in, accesses_by, accesses_of, after_access, after_cycle, all_counted, at_mar, at_pc, counts_of, has_room, kept_after, kept_of_cycles}
 
 -- ---- one access
 

@@ -7,12 +7,11 @@ use Rattle.std.proofs.lemmas.List.{get_or-set_other, length-set}
 use Rattle.std.proofs.lemmas.Option.{unwrap_or-slice_get}
 use Rattle.mic_clock.specs.declared.counts.Boundary.{Boundary}
 use Rattle.mic_clock.specs.declared.end.End.{End}
-use Rattle.mic_clock.specs.Run.{completes}
+use Rattle.mic_clock.specs.Prelude.{completes}
 use Rattle.mic_watched.specs.declared.cycle.Cycle.{Cycle}
-use Rattle.mic_watched.specs.Watched.{kept_of}
+use Rattle.mic_watched.specs.Prelude.{kept_of}
 use Rattle.cli_watchers.specs.declared.profiler.RowCount.{RowCount}
-use Rattle.cli_watchers.specs.Profile.{Profile, Silent, boot_of, completed, more, no_tally, plus, profile_after, reached_at, row_at, start_profile, tallies_at, tally_at}
-use Rattle.cli_watchers.specs.Counted.{AreClockedAfter, Completed, Reached, boot_cycles, boundaries_of, completed_from, completed_in, cut_cycles, cut_from, cycles_of, end_after, of_row, reached_by, tally_of}
+use Rattle.cli_watchers.specs.Prelude.{Profile, Silent, boot_of, completed, more, no_tally, plus, profile_after, reached_at, row_at, start_profile, tallies_at, tally_at, AreClockedAfter, Completed, Reached, boot_cycles, boundaries_of, completed_from, completed_in, cut_cycles, cut_from, cycles_of, end_after, of_row, reached_by, tally_of}
 
 -- ---- the steps, as a list of completed instructions
 

@@ -5,8 +5,8 @@ use Rattle.std.proofs.lemmas.Option.{slice_get_within, get_or_from_slice_get, sl
 use Rattle.std.proofs.Math.ListN.{get_or-append}
 use Rattle.std.proofs.Math.Seq.{get_or-append_seam}
 use Rattle.std.proofs.lemmas.Bool.{cases_lt}
-use Rattle.ijvm_image.specs.Image.{ImageView}
-use Rattle.cli_watchers.specs.Rows.{AreRowsUpTo, IsRowAt}
+use Rattle.ijvm_image.specs.Prelude.{ImageView}
+use Rattle.cli_watchers.specs.Prelude.{AreRowsUpTo, IsRowAt}
 
 -- a member of a list with one more is of the list, or is the one more
 last_or_before : (xs : List ℕ) (x k y : ℕ) → slice_get (xs ++ x ∷ []) k ≡ Some y → (slice_get xs k ≡ Some y) ⊎ ((k ≡ length xs) × (x ≡ y))

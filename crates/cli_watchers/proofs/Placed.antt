@@ -1,9 +1,8 @@
 -- The statements of a placed program.
 use Rattle.std.proofs.Common.{◌≡◌, ℕ, List, length, ◌∙◌}
 use Rattle.std.proofs.lemmas.List.{length-map}
-use Rattle.mal_parser.specs.Program.{MalView}
-use Rattle.store_placement.specs.Placement.{Places}
-use Rattle.store_placement.specs.Program.{demands_of}
+use Rattle.mal_parser.specs.Prelude.{MalView}
+use Rattle.store_placement.specs.Prelude.{Places, demands_of}
 
 -- each has an address
 pub placed_count : (p : MalView) (addresses : List ℕ) → Places (demands_of p) addresses → length addresses ≡ length p.statements

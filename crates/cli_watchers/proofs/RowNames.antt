@@ -2,8 +2,8 @@
 use Rattle.std.proofs.Common.{◌≡◌, refl}
 use Rattle.ijvm_instr.specs.declared.instr.Instr.{Instr}
 use Rattle.ijvm_instr.specs.declared.instr.Instr.TheVariants as instrs
-use Rattle.ijvm_instr.specs.Instructions.{mnemonic_of}
-use Rattle.cli_watchers.specs.Rows.{row_name, row_number}
+use Rattle.ijvm_instr.specs.Prelude.{mnemonic_of}
+use Rattle.cli_watchers.specs.Prelude.{row_name, row_number}
 
 pub named : (i : Instr) → row_name (row_number i) ≡ mnemonic_of i
 named instrs.Nop = refl

@@ -4,14 +4,12 @@ use Rattle.std.specs.Fmt.{decimal}
 use Rattle.mic_words.specs.declared.machine.Machine.{Machine}
 use Rattle.micro_word.specs.declared.statement.Mem.{Mem}
 use Rattle.micro_word.specs.declared.statement.Mem.TheVariants as mems
-use Rattle.micro_word.specs.Coding.{statement_of}
+use Rattle.micro_word.specs.Prelude.{statement_of}
 use Rattle.mic_clock.specs.declared.registers.Registers.{Registers}
 use Rattle.mic_watched.specs.declared.cycle.Cycle.{Cycle}
-use Rattle.mic_watched.specs.Watched.{kept_of}
+use Rattle.mic_watched.specs.Prelude.{kept_of}
 use Rattle.mem_cache.specs.declared.counts.CacheCounts.{CacheCounts}
-use Rattle.mem_cache.specs.Accesses.{Access, Read, Write, Fetch, hits_of, misses_of}
-use Rattle.mem_cache.specs.View.{CacheView}
-use Rattle.mem_cache.specs.Tally.{Tally, counted, empty_tally}
+use Rattle.mem_cache.specs.Prelude.{Access, Read, Write, Fetch, hits_of, misses_of, CacheView, Tally, counted, empty_tally}
 use Rattle.cli_watchers.specs.declared.cache.CacheWatcher.{CacheWatcher}
 use Rattle.cli_watchers.specs.declared.cache.WordAccess.{WordAccess}
 

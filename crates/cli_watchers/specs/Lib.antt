@@ -5,3 +5,4 @@ pub mod Profile
 pub mod Counted
 pub mod Cached
 pub mod Counting
+pub mod Prelude

@@ -1,13 +1,12 @@
 -- The lines that a trace prints of a clocked cycle.
 use Rattle.std.specs.Prelude.{◌≡◌, ℕ, List, [], ◌++◌, Bool, true, false, not, ◌&&◌, if◌then◌else◌, Option, Some, None, Result, codes}
 use Rattle.std.specs.Fmt.{decimal}
-use Rattle.mic_base.specs.Digits.{hex_text}
-use Rattle.mic_base.specs.Streams.{Puts}
-use Rattle.ijvm_image.specs.Image.{ImageView}
-use Rattle.mal_parser.specs.Program.{MalView}
+use Rattle.mic_base.specs.Prelude.{hex_text, Puts}
+use Rattle.ijvm_image.specs.Prelude.{ImageView}
+use Rattle.mal_parser.specs.Prelude.{MalView}
 use Rattle.mic_clock.specs.declared.buses.Drive.{Drive}
 use Rattle.mic_clock.specs.declared.buses.Computed.{Computed}
-use Rattle.mic_clock.specs.State.{state_line}
+use Rattle.mic_clock.specs.Prelude.{state_line}
 use Rattle.mic_watched.specs.declared.cycle.Cycle.{Cycle}
 use Rattle.cli_watchers.specs.Naming.{IsInstruction, IsWord, labelled_text}
 

@@ -4,9 +4,9 @@ use Rattle.std.specs.Fmt.{decimal}
 use Rattle.mic_clock.specs.declared.counts.Boundary.{Boundary}
 use Rattle.mic_clock.specs.declared.counts.Counts.{Counts}
 use Rattle.mic_clock.specs.declared.end.End.{End}
-use Rattle.mic_clock.specs.Run.{completes}
+use Rattle.mic_clock.specs.Prelude.{completes}
 use Rattle.mic_watched.specs.declared.cycle.Cycle.{Cycle}
-use Rattle.mic_watched.specs.Watched.{kept_of}
+use Rattle.mic_watched.specs.Prelude.{kept_of}
 use Rattle.cli_watchers.specs.declared.profiler.Profiler.{Profiler}
 use Rattle.cli_watchers.specs.declared.profiler.RowCount.{RowCount}
 use Rattle.cli_watchers.specs.Rows.{other, row_name}

@@ -1,8 +1,7 @@
 //! Repeats the accesses of a run's cycles on a cache.
 
 ghost use Rattle.std.specs.Prelude.{◌≡◌, ◌≤◌, ◌<◌, ◌+◌, ◌^◌, IfOk, length, map, true};
-ghost use Rattle.mem_cache.specs.Accesses.{Access};
-ghost use Rattle.mem_cache.specs.View.{Counts};
+ghost use Rattle.mem_cache.specs.Prelude.{Access, Counts};
 ghost use Rattle.cli_watchers.specs.Cached.{CountsAll, access_at, access_in, accesses_by, after_access, after_write, at_mar, at_pc, cache_line, has_room};
 
 use cli_outside::number;

@@ -1,8 +1,7 @@
 //! The lines of a cycle.
 
 ghost use Rattle.std.specs.Prelude.{◌≡◌, ◌≤◌, ◌<◌, ◌+◌, ◌++◌, length};
-ghost use Rattle.store_placement.specs.Placement.{Places};
-ghost use Rattle.store_placement.specs.Program.{demands_of};
+ghost use Rattle.store_placement.specs.Prelude.{Places, demands_of};
 ghost use Rattle.cli_watchers.specs.Lines.{ShowsWord, bus_line, cycle_line, flag_text, state_lines};
 
 use crate::names::print_word;

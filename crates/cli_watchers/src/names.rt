@@ -1,9 +1,8 @@
 //! A word of a placed microprogram by its label and its text, and an instruction of an image by its text.
 
 ghost use Rattle.std.specs.Prelude.{◌≡◌, ◌≤◌, ◌<◌, ◌+◌, ◌++◌, codes, length};
-ghost use Rattle.mal_parser.specs.ProgramText.{parts_text};
-ghost use Rattle.store_placement.specs.Placement.{Places};
-ghost use Rattle.store_placement.specs.Program.{demands_of};
+ghost use Rattle.mal_parser.specs.Prelude.{parts_text};
+ghost use Rattle.store_placement.specs.Prelude.{Places, demands_of};
 ghost use Rattle.cli_watchers.specs.Naming.{AddsWord, IsInstruction, IsReached, default_text, label_text, labelled_text};
 
 use ijvm_instr::{Instr, decode_at, print_instr};

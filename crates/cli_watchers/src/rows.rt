@@ -4,7 +4,7 @@ ghost use Rattle.std.specs.Prelude.{◌≡◌, ◌≤◌, ◌<◌, length, slice
 ghost use Rattle.std.specs.List.{position};
 ghost use Rattle.std.specs.Str.{bytes_eq};
 ghost use Rattle.ijvm_instr.specs.declared.instr.Instr.{Instr};
-ghost use Rattle.ijvm_instr.specs.Instructions.{mnemonic_of};
+ghost use Rattle.ijvm_instr.specs.Prelude.{mnemonic_of};
 ghost use Rattle.cli_watchers.specs.Rows.{AreRowsUpTo, IsRowAt, row_name, row_number};
 
 use crate::names::reached_at;

@@ -1,9 +1,8 @@
 //! The trace of a run: the lines of each cycle, put to `err` as it is clocked.
 
 ghost use Rattle.std.specs.Prelude.{ℕ};
-ghost use Rattle.mic_base.specs.Causes.{HasCause};
-ghost use Rattle.store_placement.specs.Placement.{Places};
-ghost use Rattle.store_placement.specs.Program.{demands_of};
+ghost use Rattle.mic_base.specs.Prelude.{HasCause};
+ghost use Rattle.store_placement.specs.Prelude.{Places, demands_of};
 ghost use Rattle.cli_watchers.specs.Lines.{AreLinesOf, IsBoundaryLine, PutsOneBehind, Traced};
 
 use crate::lines::{cycle_line, state_lines};

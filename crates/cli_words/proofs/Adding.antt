@@ -11,7 +11,7 @@ use Rattle.clap.specs.declared.builder.value_parser.Reading.TheVariants.{AsWritt
 use Rattle.clap.specs.declared.parser.matches.ValueSource.TheVariants.{CommandLine}
 use Rattle.clap.specs.declared.error.kind.ErrorKind.{ErrorKind}
 use Rattle.clap.specs.declared.error.kind.ErrorKind.TheVariants as kind
-use Rattle.cli_words.specs.Reading.{Entry, Text, add, has}
+use Rattle.cli_words.specs.Prelude.{Entry, Text, add, has}
 use Rattle.cli_words.proofs.Rules.{TakesOne, flag_rule, valued}
 
 -- what clap holds of an entry

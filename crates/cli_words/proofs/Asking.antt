@@ -6,10 +6,7 @@ use Rattle.clap.specs.Matches.{first_value, found_of}
 use Rattle.clap.specs.declared.parser.matches.ArgMatches.{ArgMatches}
 use Rattle.cli_words.specs.declared.table.CommandName.{CommandName}
 use Rattle.cli_words.specs.declared.table.CommandName.TheVariants as command
-use Rattle.cli_words.specs.Reading.{Entry, Text, reads, text_in}
-use Rattle.cli_words.specs.Table.{form_for, name_for}
-use Rattle.cli_words.specs.Taking.{HoldsGiven, TakesAs, bytes_of}
-use Rattle.cli_words.specs.Words.{asked_by, asked_of, is_true, request_of}
+use Rattle.cli_words.specs.Prelude.{Entry, Text, reads, text_in, form_for, name_for, HoldsGiven, TakesAs, bytes_of, asked_by, asked_of, is_true, request_of}
 
 -- a flag that is not given reads as one that is `false`
 same_flag : (given : Option Text) → is_true (Some (unwrap_or given (codes "false"))) ≡ is_true given

@@ -13,7 +13,7 @@ use Rattle.clap.specs.Walk.{Held, Row, Rule, finished, has_row, more_values, not
 use Rattle.clap.specs.declared.builder.value_parser.Reading.TheVariants.{AsWritten}
 use Rattle.clap.specs.declared.parser.matches.ValueSource.TheVariants.{DefaultValue}
 use Rattle.clap.specs.declared.error.kind.ErrorKind.TheVariants as kind
-use Rattle.cli_words.specs.Reading.{Entry, Form, Text, any, has, is_complete, is_in, read, reads}
+use Rattle.cli_words.specs.Prelude.{Entry, Form, Text, any, has, is_complete, is_in, read, reads}
 use Rattle.cli_words.proofs.Rules.{TakesOne, app_with, by_id_option, by_id_plain, by_long, by_short, built_is, fits, flag_rule, flag_rules, given_rules, next, option_rule, option_rules, plain_rule, valued, own_text, plain_rules, rules_for, shape_with}
 use Rattle.cli_words.proofs.Adding.{IsFault, no_row, rows}
 use Rattle.cli_words.proofs.Walks.{Known, keep, rest, rest_is, walk_at, walks}

@@ -6,8 +6,7 @@ use Rattle.clap.specs.Matches.{first_value, found_of}
 use Rattle.clap.proofs.WalkLemmas.{first_value-rows}
 use Rattle.clap.specs.Walk.{Row, first_of, has_row, rows_of}
 use Rattle.clap.specs.declared.parser.matches.ArgMatches.{ArgMatches}
-use Rattle.cli_words.specs.Reading.{Entry, Form, Text, has, is_in, text_in}
-use Rattle.cli_words.specs.Taking.{HoldsGiven}
+use Rattle.cli_words.specs.Prelude.{Entry, Form, Text, has, is_in, text_in, HoldsGiven}
 use Rattle.cli_words.proofs.Rules.{own_text, same_text}
 use Rattle.cli_words.proofs.Adding.{has_rows, rows}
 use Rattle.cli_words.proofs.Ends.{default_row, flagged}

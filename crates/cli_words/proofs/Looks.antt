@@ -5,7 +5,7 @@ use Rattle.std.specs.Str.{bytes_eq, chars}
 use Rattle.std.proofs.lemmas.Str.{IsCharBoundary-after_ascii, IsUtf8-drop, encodes-chars}
 use Rattle.std.proofs.lemmas.Bool.{eqb-true}
 use Rattle.clap.specs.Lexer.{long_of, name_and_value, short_of}
-use Rattle.cli_words.specs.Reading.{Look, Text, dashes, long, look, look_after_one, look_after_two, plain, short}
+use Rattle.cli_words.specs.Prelude.{Look, Text, dashes, long, look, look_after_one, look_after_two, plain, short}
 
 -- clap's tests of a word
 pub record Tests (x : Text) (is_dashes : Bool) (l : Option (Text × Option Text)) : Type 0 where

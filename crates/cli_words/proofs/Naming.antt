@@ -1,7 +1,6 @@
 -- The row that a word names is that of the command that it names.
 use Rattle.std.proofs.Common.{◌≡◌, refl, sym, ap, Bool, true, false, List, [], ◌∷◌, map, Option, find, bytes_eq}
-use Rattle.cli_words.specs.Reading.{Text}
-use Rattle.cli_words.specs.Table.{AreTableRows, IsRowOf, named_in, row_for}
+use Rattle.cli_words.specs.Prelude.{Text, AreTableRows, IsRowOf, named_in, row_for}
 use Rattle.cli_words.specs.declared.table.Row.{Row}
 
 abbrev first : Text → List Row → Option Row

@@ -11,8 +11,7 @@ use Rattle.clap.specs.Simple.{App, Shape, built, filled_from, is_buildable, is_r
 use Rattle.clap.specs.Faults.{is_free_app, is_simple_and_free}
 use Rattle.clap.specs.declared.builder.action.ArgAction.TheVariants.{Set, SetTrue}
 use Rattle.clap.specs.declared.builder.value_parser.ValueParser.TheVariants as vp
-use Rattle.cli_words.specs.Reading.{Form, Text, is_in}
-use Rattle.cli_words.specs.Taking.{app_for, bare, rules_in, with_rules}
+use Rattle.cli_words.specs.Prelude.{Form, Text, is_in, app_for, bare, rules_in, with_rules}
 use Rattle.cli_words.specs.declared.taking.Kind.TheVariants as kind
 
 -- an argument that takes one value that is not empty

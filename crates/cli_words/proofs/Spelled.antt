@@ -5,8 +5,7 @@ use Rattle.std.specs.List.{after_first}
 use Rattle.std.proofs.lemmas.Bool.{eqb-true}
 use Rattle.std.proofs.lemmas.Option.{same_Some}
 use Rattle.clap.proofs.CutLemmas.{Lacks, after_first-at, before_first-Lacks, before_first-at, list_any-Lacks, list_any-at}
-use Rattle.cli_words.specs.Reading.{Entry, Form, Look, NextWord, Rest, Text, add, any, dashes, has, is_complete, is_filled, is_in, is_value, long, look, look_after_one, look_after_two, only_plain, option_name, option_value, plain, read, read_any, read_end, read_flag, read_long, read_option, read_plain, read_word, reads, short, value}
-use Rattle.cli_words.specs.Spelled.{Plain, Apart, Joined, Flag, Dashes, ArePlain, IsLine, IsNameOf, IsSpelled, IsSpelledBy, has_equals}
+use Rattle.cli_words.specs.Prelude.{Entry, Form, Look, NextWord, Rest, Text, add, any, dashes, has, is_complete, is_filled, is_in, is_value, long, look, look_after_one, look_after_two, only_plain, option_name, option_value, plain, read, read_any, read_end, read_flag, read_long, read_option, read_plain, read_word, reads, short, value, Plain, Apart, Joined, Flag, Dashes, ArePlain, IsLine, IsNameOf, IsSpelled, IsSpelledBy, has_equals}
 
 -- ---- words by their look
 

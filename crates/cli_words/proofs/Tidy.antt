@@ -5,8 +5,7 @@ use Rattle.std.specs.Str.{bytes_eq}
 use Rattle.std.proofs.lemmas.Slice.Eq.{bytes_eq-Decides}
 use Rattle.cli_words.specs.declared.table.CommandName.{CommandName}
 use Rattle.cli_words.specs.declared.table.CommandName.TheVariants as command
-use Rattle.cli_words.specs.Reading.{Form, Text, is_in}
-use Rattle.cli_words.specs.Table.{form_for}
+use Rattle.cli_words.specs.Prelude.{Form, Text, is_in, form_for}
 use Rattle.cli_words.proofs.Taken.{IsTidy}
 
 none : (options : List Text) (name : Text) → is_in name [] ≡ true → is_in name options ≡ false

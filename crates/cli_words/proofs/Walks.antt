@@ -8,7 +8,7 @@ use Rattle.clap.specs.Kinds.{Kinds, or_else}
 use Rattle.clap.specs.Faults.{flags_fault, positional_fault, settle_fault, step_fault, turn_fault, use_fault, walk_fault}
 use Rattle.clap.specs.Walk.{Held, Row, Rule, Walk, arg_by_index, arg_by_long, arg_by_short, idle, option, positional_held, pushed, settled, to_positional, used, value, walked}
 use Rattle.clap.specs.declared.error.kind.ErrorKind.TheVariants as kind
-use Rattle.cli_words.specs.Reading.{Entry, Form, Look, NextWord, Rest, Text, add, any, dashes, is_in, is_value, long, look, only_plain, option_name, option_value, plain, read, read_any, read_long, read_plain, short}
+use Rattle.cli_words.specs.Prelude.{Entry, Form, Look, NextWord, Rest, Text, add, any, dashes, is_in, is_value, long, look, only_plain, option_name, option_value, plain, read, read_any, read_long, read_plain, short}
 use Rattle.cli_words.specs.Reading.{value as awaiting}
 use Rattle.cli_words.proofs.Rules.{Fits, TakesOne, own_text, flag_rule, long_found, next, option_rule, plain_rule, shape_with}
 use Rattle.cli_words.proofs.Looks.{IsShort, LooksAs, Tests, looks_as}

@@ -4,3 +4,4 @@ pub mod Spelled
 pub mod Table
 pub mod Taking
 pub mod Words
+pub mod Prelude

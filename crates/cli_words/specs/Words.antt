@@ -2,13 +2,13 @@
 use Rattle.std.specs.Prelude.{◌≡◌, ◌≤◌, ◌<◌, ℕ, ℤ, pos, Bool, true, false, ◌&&◌, nat_le, if◌then◌else◌, List, [], ◌∷◌, Option, Some, None, Result, Ok, Err, codes, option_and_then, option_map, unwrap_or}
 use Rattle.std.specs.Borrow.{Bor}
 use Rattle.std.specs.Str.{bytes_eq}
-use Rattle.mic_base.specs.Number.{number_of}
+use Rattle.mic_base.specs.Prelude.{number_of}
 use Rattle.mic_base.specs.declared.number.NumberError.{NumberError}
 use Rattle.mic_words.specs.declared.machine.Machine.{Machine}
 use Rattle.mic_words.specs.declared.machine.Machine.TheVariants.{Mic1, Mic2}
 use Rattle.console_port.specs.declared.map.MemoryMap.{MemoryMap}
 use Rattle.console_port.specs.declared.map.TheConstants.MemoryMap.{LARGE, STANDARD}
-use Rattle.console_port.specs.Map.{IsMap}
+use Rattle.console_port.specs.Prelude.{IsMap}
 use Rattle.cli_words.specs.Reading.{Entry, Text, reads, text_in}
 use Rattle.cli_words.specs.Table.{form_for, name_for}
 use Rattle.cli_words.specs.declared.error.WordsError.{WordsError}

@@ -2,7 +2,7 @@
 
 ghost use Rattle.std.specs.Prelude.{◌≡◌, ◌≤◌, [], IfSome, true, unwrap_or};
 ghost use Rattle.std.specs.Option.{option_map};
-ghost use Rattle.mic_base.specs.Number.{number_of};
+ghost use Rattle.mic_base.specs.Prelude.{number_of};
 ghost use Rattle.cli_words.specs.Words.{HasMap, is_true, map_in, number_in, number_within, processor_in};
 ghost use Rattle.cli_words.specs.declared.request.Processor.TheVariants.{Mic3};
 

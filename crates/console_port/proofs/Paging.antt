@@ -7,7 +7,7 @@ use Rattle.std.proofs.lemmas.List.Sums.{sum_by-set, count_by-le-length}
 use Rattle.std.proofs.lemmas.List.Folds.{sum_by-replicate}
 use Rattle.std.proofs.lemmas.Bool.{cases_eq, cases_lt, lt-ltb}
 use Rattle.std.proofs.lemmas.Grind.{div_ceil_times}
-use Rattle.console_port.specs.Pages.{ArePaged, empty_frame, HasRoom, place_in_frames, words_of, framed}
+use Rattle.console_port.specs.Prelude.{ArePaged, empty_frame, HasRoom, place_in_frames, words_of, framed}
 
 pub length-words_of : (table frames : List ℕ) (size : ℕ) → length (words_of table frames size) ≡ size
 unfolding words_of

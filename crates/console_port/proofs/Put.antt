@@ -3,7 +3,7 @@ use Rattle.std.proofs.Common.{◌≡◌, ℕ, List, ◌++◌, length, take, Resu
 use Rattle.std.specs.Option.{option_map}
 use Rattle.std.specs.Prelude.{OnOk}
 use Rattle.std.proofs.Math.Seq.{take-length}
-use Rattle.mic_base.specs.Streams.{IsFlushed, PutsAndFlushes}
+use Rattle.mic_base.specs.Prelude.{IsFlushed, PutsAndFlushes}
 
 -- a whole piece is a prefix of itself
 pub prefix_put : (held held' : Option (List ℕ)) (piece : List ℕ) → held' ≡ option_map (λ h. h ++ piece) held → (n : ℕ) × (held' ≡ option_map (λ h. h ++ take n piece) held)

@@ -1,8 +1,7 @@
 -- A console between a source and a sink: the world's bytes that the three show together, and what a fault leaves.
 use Rattle.std.specs.Prelude.{◌≡◌, ◌≢◌, ℕ, ◌≤◌, Bool, true, false, List, [], ◌∷◌, ◌++◌, take, Option, Some, IfSome, Result, Err, IsErrOf}
 use Rattle.std.specs.Option.{option_map}
-use Rattle.mic_base.specs.Causes.{Rose}
-use Rattle.mic_base.specs.Streams.{IsFlushed}
+use Rattle.mic_base.specs.Prelude.{Rose, IsFlushed}
 use Rattle.console_port.specs.View.{ConsoleView}
 use Rattle.console_port.specs.declared.fault.BusFault.{BusFault}
 use Rattle.console_port.specs.declared.fault.BusFault.TheVariants.{ReadFault, WriteFault, StackLimit, OutOfMap}

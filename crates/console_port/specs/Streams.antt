@@ -1,6 +1,6 @@
 -- What every call over a source and a sink leaves of both, whatever it does with them.
 use Rattle.std.specs.Prelude.{◌≡◌, ℕ, Bool, true, List, Option, Result, Err, IsSome}
-use Rattle.mic_base.specs.Streams.{KeepsFront}
+use Rattle.mic_base.specs.Prelude.{KeepsFront}
 use Rattle.console_port.specs.View.{BusView}
 use Rattle.console_port.specs.Console.{HasFaultCause, StaysFlushed, StillTells}
 use Rattle.console_port.specs.declared.fault.BusFault.{BusFault}

@@ -1,6 +1,6 @@
 //! Memory and console in one address space: what the wires of a machine reach.
 
-ghost use Rattle.mic_base.specs.Streams.{IsFlushed};
+ghost use Rattle.mic_base.specs.Prelude.{IsFlushed};
 ghost use Rattle.std.specs.Prelude.{◌/◌, ◌==◌, ◌≡◌, ◌≢◌, ◌≤◌, ◌<◌, [], ℕ, List, Option, Some, None, Ok, Err, true, false, length, replicate, IsTrue, ◌↔◌, IsSome, slice_get, slice_index, slice_set, IsOk, IfOk, OnOk, OnErr, IfErr};
 ghost use Rattle.console_port.specs.Access.{IsAccess, IsByMap};
 ghost use Rattle.console_port.specs.Bus.{Shows, Stands, IsLed, ChangesOnly, FailsAsRefused, refused_by, IsRead};

@@ -1,7 +1,6 @@
 //! The console: bytes given wait in a buffer, and bytes taken come from a source.
 
-ghost use Rattle.mic_base.specs.Causes.{HasCause};
-ghost use Rattle.mic_base.specs.Streams.{IsFlushed, PutsAndFlushes};
+ghost use Rattle.mic_base.specs.Prelude.{HasCause, IsFlushed, PutsAndFlushes};
 ghost use Rattle.std.specs.Prelude.{◌≡◌, ◌≢◌, ◌<◌, ◌+◌, [], ◌∷◌, ◌++◌, ◌↔◌, ℕ, List, Option, IsTrue, false, true, drop, length, Ok, IsOk, IsErr, IfOk, OnOk, OnErr, IfErr, IsErrOf, Some, Err};
 ghost use Rattle.console_port.specs.Console.{Asks, Untaken, Given, Gives, IsLost, TakeFails, HasFaultCause, most_kept};
 ghost use Rattle.console_port.specs.Streams.{SinkGoesOn, SourceGoesOn};

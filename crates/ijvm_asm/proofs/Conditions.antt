@@ -1,9 +1,9 @@
 -- What an outcome after a test shows of the test.
 use Rattle.std.proofs.Common.{◌≡◌, Bool, true, false, refl, ap, sym, cond}
 use Rattle.std.specs.Prelude.{Result, Ok, Err}
-use Rattle.source_text.specs.Walk.{FailsBy}
+use Rattle.source_text.specs.Prelude.{FailsBy}
 use Rattle.ijvm_asm.specs.declared.error.AsmError.{AsmError}
-use Rattle.ijvm_asm.specs.Drafts.{is_memory, RefusesBy}
+use Rattle.ijvm_asm.specs.Prelude.{is_memory, RefusesBy}
 
 abbrev pub ok : {A : Type 0} → A → Result A AsmError
 ok a = Ok a

@@ -9,12 +9,8 @@ use Rattle.ijvm_line.specs.declared.place.Place.TheVariants as places
 use Rattle.ijvm_line.specs.declared.place.Mark.TheVariants as marks
 use Rattle.source_text.specs.Places as names
 use Rattle.ijvm_asm.specs.declared.error.AsmError.TheVariants as errors
-use Rattle.ijvm_asm.specs.Said.{Dotted, Said}
-use Rattle.ijvm_asm.specs.Sections.{constant_line, Constants, section_lines}
-use Rattle.ijvm_asm.specs.Source.{Source}
-use Rattle.ijvm_asm.specs.Making.{AreConstants, defined}
+use Rattle.ijvm_asm.specs.Prelude.{Dotted, Said, constant_line, Constants, section_lines, Source, AreConstants, defined, is_declared}
 use Rattle.ijvm_asm.proofs.Made.{MakesConstants}
-use Rattle.ijvm_asm.specs.Adding.{is_declared}
 use Rattle.ijvm_asm.proofs.Building.{Build}
 use Rattle.ijvm_asm.proofs.Conditions.{if_ok, ok, ok_if}
 

@@ -4,11 +4,7 @@ use Rattle.std.specs.Prelude.{is_some}
 use Rattle.std.proofs.lemmas.List.{append-nil}
 use Rattle.std.proofs.option.Match.{None-if_not_some}
 use Rattle.ijvm_line.specs.declared.place.Place.TheVariants as places
-use Rattle.ijvm_asm.specs.Drafts.{begun, DraftView}
-use Rattle.ijvm_asm.specs.Sections.{Between, Body, CodeItem, Constants, Locals, Main, Method, Section, section_lines}
-use Rattle.ijvm_asm.specs.Source.{declarations_of, Source}
-use Rattle.ijvm_asm.specs.Units.{AreLocals, AreNew, code_from, declared, labels_in, lines_in, locals_in, MakesUnit, positions_in, waits_behind}
-use Rattle.ijvm_asm.specs.Making.{Declarations, defined, SectionAdds, SectionsDeclare}
+use Rattle.ijvm_asm.specs.Prelude.{begun, DraftView, Between, Body, CodeItem, Constants, Locals, Main, Method, Section, section_lines, declarations_of, Source, AreLocals, AreNew, code_from, declared, labels_in, lines_in, locals_in, MakesUnit, positions_in, waits_behind, Declarations, defined, SectionAdds, SectionsDeclare}
 use Rattle.ijvm_asm.proofs.Made.{MakesBody, Makes, may_declare_behind, OpensLocals, SectionsMake}
 use Rattle.ijvm_asm.proofs.Mains.{main_ended, main_opened}
 use Rattle.ijvm_asm.proofs.Methods.{ended, opened}

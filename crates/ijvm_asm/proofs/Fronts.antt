@@ -9,11 +9,7 @@ use Rattle.ijvm_line.specs.declared.place.Mark.TheVariants as marks
 use Rattle.ijvm_line.specs.declared.instruction.Instruction.{Instruction}
 use Rattle.ijvm_line.specs.declared.instruction.Instruction.TheVariants as instructions
 use Rattle.ijvm_asm.specs.declared.error.AsmError.TheVariants as errors
-use Rattle.ijvm_asm.specs.Said.{BlankAt, Codes, Dotted, place_of, Said}
-use Rattle.ijvm_asm.specs.Sections.{lines_of, Section}
-use Rattle.ijvm_asm.specs.Source.{declarations_of, empty, Source}
-use Rattle.ijvm_asm.specs.Adding.{add_instruction, add_line}
-use Rattle.ijvm_asm.specs.Refusals.{IsFront, StandsAt}
+use Rattle.ijvm_asm.specs.Prelude.{BlankAt, Codes, Dotted, place_of, Said, lines_of, Section, declarations_of, empty, Source, add_instruction, add_line, IsFront, StandsAt}
 use Rattle.ijvm_asm.proofs.Building.{Build, join, split}
 use Rattle.ijvm_asm.proofs.Conditions.{ok, ok_if}
 use Rattle.ijvm_asm.proofs.Declaring.{declared_make, sections_declare}

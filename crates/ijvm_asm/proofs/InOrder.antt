@@ -4,9 +4,7 @@ use Rattle.std.proofs.lemmas.List.{append_assoc}
 use Rattle.ijvm_line.specs.declared.place.Mark.{Mark}
 use Rattle.ijvm_line.specs.declared.place.Mark.TheVariants as marks
 use Rattle.ijvm_line.specs.declared.place.Place.TheVariants as places
-use Rattle.ijvm_asm.specs.Said.{BlankAt, Dotted, Heads, Said}
-use Rattle.ijvm_asm.specs.Sections.{Between, Body, body_lines, code_line, constant_line, Constants, lines_of, local_line, Locals, locals_lines, Main, Method, Section, section_lines}
-use Rattle.ijvm_asm.specs.Source.{Source}
+use Rattle.ijvm_asm.specs.Prelude.{BlankAt, Dotted, Heads, Said, Between, Body, body_lines, code_line, constant_line, Constants, lines_of, local_line, Locals, locals_lines, Main, Method, Section, section_lines, Source}
 use Rattle.ijvm_asm.proofs.Made.{Makes, SectionsMake}
 use Rattle.ijvm_asm.proofs.Building.{Build, join, split}
 use Rattle.ijvm_asm.proofs.Constants.{makes_section, section_makes}

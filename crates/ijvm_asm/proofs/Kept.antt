@@ -1,10 +1,7 @@
 -- What the lines of a unit keep of the reader's record, and of its unit.
 use Rattle.std.proofs.Common.{◌≡◌, ℕ, Bool, List, ◌++◌, Option, Some, None, refl, ap, sym, ◌∙◌}
 use Rattle.ijvm_line.specs.declared.place.Place.{Place}
-use Rattle.ijvm_asm.specs.Sections.{Body, Locals}
-use Rattle.ijvm_asm.specs.Drafts.{DraftView}
-use Rattle.ijvm_asm.specs.Source.{Source}
-use Rattle.ijvm_asm.specs.Units.{code_from, lines_in}
+use Rattle.ijvm_asm.specs.Prelude.{Body, Locals, DraftView, Source, code_from, lines_in}
 use Rattle.ijvm_asm.proofs.Made.{MakesBody, OpensLocals}
 
 module _ {A : Type 0} (f : Source → A) (keeps : (w : Source) (p : Place) (n : ℕ) (b : Bool) (u : DraftView) → f (record w { place = p; inner = n; may_declare = b; unit = u }) ≡ f w) where

@@ -4,11 +4,9 @@ use Rattle.std.specs.Prelude.{IsSome, option_map, option_and_then, nat_le, Bool,
 use Rattle.std.proofs.Common.{cond}
 use Rattle.ijvm_program.specs.declared.line.CodeLine.{CodeLine}
 use Rattle.ijvm_program.specs.declared.line.Operation.{Operation}
-use Rattle.ijvm_program.specs.Unit.{UnitView}
+use Rattle.ijvm_program.specs.Prelude.{UnitView}
 use Rattle.ijvm_asm.specs.declared.draft.DraftLine.{DraftLine}
-use Rattle.ijvm_asm.specs.Drafts.{DraftView}
-use Rattle.ijvm_asm.specs.Source.{Source}
-use Rattle.ijvm_asm.specs.ReadingNames.{lines_from, lower, operation_of, or_line, unit_of, unit_with, units_from, unknown, unknown_lines, unknown_main, unknown_units}
+use Rattle.ijvm_asm.specs.Prelude.{DraftView, Source, lines_from, lower, operation_of, or_line, unit_of, unit_with, units_from, unknown, unknown_lines, unknown_main, unknown_units}
 
 and_then_some : {A B : Type 0} (f : A → Option B) (o : Option A) → IsSome (option_and_then f o) → IsSome o
 and_then_some f None h = absurd (cc)

@@ -6,11 +6,7 @@ use Rattle.std.proofs.lemmas.Bool.{or_parts, or_from, not_from_true}
 use Rattle.ijvm_line.specs.declared.place.Mark.TheVariants as marks
 use Rattle.ijvm_line.specs.declared.place.Place.TheVariants as places
 use Rattle.ijvm_asm.specs.declared.error.AsmError.TheVariants as errors
-use Rattle.ijvm_asm.specs.Said.{BlankAt, Dotted, Said}
-use Rattle.ijvm_asm.specs.Sections.{Body, code_line, local_line, Locals, locals_lines, Main, section_lines}
-use Rattle.ijvm_asm.specs.Drafts.{begun}
-use Rattle.ijvm_asm.specs.Source.{Source}
-use Rattle.ijvm_asm.specs.Units.{code_from}
+use Rattle.ijvm_asm.specs.Prelude.{BlankAt, Dotted, Said, Body, code_line, local_line, Locals, locals_lines, Main, section_lines, begun, Source, code_from}
 use Rattle.ijvm_asm.proofs.Made.{MakesMain, OpensLocals}
 use Rattle.ijvm_asm.proofs.Building.{Build, join, moved, same, split}
 use Rattle.ijvm_asm.proofs.Conditions.{if_ok, ok, ok_if}

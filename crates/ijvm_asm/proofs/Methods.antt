@@ -4,18 +4,13 @@ use Rattle.std.specs.Prelude.{◌||◌, not, Ok, is_some, nat_lt}
 use Rattle.std.proofs.lemmas.List.{append_assoc, append-nil}
 use Rattle.std.proofs.lemmas.Bool.{or_parts, or_from, le-ltb, ltb-false}
 use Rattle.std.proofs.option.Match.{None-if_not_some}
-use Rattle.ijvm_program.specs.Program.{most_names}
+use Rattle.ijvm_program.specs.Prelude.{most_names}
 use Rattle.ijvm_line.specs.declared.place.Mark.TheVariants as marks
 use Rattle.ijvm_line.specs.declared.place.Place.TheVariants as places
 use Rattle.source_text.specs.Places as names
 use Rattle.ijvm_asm.specs.declared.error.AsmError.TheVariants as errors
-use Rattle.ijvm_asm.specs.Said.{Dotted}
-use Rattle.ijvm_asm.specs.Sections.{Body, code_line, locals_lines, Method, section_lines}
-use Rattle.ijvm_asm.specs.Drafts.{begun}
-use Rattle.ijvm_asm.specs.Source.{Source}
-use Rattle.ijvm_asm.specs.Units.{AreNew, code_from}
+use Rattle.ijvm_asm.specs.Prelude.{Dotted, Body, code_line, locals_lines, Method, section_lines, begun, Source, AreNew, code_from, gather, is_declared, method_by}
 use Rattle.ijvm_asm.proofs.Made.{MakesMethod}
-use Rattle.ijvm_asm.specs.Adding.{gather, is_declared, method_by}
 use Rattle.ijvm_asm.proofs.Building.{Build, join, split}
 use Rattle.ijvm_asm.proofs.Conditions.{if_ok, ok, ok_if}
 use Rattle.ijvm_asm.proofs.Units.{code_makes, makes_code}

@@ -1,18 +1,14 @@
 -- The line that began the innermost open section is the first of those that are open.
 use Rattle.std.proofs.Common.{◌≡◌, ℕ, ◌+◌, true, false, List, [], ◌∷◌, ◌++◌, Some, length, refl, ap, sym, ◌∙◌}
 use Rattle.std.specs.Prelude.{◌||◌, not, Ok, is_some, nat_le}
-use Rattle.ijvm_program.specs.Program.{most_names}
+use Rattle.ijvm_program.specs.Prelude.{most_names}
 use Rattle.ijvm_line.specs.declared.place.Place.{Place}
 use Rattle.ijvm_line.specs.declared.place.Place.TheVariants as places
 use Rattle.ijvm_line.specs.declared.place.Mark.{Mark}
 use Rattle.ijvm_line.specs.declared.place.Mark.TheVariants as marks
 use Rattle.source_text.specs.Places as names
 use Rattle.ijvm_asm.specs.declared.error.AsmError.TheVariants as errors
-use Rattle.ijvm_asm.specs.Said.{BlankAt, Codes, Declares, Defines, Dotted, Heads, place_of, Said}
-use Rattle.ijvm_asm.specs.Source.{Source}
-use Rattle.ijvm_asm.specs.Adding.{add_line, add_mark, gather, is_declared, method_by}
-use Rattle.ijvm_asm.specs.ReadingNames.{missing, missing_at}
-use Rattle.ijvm_asm.specs.Refusals.{opened_by, open_lines}
+use Rattle.ijvm_asm.specs.Prelude.{BlankAt, Codes, Declares, Defines, Dotted, Heads, place_of, Said, Source, add_line, add_mark, gather, is_declared, method_by, missing, missing_at, opened_by, open_lines}
 use Rattle.ijvm_asm.proofs.Building.{Build}
 use Rattle.ijvm_asm.proofs.Conditions.{if_ok, ok}
 use Rattle.ijvm_asm.proofs.Mains.{main_ended, main_opened}

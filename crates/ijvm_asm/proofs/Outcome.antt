@@ -1,21 +1,12 @@
 -- A source is read as what it spells: each line by itself, one line after the other, and all together.
 use Rattle.std.proofs.Common.{◌≡◌, ℕ, List, refl, ap, sym, subst, ◌∙◌, false}
 use Rattle.std.specs.Prelude.{Result, Ok, Err, IfOk, IfErr}
-use Rattle.source_text.specs.Content.{contents}
-use Rattle.source_text.specs.Parsing.{Agrees, IsReadAsSpelled}
-use Rattle.source_text.specs.Walk.{Leads}
-use Rattle.ijvm_program.specs.Program.{ProgramView}
+use Rattle.source_text.specs.Prelude.{contents, Agrees, IsReadAsSpelled, Leads}
+use Rattle.ijvm_program.specs.Prelude.{ProgramView}
 use Rattle.ijvm_line.specs.Lines as lines
 use Rattle.ijvm_asm.specs.declared.error.AsmError.{AsmError}
 use Rattle.ijvm_asm.specs.declared.error.AsmError.TheVariants as errors
-use Rattle.ijvm_asm.specs.Drafts.{is_memory, RefusesBy}
-use Rattle.ijvm_asm.specs.Said.{place_of, Said}
-use Rattle.ijvm_asm.specs.Source.{declarations_of, empty, Source}
-use Rattle.ijvm_asm.specs.Making.{Declarations}
-use Rattle.ijvm_asm.specs.Names.{IsLowest, IsProgramOf, NamesUnknown}
-use Rattle.ijvm_asm.specs.Text.{AreRefused, grammar, IsRefused, SpellsProgram}
-use Rattle.ijvm_asm.specs.ReadingNames.{whole_program}
-use Rattle.ijvm_asm.specs.Adding.{parser, ReadsLines, step}
+use Rattle.ijvm_asm.specs.Prelude.{is_memory, RefusesBy, place_of, Said, declarations_of, empty, Source, Declarations, IsLowest, IsProgramOf, NamesUnknown, AreRefused, grammar, IsRefused, SpellsProgram, whole_program, parser, ReadsLines, step}
 use Rattle.ijvm_asm.proofs.Building.{Build}
 use Rattle.ijvm_asm.proofs.Conditions.{refuses_fails}
 use Rattle.ijvm_asm.proofs.Sections.{next_refused, next_says, of_source, refused_next, says_next, source_of}

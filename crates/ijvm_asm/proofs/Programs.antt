@@ -1,16 +1,10 @@
 -- What a text spells is a program.
 use Rattle.std.proofs.Common.{◌≡◌, List, [], Some, None}
-use Rattle.source_text.specs.Parsing.{IsReadAsSpelled}
+use Rattle.source_text.specs.Prelude.{IsReadAsSpelled}
 use Rattle.ijvm_program.specs.declared.line.Constant.{Constant}
-use Rattle.ijvm_program.specs.Unit.{UnitView}
-use Rattle.ijvm_program.specs.Program.{IsProgram, ProgramView}
+use Rattle.ijvm_program.specs.Prelude.{UnitView, IsProgram, ProgramView}
 use Rattle.ijvm_line.specs.declared.place.Place.TheVariants as places
-use Rattle.ijvm_asm.specs.Drafts.{DraftView}
-use Rattle.ijvm_asm.specs.Source.{declarations_of, empty, Source}
-use Rattle.ijvm_asm.specs.Names.{constants_of, IsProgramOf}
-use Rattle.ijvm_asm.specs.ReadingNames.{missing, unit_of, units_from}
-use Rattle.ijvm_asm.specs.Adding.{IsRead, parser}
-use Rattle.ijvm_asm.specs.Text.{grammar}
+use Rattle.ijvm_asm.specs.Prelude.{DraftView, declarations_of, empty, Source, constants_of, IsProgramOf, missing, unit_of, units_from, IsRead, parser, grammar}
 use Rattle.ijvm_asm.proofs.Resolved.{is_program}
 use Rattle.ijvm_asm.proofs.Sections.{made_of}
 use Rattle.ijvm_asm.proofs.Sound.{made_sound}

@@ -5,19 +5,16 @@ use Rattle.std.specs.List.{slice_get, zip}
 use Rattle.std.proofs.lemmas.List.{take-append-drop}
 use Rattle.std.proofs.lemmas.List.Elements.{All-cons, All-nil}
 use Rattle.std.proofs.lemmas.Option.{get_or_from_slice_get, slice_get_within}
-use Rattle.source_text.specs.Below.{place_below}
+use Rattle.source_text.specs.Prelude.{place_below}
 use Rattle.ijvm_program.specs.declared.line.CodeLine.{CodeLine}
 use Rattle.ijvm_program.specs.declared.line.Constant.{Constant}
 use Rattle.ijvm_program.specs.declared.line.Label.{Label}
 use Rattle.ijvm_program.specs.declared.line.Operation.{Operation}
-use Rattle.ijvm_program.specs.Program.{IsProgram, IsUnit, NamesPosition, ProgramView}
-use Rattle.ijvm_program.specs.Unit.{UnitView}
+use Rattle.ijvm_program.specs.Prelude.{IsProgram, IsUnit, NamesPosition, ProgramView, UnitView}
 use Rattle.ijvm_line.specs.declared.instruction.Instruction.{Instruction}
 use Rattle.ijvm_line.specs.declared.instruction.Instruction.TheVariants as instructions
 use Rattle.ijvm_asm.specs.declared.draft.DraftLine.{DraftLine}
-use Rattle.ijvm_asm.specs.Drafts.{DraftView}
-use Rattle.ijvm_asm.specs.Source.{declarations_of, Source}
-use Rattle.ijvm_asm.specs.Names.{IsLineOf, IsProgramOf, IsUnitOf, Pairwise, StandsFor}
+use Rattle.ijvm_asm.specs.Prelude.{DraftView, declarations_of, Source, IsLineOf, IsProgramOf, IsUnitOf, Pairwise, StandsFor}
 use Rattle.ijvm_asm.proofs.Sound.{Drafted, IsMain, IsMethod, Sound}
 
 element : {A : Type 0} (P : A → Type 0) (xs : List A) (i : ℕ) (x : A) → All P xs → slice_get xs i ≡ Some x → P x

@@ -11,11 +11,7 @@ use Rattle.ijvm_line.specs.declared.instruction.Instruction.{Instruction}
 use Rattle.source_text.specs.Places as names
 use Rattle.ijvm_asm.specs.declared.error.AsmError.{AsmError}
 use Rattle.ijvm_asm.specs.declared.error.AsmError.TheVariants as errors
-use Rattle.ijvm_asm.specs.Said.{BlankAt, Codes, Declares, Defines, Dotted, Heads, place_of, Said}
-use Rattle.ijvm_asm.specs.Sections.{Between, Body, body_lines, code_line, CodeItem, constant_line, Constants, lines_of, local_line, Locals, locals_lines, Main, Method, Section}
-use Rattle.ijvm_asm.specs.Drafts.{begun, DraftView}
-use Rattle.ijvm_asm.specs.Source.{Source}
-use Rattle.ijvm_asm.specs.Adding.{add_code, add_constant, add_instruction, add_line, add_method, begin_constants, begin_locals, begin_main, end_main, end_method, gather, is_declared, method_by, on_local, with_unit}
+use Rattle.ijvm_asm.specs.Prelude.{BlankAt, Codes, Declares, Defines, Dotted, Heads, place_of, Said, Between, Body, body_lines, code_line, CodeItem, constant_line, Constants, lines_of, local_line, Locals, locals_lines, Main, Method, Section, begun, DraftView, Source, add_code, add_constant, add_instruction, add_line, add_method, begin_constants, begin_locals, begin_main, end_main, end_method, gather, is_declared, method_by, on_local, with_unit}
 use Rattle.ijvm_asm.proofs.Building.{Build}
 use Rattle.ijvm_asm.proofs.Conditions.{if_ok, ok}
 

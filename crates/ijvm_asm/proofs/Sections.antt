@@ -9,18 +9,9 @@ use Rattle.ijvm_line.specs.declared.form.Form.TheVariants as forms
 use Rattle.ijvm_line.specs.declared.content.Content.{Content}
 use Rattle.ijvm_line.specs.declared.content.Content.TheVariants as contents
 use Rattle.ijvm_line.specs.declared.line.LineFault.{LineFault}
-use Rattle.ijvm_line.specs.Forms.{IsForm}
+use Rattle.ijvm_line.specs.Prelude.{IsForm, parameters, mark_place, instruction_of, made, word, line_from}
 use Rattle.ijvm_line.specs.Lines as lines
-use Rattle.ijvm_line.specs.Parameters.{parameters}
-use Rattle.ijvm_line.specs.Places.{mark_place}
-use Rattle.ijvm_line.specs.Ranges.{instruction_of, made, word}
-use Rattle.ijvm_line.specs.Reading.{line_from}
-use Rattle.ijvm_asm.specs.Said.{BlankAt, Heads, line_meant, Lists, place_of, Said, said_at, Says}
-use Rattle.ijvm_asm.specs.Sections.{lines_of, Section, section_lines}
-use Rattle.ijvm_asm.specs.Source.{declarations_of, empty, Source}
-use Rattle.ijvm_asm.specs.Making.{Declarations}
-use Rattle.ijvm_asm.specs.Text.{IsSource}
-use Rattle.ijvm_asm.specs.Adding.{ReadsLines, said_next}
+use Rattle.ijvm_asm.specs.Prelude.{BlankAt, Heads, line_meant, Lists, place_of, Said, said_at, Says, lines_of, Section, section_lines, declarations_of, empty, Source, Declarations, IsSource, ReadsLines, said_next}
 use Rattle.ijvm_asm.proofs.Building.{Build}
 use Rattle.ijvm_asm.proofs.Declaring.{declared_make, sections_declare}
 use Rattle.ijvm_asm.proofs.Fronts.{same_end}

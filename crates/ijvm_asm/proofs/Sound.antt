@@ -3,13 +3,9 @@ use Rattle.std.proofs.Common.{◌≡◌, ℕ, ◌+◌, ◌<◌, ◌≤◌, Bool,
 use Rattle.std.specs.Prelude.{◌||◌, All, is_some, IsSome, ⊤}
 use Rattle.std.proofs.lemmas.List.{append_assoc, length-map, append-nil}
 use Rattle.std.proofs.lemmas.List.Elements.{All-append, All-cons, All-nil}
-use Rattle.ijvm_program.specs.Program.{most_names}
+use Rattle.ijvm_program.specs.Prelude.{most_names}
 use Rattle.ijvm_line.specs.declared.instruction.Instruction.{Instruction}
-use Rattle.ijvm_asm.specs.Sections.{Between, Body, CodeItem, Constants, Locals, Main, Method, Section, section_lines}
-use Rattle.ijvm_asm.specs.Drafts.{DraftView}
-use Rattle.ijvm_asm.specs.Source.{empty, Source}
-use Rattle.ijvm_asm.specs.Units.{AreLocals, positions_in, behind_instruction, code_from, declared, lines_in, waits, waits_behind, with_position, with_instruction}
-use Rattle.ijvm_asm.specs.Making.{defined}
+use Rattle.ijvm_asm.specs.Prelude.{Between, Body, CodeItem, Constants, Locals, Main, Method, Section, section_lines, DraftView, empty, Source, AreLocals, positions_in, behind_instruction, code_from, declared, lines_in, waits, waits_behind, with_position, with_instruction, defined}
 use Rattle.ijvm_asm.proofs.Made.{Makes, MakesBody, OpensLocals, SectionsMake}
 use Rattle.ijvm_asm.proofs.Kept.{body_keeps, body_lines_are, opens_unit}
 

@@ -3,20 +3,17 @@ use Rattle.std.proofs.Common.{◌≡◌, ℕ, ◌+◌, List, [], ◌∷◌, ◌+
 use Rattle.std.specs.Prelude.{option_map, option_and_then}
 use Rattle.std.specs.List.{slice_get}
 use Rattle.std.proofs.lemmas.List.{append_assoc, append-nil}
-use Rattle.source_text.specs.Options.{bound}
-use Rattle.source_text.specs.Places.{place_of_name}
+use Rattle.source_text.specs.Prelude.{bound, place_of_name}
 use Rattle.ijvm_program.specs.declared.line.CodeLine.{CodeLine}
 use Rattle.ijvm_program.specs.declared.line.Label.{Label}
 use Rattle.ijvm_program.specs.declared.line.Operation.{Operation}
 use Rattle.ijvm_program.specs.declared.line.Operation.TheVariants as operations
-use Rattle.ijvm_program.specs.Unit.{UnitView}
+use Rattle.ijvm_program.specs.Prelude.{UnitView}
 use Rattle.ijvm_line.specs.declared.instruction.Instruction.{Instruction}
 use Rattle.ijvm_line.specs.declared.instruction.Instruction.TheVariants as instructions
-use Rattle.ijvm_line.specs.Ranges.{access_instr, increment_instr}
+use Rattle.ijvm_line.specs.Prelude.{access_instr, increment_instr}
 use Rattle.ijvm_asm.specs.declared.draft.DraftLine.{DraftLine}
-use Rattle.ijvm_asm.specs.Drafts.{DraftView}
-use Rattle.ijvm_asm.specs.Names.{first_index, IsLineOf, IsLocal, IsUnitOf, labels_of, Pairwise, StandsFor}
-use Rattle.ijvm_asm.specs.ReadingNames.{index_of, label_of, lines_from, operation_of, unit_of, unit_with, units_from}
+use Rattle.ijvm_asm.specs.Prelude.{DraftView, first_index, IsLineOf, IsLocal, IsUnitOf, labels_of, Pairwise, StandsFor, index_of, label_of, lines_from, operation_of, unit_of, unit_with, units_from}
 
 mapped : {A B : Type 0} (f : A → B) (o : Option A) (y : B) → option_map f o ≡ Some y → (x : A) × (o ≡ Some x) × (y ≡ f x)
 mapped f (Some x) y h = (x, refl, cc)

@@ -4,7 +4,7 @@ use Rattle.std.specs.Prelude.{◌||◌, Ok, Err, is_some, nat_le, ⊤}
 use Rattle.std.proofs.lemmas.List.{append_assoc, length-append, append-nil}
 use Rattle.std.proofs.option.Match.{None-if_not_some}
 use Rattle.std.proofs.lemmas.Bool.{leb-false, lt-leb}
-use Rattle.ijvm_program.specs.Program.{most_names}
+use Rattle.ijvm_program.specs.Prelude.{most_names}
 use Rattle.ijvm_line.specs.declared.place.Place.TheVariants as places
 use Rattle.ijvm_line.specs.declared.place.Mark.TheVariants as marks
 use Rattle.ijvm_line.specs.declared.instruction.Instruction.{Instruction}
@@ -12,13 +12,8 @@ use Rattle.source_text.specs.Places as names
 use Rattle.ijvm_asm.specs.declared.draft.DraftLine.{DraftLine}
 use Rattle.ijvm_asm.specs.declared.error.AsmError.{AsmError}
 use Rattle.ijvm_asm.specs.declared.error.AsmError.TheVariants as errors
-use Rattle.ijvm_asm.specs.Said.{Dotted, Said}
-use Rattle.ijvm_asm.specs.Sections.{code_line, CodeItem, local_line}
-use Rattle.ijvm_asm.specs.Drafts.{DraftView}
-use Rattle.ijvm_asm.specs.Source.{Source}
-use Rattle.ijvm_asm.specs.Units.{AreNew, positions_in, behind_instruction, declared, labels_in, lines_in, waits, waits_behind, with_position, with_instruction, with_label}
+use Rattle.ijvm_asm.specs.Prelude.{Dotted, Said, code_line, CodeItem, local_line, DraftView, Source, AreNew, positions_in, behind_instruction, declared, labels_in, lines_in, waits, waits_behind, with_position, with_instruction, with_label, add_code, add_instruction, with_unit}
 use Rattle.ijvm_asm.proofs.Made.{MakesCode, MakesLocals, may_declare_behind}
-use Rattle.ijvm_asm.specs.Adding.{add_code, add_instruction, with_unit}
 use Rattle.ijvm_asm.proofs.Building.{Build}
 use Rattle.ijvm_asm.proofs.Conditions.{ok}
 

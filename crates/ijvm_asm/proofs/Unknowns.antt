@@ -4,10 +4,7 @@ use Rattle.std.specs.Prelude.{◌⊎◌, nat_le}
 use Rattle.std.proofs.lemmas.Bool.Decides.{nat_tests}
 use Rattle.ijvm_program.specs.declared.line.Operation.{Operation}
 use Rattle.ijvm_asm.specs.declared.draft.DraftLine.{DraftLine}
-use Rattle.ijvm_asm.specs.Drafts.{DraftView}
-use Rattle.ijvm_asm.specs.Source.{declarations_of, Source}
-use Rattle.ijvm_asm.specs.Names.{all_units, IsLowest, IsUnknownAt, IsUnknownIn, IsUnknownLine, NamesNone, NamesUnknown}
-use Rattle.ijvm_asm.specs.ReadingNames.{lower, operation_of, or_line, unknown, unknown_lines, unknown_main, unknown_units}
+use Rattle.ijvm_asm.specs.Prelude.{DraftView, declarations_of, Source, all_units, IsLowest, IsUnknownAt, IsUnknownIn, IsUnknownLine, NamesNone, NamesUnknown, lower, operation_of, or_line, unknown, unknown_lines, unknown_main, unknown_units}
 use Rattle.ijvm_asm.proofs.Standing.{operation_again, operation_is}
 
 -- none of the lines has the property, or this is the lowest that has it

@@ -2,17 +2,13 @@
 use Rattle.std.proofs.Common.{◌≡◌, ℕ, List, [], ◌∷◌, Option, Some, None, refl, ap, sym, subst, ◌∙◌, inl, inr}
 use Rattle.std.specs.Prelude.{Ok, Err, IsSome, IsSomeAnd}
 use Rattle.ijvm_program.specs.declared.line.CodeLine.{CodeLine}
-use Rattle.ijvm_program.specs.Unit.{UnitView}
-use Rattle.ijvm_program.specs.Program.{ProgramView}
+use Rattle.ijvm_program.specs.Prelude.{UnitView, ProgramView}
 use Rattle.ijvm_line.specs.declared.place.Place.{Place}
 use Rattle.ijvm_line.specs.declared.place.Place.TheVariants as places
 use Rattle.ijvm_asm.specs.declared.draft.DraftLine.{DraftLine}
 use Rattle.ijvm_asm.specs.declared.error.AsmError.{AsmError}
 use Rattle.ijvm_asm.specs.declared.error.AsmError.TheVariants as errors
-use Rattle.ijvm_asm.specs.Drafts.{DraftView, RefusesBy}
-use Rattle.ijvm_asm.specs.Source.{declarations_of, Source}
-use Rattle.ijvm_asm.specs.Names.{all_units, constants_of, IsLineOf, IsLowest, IsProgramOf, IsUnitOf, IsUnknownAt, IsUnknownIn, NamesUnknown, Pairwise}
-use Rattle.ijvm_asm.specs.ReadingNames.{by_main, by_missing, by_unknown, missing, missing_at, or_no_main, whole_program, program_with, unit_of, units_from, unknown}
+use Rattle.ijvm_asm.specs.Prelude.{DraftView, RefusesBy, declarations_of, Source, all_units, constants_of, IsLineOf, IsLowest, IsProgramOf, IsUnitOf, IsUnknownAt, IsUnknownIn, NamesUnknown, Pairwise, by_main, by_missing, by_unknown, missing, missing_at, or_no_main, whole_program, program_with, unit_of, units_from, unknown}
 use Rattle.ijvm_asm.proofs.Known.{main_known, units_known}
 use Rattle.ijvm_asm.proofs.Standing.{all_units_are, unit_again, unit_is, units_again}
 use Rattle.ijvm_asm.proofs.Unknowns.{all_known, is_unknown, none_unknown, unknown_is}

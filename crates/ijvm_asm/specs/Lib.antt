@@ -9,3 +9,4 @@ pub mod ReadingNames
 pub mod Refusals
 pub mod Text
 pub mod Adding
+pub mod Prelude

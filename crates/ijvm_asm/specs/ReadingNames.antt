@@ -6,14 +6,13 @@ use Rattle.ijvm_program.specs.declared.line.CodeLine.{CodeLine}
 use Rattle.ijvm_program.specs.declared.line.Constant.{Constant}
 use Rattle.ijvm_program.specs.declared.line.Operation.{Operation}
 use Rattle.ijvm_program.specs.declared.line.Operation.TheVariants as operations
-use Rattle.ijvm_program.specs.Unit.{UnitView}
-use Rattle.ijvm_program.specs.Program.{ProgramView}
+use Rattle.ijvm_program.specs.Prelude.{UnitView, ProgramView}
 use Rattle.ijvm_line.specs.declared.place.Place.{Place}
 use Rattle.ijvm_line.specs.declared.place.Place.TheVariants as places
 use Rattle.ijvm_line.specs.declared.instruction.Instruction.{Instruction}
 use Rattle.ijvm_line.specs.declared.instruction.Instruction.TheVariants as instructions
-use Rattle.ijvm_line.specs.Ranges.{access_instr, increment_instr}
-use Rattle.source_text.specs.Places.{place_of_name}
+use Rattle.ijvm_line.specs.Prelude.{access_instr, increment_instr}
+use Rattle.source_text.specs.Prelude.{place_of_name}
 use Rattle.ijvm_asm.specs.declared.draft.DraftLine.{DraftLine}
 use Rattle.ijvm_asm.specs.declared.error.AsmError.{AsmError}
 use Rattle.ijvm_asm.specs.declared.error.AsmError.TheVariants as errors

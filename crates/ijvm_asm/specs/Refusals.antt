@@ -1,6 +1,6 @@
 -- Why a line is refused after others: they are the first lines of some sections, and with this line they are not.
 use Rattle.std.specs.Prelude.{◌≡◌, ◌⊎◌, ℕ, ◌+◌, List, [], ◌∷◌, ◌++◌, None, IsSome}
-use Rattle.source_text.specs.Text.{LineRefusals}
+use Rattle.source_text.specs.Prelude.{LineRefusals}
 use Rattle.ijvm_tokens.specs.declared.token.Token.{Token}
 use Rattle.ijvm_line.specs.declared.place.Place.{Place}
 use Rattle.ijvm_line.specs.declared.place.Mark.TheVariants as marks

@@ -8,8 +8,7 @@ use Rattle.ijvm_line.specs.declared.content.Content.{Content}
 use Rattle.ijvm_line.specs.declared.content.Content.TheVariants as contents
 use Rattle.ijvm_line.specs.declared.instruction.Instruction.{Instruction}
 use Rattle.ijvm_line.specs.Lines as lines
-use Rattle.ijvm_line.specs.Parameters.{parameters}
-use Rattle.ijvm_line.specs.Places.{mark_place}
+use Rattle.ijvm_line.specs.Prelude.{parameters, mark_place}
 
 pub data Said : Type 0 where
   -- nothing, at this place

@@ -1,8 +1,8 @@
 //! Main or a method, as its lines so far make it.
 
 ghost use Rattle.std.specs.Prelude.{◌≡◌, ◌≤◌, length, Ok, Err, OnOk, IfErr};
-ghost use Rattle.source_text.specs.Walk.{FailsBy, StaysBy};
-ghost use Rattle.ijvm_program.specs.Program.{most_names};
+ghost use Rattle.source_text.specs.Prelude.{FailsBy, StaysBy};
+ghost use Rattle.ijvm_program.specs.Prelude.{most_names};
 ghost use Rattle.ijvm_asm.specs.declared.error.AsmError.{AsmError};
 ghost use Rattle.ijvm_asm.specs.Drafts.{begun, is_memory};
 
@@ -42,7 +42,7 @@ pub(crate) const MOST: u32 = 65_534;
 
 impl Model for Draft {
     ghost use Rattle.std.specs.Prelude.{◌≤◌, length};
-    ghost use Rattle.ijvm_program.specs.Program.{most_names};
+    ghost use Rattle.ijvm_program.specs.Prelude.{most_names};
     ghost use Rattle.ijvm_asm.specs.Drafts.{DraftView};
 
     ghost Value = { DraftView };

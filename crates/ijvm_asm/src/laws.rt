@@ -1,7 +1,6 @@
 //! A text says one thing.
 
-ghost use Rattle.source_text.specs.Parsing.{IsReadAsSpelled};
-ghost use Rattle.source_text.specs.Text.{AtMostOneProgram, AtMostOneRefusal, NeverBoth};
+ghost use Rattle.source_text.specs.Prelude.{IsReadAsSpelled, AtMostOneProgram, AtMostOneRefusal, NeverBoth};
 ghost use Rattle.ijvm_asm.specs.Adding.{parser, ReadsLines};
 ghost use Rattle.ijvm_asm.specs.Source.{empty};
 ghost use Rattle.ijvm_asm.specs.Text.{grammar};

@@ -1,7 +1,7 @@
 //! The reader of a source, line by line.
 
 ghost use Rattle.std.specs.Prelude.{◌≡◌, Ok, OnOk, IfOk, IfErr, None, []};
-ghost use Rattle.source_text.specs.Walk.{FailsBy, StaysBy};
+ghost use Rattle.source_text.specs.Prelude.{FailsBy, StaysBy};
 ghost use Rattle.ijvm_asm.specs.Drafts.{begun, is_memory};
 ghost use Rattle.ijvm_asm.specs.Adding.{gather};
 ghost use Rattle.ijvm_asm.specs.Refusals.{at_line};
@@ -93,7 +93,7 @@ fn at_line(fault: LineFault, line: u32) -> AsmError
 impl SourceReader {
     ghost use Rattle.ijvm_asm.specs.Adding.{add_code, add_constant, add_content, add_mark, add_method, add_tokens, begin_constants, begin_locals, begin_main, end_main, end_method, is_declared, on_local};
     ghost use Rattle.ijvm_asm.specs.Source.{empty};
-    ghost use Rattle.ijvm_line.specs.Reading.{line_from};
+    ghost use Rattle.ijvm_line.specs.Prelude.{line_from};
 
     pub(crate) fn new(alloc: Global) -> SourceReader
         ensures { result ≡ empty }
@@ -340,7 +340,7 @@ impl Reader for SourceReader {
 
 impl LineLanguage for SourceReader {
     ghost use Rattle.std.specs.Prelude.{⊤};
-    ghost use Rattle.ijvm_program.specs.Program.{ProgramView};
+    ghost use Rattle.ijvm_program.specs.Prelude.{ProgramView};
     ghost use Rattle.ijvm_tokens.specs.declared.token.Token.{Token};
     ghost use Rattle.ijvm_line.specs.declared.line.LineFault.{LineFault};
     ghost use Rattle.ijvm_asm.specs.declared.error.AsmError.{AsmError};

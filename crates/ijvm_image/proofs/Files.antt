@@ -6,13 +6,11 @@ use Rattle.std.proofs.lemmas.Grind.{flat_map-append}
 use Rattle.std.proofs.lemmas.List.{drop_more, take_more, length-drop, length-take-le, drop-drop, drop_all, take-append-drop}
 use Rattle.std.proofs.Math.Seq.{take-append_seam}
 use Rattle.std.proofs.lemmas.Bool.{cond-true, cond-false, le-leb, leb-true, eqb-true}
-use Rattle.ijvm_instr.specs.Halves.{byte_below, high, low, whole_half}
+use Rattle.ijvm_instr.specs.Prelude.{byte_below, high, low, whole_half}
 use Rattle.ijvm_image.specs.declared.reader.Block.{Block}
 use Rattle.ijvm_image.specs.declared.image.ImageError.{ImageError}
 use Rattle.ijvm_image.specs.declared.image.ImageError.TheVariants as errors
-use Rattle.ijvm_image.specs.Image.{ImageView, IsWithinLimits}
-use Rattle.ijvm_image.specs.ImageFile.{magic, text_origin, pool_origin, word_bytes, block_of, file_of, text_first, IsFileOf, word_at, is_origin, is_size}
-use Rattle.ijvm_image.specs.Reading.{and_then, field, block_from, block_at, words_at, image_of, joined, ended, image_read}
+use Rattle.ijvm_image.specs.Prelude.{ImageView, IsWithinLimits, magic, text_origin, pool_origin, word_bytes, block_of, file_of, text_first, IsFileOf, word_at, is_origin, is_size, and_then, field, block_from, block_at, words_at, image_of, joined, ended, image_read}
 
 -- Words in a file.
 

@@ -3,9 +3,7 @@ use Rattle.std.proofs.Common.{◌≡◌, ◌⊎◌, ◌∙◌, ap, refl, sym, na
 use Rattle.ijvm_image.specs.declared.reader.Block.{Block}
 use Rattle.ijvm_image.specs.declared.image.ImageError.{ImageError}
 use Rattle.ijvm_image.specs.declared.image.ImageError.TheVariants as errors
-use Rattle.ijvm_image.specs.Image.{ImageView}
-use Rattle.ijvm_image.specs.ImageFile.{magic, word_at, is_origin, is_size, block_rows, block_end, first_refusal, refusals, IsRefused}
-use Rattle.ijvm_image.specs.Reading.{and_then, block_at, block_from, joined, image_read}
+use Rattle.ijvm_image.specs.Prelude.{ImageView, magic, word_at, is_origin, is_size, block_rows, block_end, first_refusal, refusals, IsRefused, and_then, block_at, block_from, joined, image_read}
 
 abbrev Rows : Type 0
 Rows = List (Bool × ImageError)

@@ -4,7 +4,7 @@ use Rattle.std.specs.Prelude.{◌≡◌, ◌⊎◌, ◌&&◌, ◌||◌, not, ℕ
 use Rattle.std.specs.List.{flat_map}
 use Rattle.ijvm_image.specs.declared.image.ImageError.{ImageError}
 use Rattle.ijvm_image.specs.declared.image.ImageError.TheVariants as errors
-use Rattle.ijvm_instr.specs.Instructions.{two_bytes}
+use Rattle.ijvm_instr.specs.Prelude.{two_bytes}
 use Rattle.ijvm_image.specs.Image.{ImageView, IsWithinLimits}
 
 abbrev pub magic : ℕ

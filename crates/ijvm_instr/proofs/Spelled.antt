@@ -7,8 +7,7 @@ use Rattle.std.proofs.lemmas.Int.{of_z-to_z, to_z-of_z}
 use Rattle.std.proofs.Math.Facts.{sfits_to_z, Fits-of_lt}
 use Rattle.ijvm_instr.specs.declared.instr.Instr.{Instr}
 use Rattle.ijvm_instr.specs.declared.instr.Instr.TheVariants.{Nop, Bipush, LdcW, Iload, Istore, Pop, Dup, Swap, Iadd, Isub, Iand, Iinc, Ifeq, Iflt, IfIcmpeq, Goto, Ireturn, Ior, Invokevirtual, WideIload, WideIstore, WideIinc, In, Out, Err, Halt}
-use Rattle.ijvm_instr.specs.Instructions.{of_bytes, begun_at, instr_at, whole, spelling, size_of, row_of, SpellsInstr, StandAt, IsInstr}
-use Rattle.ijvm_instr.specs.Halves.{byte_below, high, low, size_least, whole_half}
+use Rattle.ijvm_instr.specs.Prelude.{of_bytes, begun_at, instr_at, whole, spelling, size_of, row_of, SpellsInstr, StandAt, IsInstr, byte_below, high, low, size_least, whole_half}
 
 chosen_by : (P : Instr → Type 0) (x y : ℕ) (j : Instr) (rest : Option Instr) (i : Instr) (t : Bool) → (x == y) ≡ t →
     (x ≡ y → P j) → (rest ≡ Some i → P i) → (if t then Some j else rest) ≡ Some i → P i

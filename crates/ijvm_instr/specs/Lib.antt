@@ -2,3 +2,4 @@ pub mod Instructions
 pub mod Halves
 pub mod Text
 pub mod Jumps
+pub mod Prelude

@@ -1,7 +1,7 @@
 -- The text of an instruction: its mnemonic and its operands in decimal; a jump has its target's address in hexadecimal.
 use Rattle.std.specs.Prelude.{ℕ, ℤ, pos, List, [], ◌∷◌, ◌++◌}
 use Rattle.std.specs.Fmt.{signed_decimal}
-use Rattle.mic_base.specs.Digits.{hex_text}
+use Rattle.mic_base.specs.Prelude.{hex_text}
 use Rattle.ijvm_instr.specs.declared.instr.Instr.{Instr}
 use Rattle.ijvm_instr.specs.declared.row.Operands.{Operands}
 use Rattle.ijvm_instr.specs.declared.row.Operands.TheVariants.{None as NoOperands, Byte, Local, LocalByte, Index, IndexHalf, Offset}

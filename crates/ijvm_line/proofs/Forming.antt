@@ -2,7 +2,7 @@
 use Rattle.std.proofs.Common.{◌≡◌, ℕ, List, [], ◌∷◌, true, Option, Some, None, refl, ap, subst, ◌∙◌, inl, inr}
 use Rattle.std.specs.Prelude.{◌&&◌, option_map}
 use Rattle.std.proofs.lemmas.Bool.{and_parts}
-use Rattle.source_text.specs.Options.{chosen, mapped}
+use Rattle.source_text.specs.Prelude.{chosen, mapped}
 use Rattle.ijvm_tokens.specs.declared.sign.Sign.{Sign}
 use Rattle.ijvm_tokens.specs.declared.sign.Sign.TheVariants as signs
 use Rattle.ijvm_tokens.specs.declared.token.Token.{Token}
@@ -14,10 +14,7 @@ use Rattle.ijvm_line.specs.declared.place.Mark.TheVariants as marks
 use Rattle.ijvm_line.specs.declared.statement.Statement.{Statement}
 use Rattle.ijvm_line.specs.declared.form.Form.{Form}
 use Rattle.ijvm_line.specs.declared.form.Form.TheVariants as forms
-use Rattle.ijvm_line.specs.Parameters.{method_tokens}
-use Rattle.ijvm_line.specs.Reading.{code, constant_of, form_of, is_list, is_open, labelled, local_of, mark_at, mark_of, method_of, named, signed, statement_of, unlabelled, with_label}
-use Rattle.ijvm_line.specs.Places.{mark_place, mark_sign}
-use Rattle.ijvm_line.specs.Forms.{IsCode, IsForm}
+use Rattle.ijvm_line.specs.Prelude.{method_tokens, code, constant_of, form_of, is_list, is_open, labelled, local_of, mark_at, mark_of, method_of, named, signed, statement_of, unlabelled, with_label, mark_place, mark_sign, IsCode, IsForm}
 use Rattle.ijvm_line.proofs.Listing.{list_again, list_is}
 use Rattle.ijvm_line.proofs.Stating.{no_sign, statement_again, statement_is}
 

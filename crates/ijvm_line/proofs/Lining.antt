@@ -7,9 +7,7 @@ use Rattle.ijvm_line.specs.declared.form.Form.{Form}
 use Rattle.ijvm_line.specs.declared.content.Content.{Content}
 use Rattle.ijvm_line.specs.declared.line.LineFault.{LineFault}
 use Rattle.ijvm_line.specs.declared.line.LineFault.TheVariants as faults
-use Rattle.ijvm_line.specs.Forms.{IsForm}
-use Rattle.ijvm_line.specs.Reading.{form_of, line_from, said_by}
-use Rattle.ijvm_line.specs.Lines.{IsRefused, content_of, SpellsLine}
+use Rattle.ijvm_line.specs.Prelude.{IsForm, form_of, line_from, said_by, IsRefused, content_of, SpellsLine}
 use Rattle.ijvm_line.proofs.Forming.{form_again, form_is}
 use Rattle.ijvm_line.proofs.Ranging.{no_bad_line}
 

@@ -4,8 +4,7 @@ use Rattle.std.specs.List.{filter_map}
 use Rattle.ijvm_tokens.specs.declared.sign.Sign.TheVariants as signs
 use Rattle.ijvm_tokens.specs.declared.token.Token.{Token}
 use Rattle.ijvm_tokens.specs.declared.token.Token.TheVariants as tokens
-use Rattle.ijvm_line.specs.Parameters.{list_tokens, method_tokens, more_tokens, name_of, parameters}
-use Rattle.ijvm_line.specs.Reading.{is_close, is_list, is_more}
+use Rattle.ijvm_line.specs.Prelude.{list_tokens, method_tokens, more_tokens, name_of, parameters, is_close, is_list, is_more}
 
 more_names : (ps : List (List ℕ)) → filter_map name_of (more_tokens ps) ≡ ps
 more_names [] = refl

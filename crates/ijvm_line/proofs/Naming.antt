@@ -4,14 +4,14 @@ use Rattle.std.specs.Prelude.{find, option_and_then}
 use Rattle.std.specs.Str.{bytes_eq, str_eq_ignore_ascii_case, str_to_ascii_lowercase}
 use Rattle.std.proofs.lemmas.Slice.Eq.{bytes_eq-Decides}
 use Rattle.std.proofs.lemmas.Option.{option_and_then_some}
-use Rattle.source_text.specs.Options.{chosen, find_passes}
+use Rattle.source_text.specs.Prelude.{chosen, find_passes}
 use Rattle.ijvm_instr.specs.declared.instr.Instr.{Instr}
 use Rattle.ijvm_instr.specs.declared.instr.Instr.TheVariants as instrs
 use Rattle.ijvm_instr.specs.declared.instr.TheConstants.{INSTRUCTIONS}
-use Rattle.ijvm_instr.specs.Instructions.{mnemonic_of}
+use Rattle.ijvm_instr.specs.Prelude.{mnemonic_of}
 use Rattle.ijvm_line.specs.declared.mnemonic.Kind.{Kind}
 use Rattle.ijvm_line.specs.declared.mnemonic.Kind.TheVariants as kinds
-use Rattle.ijvm_line.specs.Mnemonics.{find_kind, IsOfKind, IsSpelled, kind_of, spelled_in}
+use Rattle.ijvm_line.specs.Prelude.{find_kind, IsOfKind, IsSpelled, kind_of, spelled_in}
 
 -- the kind of a text in lower case
 by_lower : List ℕ → Option Kind

@@ -8,8 +8,7 @@ use Rattle.ijvm_line.specs.declared.form.Form.{Form}
 use Rattle.ijvm_line.specs.declared.form.Form.TheVariants as forms
 use Rattle.ijvm_line.specs.declared.line.LineFault.{LineFault}
 use Rattle.ijvm_line.specs.declared.line.LineFault.TheVariants as faults
-use Rattle.ijvm_line.specs.Ranges.{addend, byte, in_range, increment_by, index, instruction_of, made, number, word}
-use Rattle.ijvm_line.specs.Lines.{content_of}
+use Rattle.ijvm_line.specs.Prelude.{addend, byte, in_range, increment_by, index, instruction_of, made, number, word, content_of}
 
 in_fault : {A : Type 0} (o : Option A) → in_range o ≡ Err faults.BadLine → ⊥
 in_fault (Some a) h = cc

@@ -6,3 +6,4 @@ pub mod Forms
 pub mod Ranges
 pub mod Lines
 pub mod Reading
+pub mod Prelude

@@ -4,7 +4,7 @@ use Rattle.std.specs.Str.{str_eq_ignore_ascii_case, str_to_ascii_lowercase}
 use Rattle.ijvm_instr.specs.declared.instr.Instr.{Instr}
 use Rattle.ijvm_instr.specs.declared.instr.Instr.TheVariants as instrs
 use Rattle.ijvm_instr.specs.declared.instr.TheConstants.{INSTRUCTIONS}
-use Rattle.ijvm_instr.specs.Instructions.{mnemonic_of}
+use Rattle.ijvm_instr.specs.Prelude.{mnemonic_of}
 use Rattle.ijvm_program.specs.declared.line.Jump.TheVariants as jumps
 use Rattle.ijvm_line.specs.declared.mnemonic.Access.TheVariants as accesses
 use Rattle.ijvm_line.specs.declared.mnemonic.Kind.{Kind}

@@ -1,10 +1,8 @@
 -- A run has one end, at the last boundary that it passes.
 use Rattle.std.proofs.Common.{◌≡◌, ◌<◌, ℕ, zero, suc, Bool, true, false, nat_le, Option, Some, refl, sym, ap, subst, ◌∙◌}
 use Rattle.std.proofs.lemmas.Bool.{lt-leb, leb-false}
-use Rattle.ijvm_image.specs.Image.{ImageView}
-use Rattle.ijvm_meaning.specs.Frames.{State}
-use Rattle.ijvm_meaning.specs.Step.{StepOutcome, Goes, Stuck, step_outcome}
-use Rattle.ijvm_meaning.specs.Run.{TimedImage, Point, Finish, point_after, after_outcome, after_test, finish_from, EndsBy, Passes, Start, More, after, state_after}
+use Rattle.ijvm_image.specs.Prelude.{ImageView}
+use Rattle.ijvm_meaning.specs.Prelude.{State, StepOutcome, Goes, Stuck, step_outcome, TimedImage, Point, Finish, point_after, after_outcome, after_test, finish_from, EndsBy, Passes, Start, More, after, state_after}
 
 one_by_outcome : (p : TimedImage) (at : Point) (o : StepOutcome) (more less : Point → Option Finish) (f g : Finish) → ((a : Point) → more a ≡ Some f → less a ≡ Some g → f ≡ g) →
     after_outcome more p at o ≡ Some f → after_outcome less p at o ≡ Some g → f ≡ g

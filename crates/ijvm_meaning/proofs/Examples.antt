@@ -1,15 +1,13 @@
 -- The definitions, computed on whole runs.
 use Rattle.std.proofs.Common.{◌≡◌, ℕ, List, [], ◌∷◌, ◌++◌, replicate, Option, Some, None, refl}
-use Rattle.mic_words.specs.Arithmetic.{wrap}
+use Rattle.mic_words.specs.Prelude.{wrap}
 use Rattle.mic_words.specs.declared.machine.Machine.{Machine}
 use Rattle.mic_words.specs.declared.machine.Machine.TheVariants.{Mic1, Mic2}
 use Rattle.ijvm_meaning.specs.declared.run.RunEnd.{RunEnd}
 use Rattle.ijvm_meaning.specs.declared.run.RunEnd.TheVariants as ends
-use Rattle.ijvm_instr.specs.Instructions.{of_bytes, instr_at}
-use Rattle.ijvm_image.specs.Image.{params, others}
-use Rattle.ijvm_meaning.specs.Frames.{lv_of, sp_of, top_of}
-use Rattle.ijvm_meaning.specs.Cost.{timing_of}
-use Rattle.ijvm_meaning.specs.Run.{TimedImage, Finish, first_point, finish_from}
+use Rattle.ijvm_instr.specs.Prelude.{of_bytes, instr_at}
+use Rattle.ijvm_image.specs.Prelude.{params, others}
+use Rattle.ijvm_meaning.specs.Prelude.{lv_of, sp_of, top_of, timing_of, TimedImage, Finish, first_point, finish_from}
 
 record Told : Type 0 where
   end : RunEnd

@@ -6,16 +6,14 @@ use Rattle.std.specs.Int.Bits.{and_lt}
 use Rattle.std.proofs.lemmas.Nat.{or_lt}
 use Rattle.std.proofs.lemmas.Bool.Decides.{nat_tests}
 use Rattle.std.proofs.lemmas.List.Elements.{All-nil, All-cons, All-take, All-drop, All-set, All-replicate, All-head, All-tail}
-use Rattle.mic_words.specs.Arithmetic.{wrap, plus, minus, is_negative}
-use Rattle.console_port.specs.World.{next_byte}
+use Rattle.mic_words.specs.Prelude.{wrap, plus, minus, is_negative}
+use Rattle.console_port.specs.Prelude.{next_byte}
 use Rattle.ijvm_instr.specs.declared.instr.Instr.{Instr}
 use Rattle.ijvm_instr.specs.declared.instr.Instr.TheVariants.{Nop, Bipush, LdcW, Iload, Istore, Pop, Dup, Swap, Iadd, Isub, Iand, Iinc, Ifeq, Iflt, IfIcmpeq, Goto, Ireturn, Ior, Invokevirtual, WideIload, WideIstore, WideIinc, In, Out, Err, Halt}
-use Rattle.ijvm_instr.specs.Instructions.{IsInstr, instr_at, word_of, target}
+use Rattle.ijvm_instr.specs.Prelude.{IsInstr, instr_at, word_of, target}
 use Rattle.ijvm_image.specs.declared.method.Method.{Method}
-use Rattle.ijvm_image.specs.Image.{ImageView, IsImage, method_at, params, others}
-use Rattle.ijvm_meaning.specs.Frames.{Frame, State, frames_of, base, start_of, IsWord, HasWords, AreWords}
-use Rattle.ijvm_meaning.specs.Step.{StepOutcome, Goes, Limits, Stuck, moved, pushed, pushed_constant, loaded, is_own, with_local, stored, increased, popped, doubled, swapped, combined, way, branched, compared, returned, onto, called, in_method, entered, called_at, taken, given_out, step, step_if_any, step_outcome}
-use Rattle.ijvm_meaning.specs.Run.{TimedImage, Point, Passes, Start, More}
+use Rattle.ijvm_image.specs.Prelude.{ImageView, IsImage, method_at, params, others}
+use Rattle.ijvm_meaning.specs.Prelude.{Frame, State, frames_of, base, start_of, IsWord, HasWords, AreWords, StepOutcome, Goes, Limits, Stuck, moved, pushed, pushed_constant, loaded, is_own, with_local, stored, increased, popped, doubled, swapped, combined, way, branched, compared, returned, onto, called, in_method, entered, called_at, taken, given_out, step, step_if_any, step_outcome, TimedImage, Point, Passes, Start, More}
 
 found : {X : Type 0} (P : X → Type 0) (xs : List X) (i : ℕ) → All P xs → IfSome (slice_get xs i) P
 found P [] i h = tt

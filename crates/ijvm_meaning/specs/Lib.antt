@@ -4,3 +4,4 @@ pub mod Cost
 pub mod Run
 pub mod Safe
 pub mod Limited
+pub mod Prelude

@@ -1,6 +1,6 @@
 -- Runs that never get stuck: no instruction lacks an operand, a constant, a method, a local or a caller, and none is missing.
 use Rattle.std.specs.Prelude.{◌≡◌, ◌≢◌, ℕ, []}
-use Rattle.ijvm_image.specs.Image.{ImageView}
+use Rattle.ijvm_image.specs.Prelude.{ImageView}
 use Rattle.ijvm_meaning.specs.Frames.{State, start_of}
 use Rattle.ijvm_meaning.specs.Step.{Goes, Stuck, step_outcome}
 

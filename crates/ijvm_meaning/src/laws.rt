@@ -1,7 +1,7 @@
 //! What holds of every run of the definition.
 
 ghost use Rattle.std.specs.Prelude.{ℕ, List};
-ghost use Rattle.ijvm_image.specs.Image.{ImageView, IsImage};
+ghost use Rattle.ijvm_image.specs.Prelude.{ImageView, IsImage};
 ghost use Rattle.ijvm_meaning.specs.Frames.{State, AreWords, start_of};
 ghost use Rattle.ijvm_meaning.specs.Run.{TimedImage, Point, Passes, EndsOnce, PassesItsEnd, EndsAlike, StepsLead, GoesOnInWords, EndsInWords, PassesInWords};
 

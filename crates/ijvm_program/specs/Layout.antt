@@ -2,7 +2,7 @@
 use Rattle.std.specs.Prelude.{ℕ, ◌+◌, ℤ, pos, List, take, sum_by}
 use Rattle.ijvm_instr.specs.declared.instr.Instr.{Instr}
 use Rattle.ijvm_instr.specs.declared.instr.Instr.TheVariants as instrs
-use Rattle.ijvm_instr.specs.Instructions.{row_of, size_of}
+use Rattle.ijvm_instr.specs.Prelude.{row_of, size_of}
 use Rattle.ijvm_program.specs.declared.line.CodeLine.{CodeLine}
 use Rattle.ijvm_program.specs.declared.line.Jump.{Jump}
 use Rattle.ijvm_program.specs.declared.line.Jump.TheVariants.{Ifeq, Iflt, IfIcmpeq, Goto}

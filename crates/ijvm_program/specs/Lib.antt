@@ -1,3 +1,4 @@
 pub mod Unit
 pub mod Layout
 pub mod Program
+pub mod Prelude

@@ -4,9 +4,8 @@ use Rattle.std.proofs.lemmas.Bool.Decides.{nat_tests}
 use Rattle.std.proofs.lemmas.List.{length-drop, length-take-le, length-replicate}
 use Rattle.std.proofs.lemmas.Bool.{cond-true, cond-false}
 use Rattle.ijvm_image.specs.declared.method.Method.{Method}
-use Rattle.ijvm_meaning.specs.Frames.{Frame, State, base, frames_of}
-use Rattle.ijvm_meaning.specs.Step.{Goes, Limits, Stuck, called, onto, limited, in_method, entered, called_at}
-use Rattle.ijvm_reference.specs.Machine.{MachineView, state_of, in_call}
+use Rattle.ijvm_meaning.specs.Prelude.{Frame, State, base, frames_of, Goes, Limits, Stuck, called, onto, limited, in_method, entered, called_at}
+use Rattle.ijvm_reference.specs.Prelude.{MachineView, state_of, in_call}
 use Rattle.ijvm_reference.proofs.Placed.{length-onto}
 
 -- the frames after a call take this many words more

@@ -10,11 +10,9 @@ use Rattle.ijvm_instr.specs.declared.instr.Instr.TheVariants.{Nop, Err, Halt}
 use Rattle.ijvm_instr.specs.declared.row.Cost.{Cost}
 use Rattle.ijvm_instr.specs.declared.row.Cost.TheVariants.{Always, IfTaken, ByEntry}
 use Rattle.ijvm_instr.specs.declared.row.Row.{Row}
-use Rattle.ijvm_instr.specs.Instructions.{row_of, instr_at}
-use Rattle.ijvm_image.specs.Image.{ImageView}
-use Rattle.ijvm_meaning.specs.Frames.{State}
-use Rattle.ijvm_meaning.specs.Step.{Goes, step, step_if_any, step_outcome}
-use Rattle.ijvm_meaning.specs.Cost.{timing_of, column, cycles_of, is_taken, entry_of, cost_at, next_cost}
+use Rattle.ijvm_instr.specs.Prelude.{row_of, instr_at}
+use Rattle.ijvm_image.specs.Prelude.{ImageView}
+use Rattle.ijvm_meaning.specs.Prelude.{State, Goes, step, step_if_any, step_outcome, timing_of, column, cycles_of, is_taken, entry_of, cost_at, next_cost}
 
 pub index-none : (xs : List ℕ) (i : ℕ) → slice_get xs i ≡ None → slice_index xs i ≡ 0
 index-none [] i e = refl

@@ -1,9 +1,8 @@
 -- Frames keep their places.
 use Rattle.std.proofs.Common.{◌≡◌, ◌≤◌, ◌<◌, ◌^◌, ◌++◌, reverse, ℕ, ◌+◌, ◌-◌, take, drop, replicate, Bool, true, false, List, [], ◌∷◌, length, Option, Some, None, slice_set, sym, ap, ◌∙◌, subst, arith}
 use Rattle.std.proofs.lemmas.List.{reverse-append, length-set, length-drop, length-take-le, length-replicate}
-use Rattle.ijvm_meaning.specs.Frames.{Frame, base, kept_words}
-use Rattle.ijvm_meaning.specs.Step.{called, onto}
-use Rattle.ijvm_reference.specs.Machine.{ArePlaced, Pops, Stores, Swaps}
+use Rattle.ijvm_meaning.specs.Prelude.{Frame, base, kept_words, called, onto}
+use Rattle.ijvm_reference.specs.Prelude.{ArePlaced, Pops, Stores, Swaps}
 
 pub base_least : (fs : List Frame) → 0x8000 ≤ base fs
 base_least [] = omega arith

@@ -4,8 +4,7 @@ use Rattle.std.specs.declared.alloc.AllocError.{AllocError}
 use Rattle.std.proofs.lemmas.List.{take-append-drop}
 use Rattle.std.proofs.lemmas.Bool.{lt-leb, le-leb}
 use Rattle.mic_words.specs.declared.machine.Machine.{Machine}
-use Rattle.console_port.specs.View.{ConsoleView}
-use Rattle.console_port.specs.Console.{Untaken, Given, IsLost, TellsLeft}
+use Rattle.console_port.specs.Prelude.{ConsoleView, Untaken, Given, IsLost, TellsLeft, SinkGoesOn, SourceGoesOn}
 use Rattle.ijvm_reference.specs.declared.frames.StepEnd.{StepEnd}
 use Rattle.ijvm_reference.specs.declared.frames.StepEnd.TheVariants as steps
 use Rattle.ijvm_reference.specs.declared.frames.StepError.{StepError}
@@ -14,22 +13,14 @@ use Rattle.ijvm_meaning.specs.declared.run.RunEnd.{RunEnd}
 use Rattle.ijvm_meaning.specs.declared.run.RunEnd.TheVariants as defined
 use Rattle.ijvm_reference.specs.declared.plain.PlainEnd.{PlainEnd}
 use Rattle.ijvm_reference.specs.declared.plain.PlainEnd.TheVariants as ends
-use Rattle.ijvm_instr.specs.Instructions.{instr_at}
-use Rattle.console_port.specs.Streams.{SinkGoesOn, SourceGoesOn}
+use Rattle.ijvm_instr.specs.Prelude.{instr_at}
 use Rattle.ijvm_reference.specs.declared.plain.Counts.{Counts}
-use Rattle.ijvm_image.specs.Image.{ImageView}
-use Rattle.ijvm_meaning.specs.Frames.{State}
-use Rattle.ijvm_meaning.specs.Step.{StepOutcome, Goes, Halts, Errs, Limits, step_outcome}
-use Rattle.ijvm_meaning.specs.Limited.{limits-same, same_frames}
-use Rattle.ijvm_meaning.specs.Cost.{timing_of, next_cost}
-use Rattle.ijvm_meaning.specs.Run.{TimedImage, Point, Finish, point_after, completed, stopped, after_outcome, after_test, finish_from, EndsBy, Passes, Start, More}
-use Rattle.ijvm_reference.specs.Machine.{MachineView, KeepsProgram, state_of}
-use Rattle.ijvm_reference.specs.Steps.{IsLedOn, Does, IsCutOff, IsMetBy}
+use Rattle.ijvm_image.specs.Prelude.{ImageView}
+use Rattle.ijvm_meaning.specs.Prelude.{State, StepOutcome, Goes, Halts, Errs, Limits, step_outcome, limits-same, same_frames, timing_of, next_cost, TimedImage, Point, Finish, point_after, completed, stopped, after_outcome, after_test, finish_from, EndsBy, Passes, Start, More}
+use Rattle.ijvm_reference.specs.Prelude.{MachineView, KeepsProgram, state_of, IsLedOn, Does, IsCutOff, IsMetBy, HasKept, program_of, point_at, RunEndsWith, EndsIn, IsAllBut, IsAtBoundary, IsCut, ComesFurther, StoppedBy, IsShown, ShownBy, LedTo, TurnsTo, GoesOn, counts_after, stop_by, Reaches, Begins, Onward, cut_by}
 use Rattle.ijvm_reference.proofs.Costs.{next_cost-least}
 use Rattle.ijvm_reference.proofs.SafeLemmas.{some_untaken, some_given}
-use Rattle.ijvm_reference.specs.Kept.{HasKept}
 use Rattle.ijvm_reference.proofs.Keeping.{next_kept}
-use Rattle.ijvm_reference.specs.Runs.{program_of, point_at, RunEndsWith, EndsIn, IsAllBut, IsAtBoundary, IsCut, ComesFurther, StoppedBy, IsShown, ShownBy, LedTo, TurnsTo, GoesOn, counts_after, stop_by, Reaches, Begins, Onward, cut_by}
 
 -- what a step leads to may be replaced by what follows from it
 pub led_as : (left held : Option (List ℕ)) (c : ConsoleView) (left' held' : Option (List ℕ)) (c' : ConsoleView) (P Q : List ℕ → List ℕ → List ℕ → List ℕ → Type 0) →

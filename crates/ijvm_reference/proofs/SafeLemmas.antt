@@ -1,16 +1,11 @@
 -- A run that never gets stuck goes on so after each step.
 use Rattle.std.proofs.Common.{◌≡◌, ℕ, List, [], ◌++◌, Bool, true, false, Option, Some, None, IsSome, refl, sym, subst, ◌∙◌}
-use Rattle.console_port.specs.View.{ConsoleView}
-use Rattle.console_port.specs.Console.{Untaken, Given}
+use Rattle.console_port.specs.Prelude.{ConsoleView, Untaken, Given}
 use Rattle.ijvm_reference.specs.declared.frames.StepEnd.{StepEnd}
 use Rattle.ijvm_reference.specs.declared.frames.StepEnd.TheVariants as ends
-use Rattle.ijvm_image.specs.Image.{ImageView}
-use Rattle.ijvm_meaning.specs.Frames.{State}
-use Rattle.ijvm_meaning.specs.Step.{Goes, step_outcome}
-use Rattle.ijvm_meaning.specs.Limited.{limits-same}
-use Rattle.ijvm_meaning.specs.Safe.{SameFrames, ComesTo, Here, On, NeverStuck}
-use Rattle.ijvm_reference.specs.Machine.{MachineView, KeepsProgram, state_of}
-use Rattle.ijvm_reference.specs.Steps.{IsLedOn, Does, Turns}
+use Rattle.ijvm_image.specs.Prelude.{ImageView}
+use Rattle.ijvm_meaning.specs.Prelude.{State, Goes, step_outcome, limits-same, SameFrames, ComesTo, Here, On, NeverStuck}
+use Rattle.ijvm_reference.specs.Prelude.{MachineView, KeepsProgram, state_of, IsLedOn, Does, Turns}
 
 same_on : (s t u : State) → SameFrames s t → SameFrames t u → SameFrames s u
 same_on s t u first then_ = record { running = then_.running ∙ first.running; callers = then_.callers ∙ first.callers; at = then_.at ∙ first.at }

@@ -2,9 +2,8 @@
 use Rattle.std.proofs.Common.{◌≡◌, ◌==◌, false, ◌<◌, ◌≤◌, ℕ, suc, ◌+◌, ◌-◌, List, [], ◌∷◌, ◌++◌, length, take, drop, reverse, replicate, map, append_assoc, slice_index, slice_set, Option, Some, None, refl, ap, sym, ◌∙◌, arith}
 use Rattle.std.proofs.lemmas.List.{set_split, reverse-append, reverse-reverse, length-reverse, length-drop, length-take-le, take-append-drop, drop_more, take_more, drop_all, map-append}
 use Rattle.std.proofs.Math.Seq.{take-length, take-append_seam, drop-append_seam}
-use Rattle.ijvm_meaning.specs.Cost.{are_equal}
-use Rattle.ijvm_meaning.specs.Step.{onto}
-use Rattle.ijvm_reference.specs.Machine.{IsSwapped}
+use Rattle.ijvm_meaning.specs.Prelude.{are_equal, onto}
+use Rattle.ijvm_reference.specs.Prelude.{IsSwapped}
 
 last_split : (xs : List ℕ) → 0 < length xs → xs ≡ take (length xs - 1) xs ++ slice_index xs (length xs - 1) ∷ []
 last_split xs some =

@@ -3,10 +3,9 @@ use Rattle.std.proofs.Common.{◌≡◌, ◌≢◌, ◌<◌, ℕ, ◌+◌, ◌-�
 use Rattle.std.specs.declared.alloc.AllocError.{AllocError}
 use Rattle.std.specs.Prelude.{is_some}
 use Rattle.std.proofs.lemmas.List.{append-nil, append_cancel_left}
-use Rattle.mic_base.specs.Streams.{Holds}
+use Rattle.mic_base.specs.Prelude.{Holds}
 use Rattle.mic_words.specs.declared.machine.Machine.{Machine}
-use Rattle.console_port.specs.View.{ConsoleView}
-use Rattle.console_port.specs.Console.{Untaken, Given, IsLost, LosesLast, TellsLeft}
+use Rattle.console_port.specs.Prelude.{ConsoleView, Untaken, Given, IsLost, LosesLast, TellsLeft}
 use Rattle.ijvm_reference.specs.declared.frames.StepError.{StepError}
 use Rattle.ijvm_reference.specs.declared.frames.StepError.TheVariants as errors
 use Rattle.ijvm_meaning.specs.declared.run.RunEnd.{RunEnd}
@@ -15,17 +14,10 @@ use Rattle.ijvm_reference.specs.declared.plain.PlainEnd.{PlainEnd}
 use Rattle.ijvm_reference.specs.declared.plain.PlainEnd.TheVariants as ends
 use Rattle.ijvm_reference.specs.declared.plain.PlainReport.{PlainReport}
 use Rattle.ijvm_reference.specs.declared.plain.Counts.{Counts}
-use Rattle.ijvm_instr.specs.Instructions.{instr_at}
-use Rattle.ijvm_image.specs.Image.{ImageView}
-use Rattle.ijvm_meaning.specs.Frames.{Frame, State, frames_of, base}
-use Rattle.ijvm_meaning.specs.Safe.{SameFrames}
-use Rattle.ijvm_meaning.specs.Cost.{timing_of}
-use Rattle.ijvm_meaning.specs.Run.{TimedImage, Point, Finish, first_point, EndsBy}
-use Rattle.ijvm_reference.specs.Machine.{MachineView, state_of, started}
-use Rattle.ijvm_reference.specs.Steps.{IsMetBy}
-use Rattle.ijvm_reference.specs.Kept.{fresh}
-use Rattle.ijvm_reference.specs.Runs.{program_of, point_at, IsAllBut, IsCut, EndsIn, StoppedBy, IsShown, IsDriven, Reaches, Begins}
-use Rattle.ijvm_reference.specs.Plain.{told_of, reported_end, IsReportOf, Reports, Leaves, GotFront, Finishes, Stops, HasRun, IsCutByRead, IsCutInside, IsCutAtEnd, IsShort}
+use Rattle.ijvm_instr.specs.Prelude.{instr_at}
+use Rattle.ijvm_image.specs.Prelude.{ImageView}
+use Rattle.ijvm_meaning.specs.Prelude.{Frame, State, frames_of, base, SameFrames, timing_of, TimedImage, Point, Finish, first_point, EndsBy}
+use Rattle.ijvm_reference.specs.Prelude.{MachineView, state_of, started, IsMetBy, fresh, program_of, point_at, IsAllBut, IsCut, EndsIn, StoppedBy, IsShown, IsDriven, Reaches, Begins, told_of, reported_end, IsReportOf, Reports, Leaves, GotFront, Finishes, Stops, HasRun, IsCutByRead, IsCutInside, IsCutAtEnd, IsShort}
 use Rattle.ijvm_reference.proofs.SafeLemmas.{some_untaken}
 use Rattle.ijvm_reference.proofs.Running.{lost_shown}
 use Rattle.ijvm_reference.proofs.Behind.{behind, point_behind, finish_behind, ended_behind, reached_behind}

@@ -2,14 +2,13 @@
 use Rattle.std.proofs.Common.{◌≡◌, ◌≢◌, ℕ, List, Option, Some, refl, sym, ap, subst}
 use Rattle.ijvm_instr.specs.declared.instr.Instr.{Instr}
 use Rattle.ijvm_instr.specs.declared.instr.Instr.TheVariants.{In, Out, Err, Halt}
-use Rattle.console_port.specs.View.{ConsoleView}
+use Rattle.console_port.specs.Prelude.{ConsoleView}
 use Rattle.ijvm_reference.specs.declared.frames.StepError.{StepError}
 use Rattle.ijvm_reference.specs.declared.compute.Effect.{Effect}
 use Rattle.ijvm_reference.specs.declared.compute.Effect.TheVariants as effects
-use Rattle.ijvm_instr.specs.Instructions.{instr_at}
-use Rattle.ijvm_meaning.specs.Step.{step_outcome, step, step_if_any}
-use Rattle.ijvm_reference.specs.Machine.{MachineView, IsComputed, state_of, outcome_of}
-use Rattle.ijvm_reference.specs.Steps.{StepFails, Turns, step_end}
+use Rattle.ijvm_instr.specs.Prelude.{instr_at}
+use Rattle.ijvm_meaning.specs.Prelude.{step_outcome, step, step_if_any}
+use Rattle.ijvm_reference.specs.Prelude.{MachineView, IsComputed, state_of, outcome_of, StepFails, Turns, step_end}
 
 pub is_computed : (i : Instr) → i ≢ Halt → i ≢ Err → i ≢ In → i ≢ Out → IsComputed i
 is_computed In h e n m = n refl

@@ -1,7 +1,6 @@
 -- What the console keeps along a run: OUT adds a byte, and empties a full console first; IN empties it, until it has met the end of input.
 use Rattle.std.specs.Prelude.{◌≡◌, ◌≢◌, ◌⊎◌, ◌<◌, ◌≤◌, ℕ, ◌+◌, Bool, true, false, List, [], ◌∷◌, length, Option, Some}
-use Rattle.console_port.specs.View.{ConsoleView}
-use Rattle.console_port.specs.Console.{Untaken, TellsLeft}
+use Rattle.console_port.specs.Prelude.{ConsoleView, Untaken, TellsLeft}
 use Rattle.ijvm_instr.specs.declared.instr.Instr.{Instr}
 use Rattle.ijvm_instr.specs.declared.instr.Instr.TheVariants.{In, Out}
 

@@ -3,3 +3,4 @@ pub mod Kept
 pub mod Steps
 pub mod Runs
 pub mod Plain
+pub mod Prelude

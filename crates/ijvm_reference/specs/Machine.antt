@@ -4,15 +4,14 @@ use Rattle.std.specs.declared.alloc.AllocError.{AllocError}
 use Rattle.ijvm_instr.specs.declared.instr.Instr.{Instr}
 use Rattle.ijvm_instr.specs.declared.instr.Instr.TheVariants.{In, Out, Err, Halt}
 use Rattle.ijvm_image.specs.declared.method.Method.{Method}
-use Rattle.ijvm_instr.specs.Instructions.{instr_at}
-use Rattle.ijvm_image.specs.Image.{ImageView, method_at}
-use Rattle.ijvm_meaning.specs.Frames.{Frame, State, start_of, base, IsWord}
-use Rattle.mic_words.specs.Arithmetic.{plus, minus}
+use Rattle.ijvm_instr.specs.Prelude.{instr_at}
+use Rattle.ijvm_image.specs.Prelude.{ImageView, method_at}
+use Rattle.ijvm_meaning.specs.Prelude.{Frame, State, start_of, base, IsWord, StepOutcome, Goes, Limits, Stuck, is_own, in_method, pushed_constant, loaded, increased, called_at}
+use Rattle.mic_words.specs.Prelude.{plus, minus}
 use Rattle.ijvm_reference.specs.declared.compute.Operator.{Operator}
 use Rattle.ijvm_reference.specs.declared.compute.Operator.TheVariants as operators
 use Rattle.ijvm_reference.specs.declared.compute.Effect.{Effect}
 use Rattle.ijvm_reference.specs.declared.compute.Effect.TheVariants as effects
-use Rattle.ijvm_meaning.specs.Step.{StepOutcome, Goes, Limits, Stuck, is_own, in_method, pushed_constant, loaded, increased, called_at}
 
 pub record MachineView : Type 0 where
   pub image : ImageView

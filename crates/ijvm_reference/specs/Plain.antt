@@ -2,8 +2,7 @@
 use Rattle.std.specs.Prelude.{◌≡◌, ◌≢◌, ◌⊎◌, ℕ, ◌<◌, ◌+◌, false, List, [], ◌∷◌, ◌++◌, Option, Some, IfSome, Result, Ok, Err, is_some, unwrap_or}
 use Rattle.std.specs.declared.alloc.AllocError.{AllocError}
 use Rattle.mic_words.specs.declared.machine.Machine.{Machine}
-use Rattle.console_port.specs.View.{ConsoleView}
-use Rattle.console_port.specs.Console.{Untaken, LosesLast}
+use Rattle.console_port.specs.Prelude.{ConsoleView, Untaken, LosesLast}
 use Rattle.console_port.specs.declared.map.MemoryMap.{MemoryMap}
 use Rattle.ijvm_instr.specs.declared.instr.Instr.TheVariants.{In}
 use Rattle.ijvm_meaning.specs.declared.run.RunEnd.{RunEnd}
@@ -12,11 +11,9 @@ use Rattle.ijvm_reference.specs.declared.plain.PlainEnd.{PlainEnd}
 use Rattle.ijvm_reference.specs.declared.plain.PlainEnd.TheVariants as ends
 use Rattle.ijvm_reference.specs.declared.plain.PlainReport.{PlainReport}
 use Rattle.ijvm_reference.specs.declared.plain.Counts.{Counts}
-use Rattle.ijvm_instr.specs.Instructions.{instr_at}
-use Rattle.ijvm_image.specs.Image.{ImageView}
-use Rattle.ijvm_meaning.specs.Frames.{base, sp_of, lv_of}
-use Rattle.ijvm_meaning.specs.Cost.{timing_of}
-use Rattle.ijvm_meaning.specs.Run.{TimedImage, Point, Finish, first_point, EndsBy}
+use Rattle.ijvm_instr.specs.Prelude.{instr_at}
+use Rattle.ijvm_image.specs.Prelude.{ImageView}
+use Rattle.ijvm_meaning.specs.Prelude.{base, sp_of, lv_of, timing_of, TimedImage, Point, Finish, first_point, EndsBy}
 use Rattle.ijvm_reference.specs.Kept.{PutsKept, fresh}
 use Rattle.ijvm_reference.specs.Machine.{MachineView}
 use Rattle.ijvm_reference.specs.Runs.{Reaches, IsAllBut}

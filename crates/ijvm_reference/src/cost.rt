@@ -1,7 +1,7 @@
 //! What the next instruction costs.
 
 ghost use Rattle.std.specs.Prelude.{◌≡◌, ◌≤◌, []};
-ghost use Rattle.ijvm_meaning.specs.Cost.{column, timing_of, is_taken, entry_of, next_cost};
+ghost use Rattle.ijvm_meaning.specs.Prelude.{column, timing_of, is_taken, entry_of, next_cost};
 ghost use Rattle.ijvm_reference.specs.Machine.{state_of};
 
 use crate::machine::PlainMachine;

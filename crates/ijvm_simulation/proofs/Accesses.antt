@@ -3,9 +3,9 @@ use Rattle.std.proofs.Common.{◌≡◌, ℕ, ◌+◌, ◌^◌, ◌<◌, ◌≤�
 use Rattle.std.specs.Prelude.{slice_index, nat_lt}
 use Rattle.std.proofs.lemmas.Bool.Decides.{nat_tests}
 use Rattle.std.proofs.lemmas.List.{set_past}
-use Rattle.mic_words.specs.Arithmetic.{wrap, next, before}
-use Rattle.console_port.specs.World.{World, StackLimit, read_value, untaken_after, given_after, read_refusal, write_refusal}
-use Rattle.ijvm_simulation.specs.Stack.{IsMapEnd, IsWordAccess, IsConsoleAccess}
+use Rattle.mic_words.specs.Prelude.{wrap, next, before}
+use Rattle.console_port.specs.Prelude.{World, StackLimit, read_value, untaken_after, given_after, read_refusal, write_refusal}
+use Rattle.ijvm_simulation.specs.Prelude.{IsMapEnd, IsWordAccess, IsConsoleAccess}
 
 pub next_is : (x y : ℕ) → x + 1 ≡ y → y < 2 ^ 32 → next x ≡ y
 unfolding wrap

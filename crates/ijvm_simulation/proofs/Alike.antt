@@ -2,21 +2,14 @@
 use Rattle.std.proofs.Common.{◌≡◌, ◌≢◌, ℕ, zero, suc, ◌+◌, ◌++◌, Bool, true, false, Option, Some, None, List, refl, sym, ◌∙◌, ap, subst}
 use Rattle.std.specs.Prelude.{nat_le, IfSome}
 use Rattle.std.proofs.lemmas.Option.{same_Some}
-use Rattle.console_port.specs.World.{World}
+use Rattle.console_port.specs.Prelude.{World}
 use Rattle.mic_clock.specs.declared.counts.Counts.{Counts}
-use Rattle.mic_clock.specs.Meaning.{Meaning}
-use Rattle.mic_clock.specs.View.{BoardView}
+use Rattle.mic_clock.specs.Prelude.{Meaning, BoardView}
 use Rattle.ijvm_meaning.specs.declared.run.RunEnd.{RunEnd}
 use Rattle.ijvm_meaning.specs.declared.run.RunEnd.TheVariants as defined
-use Rattle.ijvm_meaning.specs.Frames.{State, start_of}
-use Rattle.ijvm_meaning.specs.Step.{StepOutcome, Goes, Halts, Errs, Limits, Stuck, step_outcome}
-use Rattle.ijvm_meaning.specs.Cost.{Timing}
-use Rattle.ijvm_meaning.specs.Run.{TimedImage, Point, Finish, point_after, finish_from, after_test, after_outcome, completed, stopped, first_point}
-use Rattle.verifier_facts.specs.Accepted.{VerifiedView}
-use Rattle.ijvm_simulation.specs.Simulates.{board_end}
-use Rattle.ijvm_simulation.specs.Verified.{program}
-use Rattle.ijvm_simulation.specs.Headline.{told_of, HasRun}
-use Rattle.ijvm_simulation.specs.Agreement.{EndAlike, MeetNoBound}
+use Rattle.ijvm_meaning.specs.Prelude.{State, start_of, StepOutcome, Goes, Halts, Errs, Limits, Stuck, step_outcome, Timing, TimedImage, Point, Finish, point_after, finish_from, after_test, after_outcome, completed, stopped, first_point}
+use Rattle.verifier_facts.specs.Prelude.{VerifiedView}
+use Rattle.ijvm_simulation.specs.Prelude.{board_end, program, told_of, HasRun, EndAlike, MeetNoBound}
 
 -- two ends of runs with the same states
 pub record Alike (f g : Finish) : Type 0 where

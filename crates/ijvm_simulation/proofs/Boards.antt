@@ -1,22 +1,16 @@
 -- What a board that was run over a verified image from its reset shows of the run.
 use Rattle.std.proofs.Common.{◌≡◌, ℕ, List, [], ◌++◌, Option, Some, None, IfSome, Bool, true, false, refl, sym, ◌∙◌, ap, subst}
 use Rattle.std.proofs.lemmas.List.{append-nil}
-use Rattle.mic_base.specs.Streams.{Holds}
-use Rattle.micro_word.specs.ControlStore.{ControlStore}
-use Rattle.console_port.specs.World.{World}
-use Rattle.console_port.specs.Console.{Untaken, Given, TellsLeft, StillTells}
-use Rattle.mic_clock.specs.Meaning.{Meaning}
-use Rattle.mic_clock.specs.View.{BoardView}
+use Rattle.mic_base.specs.Prelude.{Holds}
+use Rattle.micro_word.specs.Prelude.{ControlStore}
+use Rattle.console_port.specs.Prelude.{World, Untaken, Given, TellsLeft, StillTells}
+use Rattle.mic_clock.specs.Prelude.{Meaning, BoardView, MicroRun, turns, ShowsRun, IsLedTo, Leads}
 use Rattle.mic_clock.specs.declared.end.End.{End}
-use Rattle.mic_clock.specs.Run.{MicroRun, turns}
-use Rattle.mic_clock.specs.Board.{ShowsRun, IsLedTo, Leads, IsCutByRead as IsReadCut, IsCutByWrite as IsCut}
-use Rattle.ijvm_meaning.specs.Cost.{Timing}
-use Rattle.verifier_facts.specs.Accepted.{VerifiedView}
-use Rattle.ijvm_simulation.specs.Simulates.{IsEnd}
-use Rattle.ijvm_simulation.specs.Law.{Grows}
-use Rattle.ijvm_simulation.specs.Promises.{Promises}
-use Rattle.mic_image_board.specs.Reset.{IsAtReset, reset_run}
-use Rattle.ijvm_simulation.specs.Headline.{told_of, Leaves, Begins, HasRun, IsCutByRead, IsCutByWrite}
+use Rattle.mic_clock.specs.Board.{IsCutByRead as IsReadCut, IsCutByWrite as IsCut}
+use Rattle.ijvm_meaning.specs.Prelude.{Timing}
+use Rattle.verifier_facts.specs.Prelude.{VerifiedView}
+use Rattle.ijvm_simulation.specs.Prelude.{IsEnd, Grows, Promises, told_of, Leaves, Begins, HasRun, IsCutByRead, IsCutByWrite}
+use Rattle.mic_image_board.specs.Prelude.{IsAtReset, reset_run}
 use Rattle.ijvm_simulation.proofs.Next.{Known}
 use Rattle.ijvm_simulation.proofs.Carried.{simulated}
 use Rattle.ijvm_simulation.proofs.Worlds.{same_end, front_of_end}

@@ -1,15 +1,11 @@
 -- From the reset of a machine to its first boundary.
 use Rattle.std.proofs.Common.{◌≡◌, ℕ, zero, suc, ◌+◌, ◌<◌, Some, false, List, refl, arith, sym, ◌∙◌, ap, subst}
 use Rattle.std.proofs.lemmas.Bool.Decides.{nat_tests}
-use Rattle.console_port.specs.World.{World}
-use Rattle.mic_clock.specs.Meaning.{Meaning}
-use Rattle.mic_clock.specs.Run.{MicroRun, turns}
-use Rattle.ijvm_meaning.specs.Frames.{State, start_of}
-use Rattle.ijvm_meaning.specs.Run.{TimedImage, first_point}
-use Rattle.ijvm_simulation.specs.Stands.{Origin}
-use Rattle.ijvm_simulation.specs.Simulates.{IsBoundary}
-use Rattle.ijvm_simulation.specs.Law.{ShowsState, Boots, reset_moment}
-use Rattle.mic_image_board.specs.Reset.{reset_run}
+use Rattle.console_port.specs.Prelude.{World}
+use Rattle.mic_clock.specs.Prelude.{Meaning, MicroRun, turns}
+use Rattle.ijvm_meaning.specs.Prelude.{State, start_of, TimedImage, first_point}
+use Rattle.ijvm_simulation.specs.Prelude.{Origin, IsBoundary, ShowsState, Boots, reset_moment}
+use Rattle.mic_image_board.specs.Prelude.{reset_run}
 use Rattle.ijvm_simulation.proofs.Passes.{not_boundary}
 use Rattle.ijvm_simulation.proofs.Turns.{IsReady, moment_of, run_at, run_inside, pass_turns, pass_turns_inside, Shorter, shorter}
 

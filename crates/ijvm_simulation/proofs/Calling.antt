@@ -4,18 +4,14 @@ use Rattle.std.proofs.Common.{List, ◌∷◌, ◌++◌, length, take, drop, rep
 use Rattle.std.specs.Prelude.{slice_index, slice_set, slice_get}
 use Rattle.std.proofs.lemmas.Bool.{cases_lt}
 use Rattle.std.proofs.lemmas.Option.{same_Some}
-use Rattle.mic_words.specs.Arithmetic.{plus, minus, next}
-use Rattle.console_port.specs.World.{World, StackLimit, read_value, untaken_after, given_after, after_read, after_write, byte_in, read_refusal, write_refusal}
+use Rattle.mic_words.specs.Prelude.{plus, minus, next}
+use Rattle.console_port.specs.Prelude.{World, StackLimit, read_value, untaken_after, given_after, after_read, after_write, byte_in, read_refusal, write_refusal}
 use Rattle.ijvm_image.specs.declared.method.Method.{Method}
-use Rattle.ijvm_image.specs.Image.{method_at}
+use Rattle.ijvm_image.specs.Prelude.{method_at}
 use Rattle.ijvm_instr.specs.declared.instr.Instr.TheVariants.{Ireturn}
-use Rattle.ijvm_meaning.specs.Frames.{Frame, State, base, kept_words}
-use Rattle.ijvm_meaning.specs.Step.{onto, in_method}
-use Rattle.verifier_facts.specs.Accepted.{VerifiedView}
-use Rattle.ijvm_simulation.specs.Stands.{Origin, RegistersStand, IsLinked, caller_lv}
-use Rattle.ijvm_simulation.specs.Stack.{IsMapEnd, IsWordAccess, IsConstant, IsMethod, Arguments, place_behind, linked_words, Top, AtBoundary}
-use Rattle.ijvm_simulation.specs.Outcomes.{WithMethod, Returns, Fits, Overflows}
-use Rattle.ijvm_simulation.specs.Verified.{Loads, IsNext}
+use Rattle.ijvm_meaning.specs.Prelude.{Frame, State, base, kept_words, onto, in_method}
+use Rattle.verifier_facts.specs.Prelude.{VerifiedView}
+use Rattle.ijvm_simulation.specs.Prelude.{Origin, RegistersStand, IsLinked, caller_lv, IsMapEnd, IsWordAccess, IsConstant, IsMethod, Arguments, place_behind, linked_words, Top, AtBoundary, WithMethod, Returns, Fits, Overflows, Loads, IsNext}
 use Rattle.ijvm_simulation.proofs.Stack.{law}
 
 module _ {v : VerifiedView} {o : Origin} {s : State} {sp lv cpp tos : ℕ} {w : World} (loads : Loads v o)

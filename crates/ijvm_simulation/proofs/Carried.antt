@@ -2,20 +2,13 @@
 use Rattle.std.proofs.Common.{◌≡◌, ℕ, zero, suc, ◌+◌, ◌≤◌, List, length, replicate, refl, arith, ◌∙◌, inr}
 use Rattle.std.specs.Prelude.{slice_index}
 use Rattle.std.proofs.lemmas.List.{length-replicate}
-use Rattle.console_port.specs.Loading.{IsLoaded}
-use Rattle.console_port.specs.World.{World}
-use Rattle.mic_clock.specs.Meaning.{Meaning}
-use Rattle.ijvm_image.specs.Image.{IsImage}
-use Rattle.ijvm_meaning.specs.Frames.{start_of}
-use Rattle.ijvm_meaning.specs.Cost.{Timing}
-use Rattle.ijvm_meaning.specs.Run.{first_point}
-use Rattle.verifier_facts.specs.Accepted.{VerifiedView, IsAccepted}
-use Rattle.ijvm_simulation.specs.Stands.{Origin, IsAt}
-use Rattle.ijvm_simulation.specs.Verified.{program, Loads, Fine}
-use Rattle.ijvm_simulation.specs.Promises.{Promises}
-use Rattle.ijvm_simulation.specs.Law.{Law, Boots, reset_moment}
-use Rattle.ijvm_simulation.specs.Simulates.{Simulates}
-use Rattle.mic_image_board.specs.Reset.{reset_run}
+use Rattle.console_port.specs.Prelude.{IsLoaded, World}
+use Rattle.mic_clock.specs.Prelude.{Meaning}
+use Rattle.ijvm_image.specs.Prelude.{IsImage}
+use Rattle.ijvm_meaning.specs.Prelude.{start_of, Timing, first_point}
+use Rattle.verifier_facts.specs.Prelude.{VerifiedView, IsAccepted}
+use Rattle.ijvm_simulation.specs.Prelude.{Origin, IsAt, program, Loads, Fine, Promises, Law, Boots, reset_moment, Simulates}
+use Rattle.mic_image_board.specs.Prelude.{reset_run}
 use Rattle.ijvm_simulation.proofs.Instruction.{Law as BoundaryLaw}
 use Rattle.ijvm_simulation.proofs.Next.{Known, fine_start, keeps, boundary_law}
 use Rattle.ijvm_simulation.proofs.Boots.{booted, quiet}

@@ -1,10 +1,8 @@
 -- The boundaries counted from the first one, and those that the definition's run passes.
 use Rattle.std.proofs.Common.{◌≡◌, ◌<◌, ℕ, zero, suc, Bool, true, false, nat_le, Option, Some, refl, sym, ◌∙◌, ap, subst}
 use Rattle.std.proofs.lemmas.Bool.{lt-leb, leb-false}
-use Rattle.ijvm_meaning.specs.Frames.{State}
-use Rattle.ijvm_meaning.specs.Step.{StepOutcome, Goes, step_outcome}
-use Rattle.ijvm_meaning.specs.Run.{TimedImage, Point, point_after, Passes, Start, More}
-use Rattle.ijvm_simulation.specs.Simulates.{below, going_on, point_behind}
+use Rattle.ijvm_meaning.specs.Prelude.{State, StepOutcome, Goes, step_outcome, TimedImage, Point, point_after, Passes, Start, More}
+use Rattle.ijvm_simulation.specs.Prelude.{below, going_on, point_behind}
 
 module _ (p : TimedImage) (bound : ℕ) where
   -- what is passed from the next boundary is passed from this one

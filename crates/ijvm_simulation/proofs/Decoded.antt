@@ -6,10 +6,9 @@ use Rattle.std.proofs.lemmas.Bool.Decides.{nat_tests}
 use Rattle.std.proofs.lemmas.Option.{same_Some}
 use Rattle.ijvm_instr.specs.declared.instr.Instr.{Instr}
 use Rattle.ijvm_instr.specs.declared.instr.Instr.TheVariants.{Nop, Bipush, LdcW, Iload, Istore, Pop, Dup, Swap, Iadd, Isub, Iand, Iinc, Ifeq, Iflt, IfIcmpeq, Goto, Ireturn, Ior, Invokevirtual, WideIload, WideIstore, WideIinc, In, Out, Err, Halt}
-use Rattle.ijvm_simulation.specs.Bytes.{Reads}
+use Rattle.ijvm_simulation.specs.Prelude.{Reads}
 use Rattle.ijvm_simulation.proofs.Numbers.{byte_word, half_word}
-use Rattle.ijvm_instr.specs.Halves.{byte_below}
-use Rattle.ijvm_instr.specs.Instructions.{row_of, size_of, begun_at, of_bytes, whole, instr_at}
+use Rattle.ijvm_instr.specs.Prelude.{byte_below, row_of, size_of, begun_at, of_bytes, whole, instr_at}
 
 -- one row of the decoder, then those after it
 row_by : (P : Instr → Type 0) (x y : ℕ) (found rest : Option Instr) (i : Instr) (t : Bool) → (x == y) ≡ t →

@@ -1,16 +1,11 @@
 -- A run from a reset with the store that ships ends as the definition's run.
 use Rattle.std.proofs.Common.{ℕ, List, Bool, refl, sym, ◌∙◌, ap, subst}
 use Rattle.std.proofs.lemmas.Option.{same_Some}
-use Rattle.console_port.specs.World.{World}
-use Rattle.console_port.specs.Console.{Untaken, Given}
-use Rattle.mic_clock.specs.Meaning.{Meaning}
-use Rattle.mic_clock.specs.Run.{MicroRun}
-use Rattle.ijvm_meaning.specs.Cost.{Timing}
-use Rattle.ijvm_simulation.specs.Simulates.{board_end}
-use Rattle.mic_image_board.specs.Reset.{reset_run}
-use Rattle.ijvm_simulation.specs.Headline.{told_of}
-use Rattle.ijvm_simulation.specs.Promises.{Promises}
-use Rattle.ijvm_simulation.specs.Starts.{EndsAsDefined}
+use Rattle.console_port.specs.Prelude.{World, Untaken, Given}
+use Rattle.mic_clock.specs.Prelude.{Meaning, MicroRun}
+use Rattle.ijvm_meaning.specs.Prelude.{Timing}
+use Rattle.ijvm_simulation.specs.Prelude.{board_end, told_of, Promises, EndsAsDefined}
+use Rattle.mic_image_board.specs.Prelude.{reset_run}
 use Rattle.ijvm_simulation.proofs.Next.{Known}
 use Rattle.ijvm_simulation.proofs.Carried.{simulated}
 use Rattle.ijvm_simulation.proofs.Boards.{rest_of, rest_fits, given_told}

@@ -1,20 +1,13 @@
 -- Each instruction is of a group, or ends a run.
 use Rattle.std.proofs.Common.{ℕ, List}
-use Rattle.console_port.specs.World.{World}
-use Rattle.mic_clock.specs.Meaning.{Meaning}
+use Rattle.console_port.specs.Prelude.{World}
+use Rattle.mic_clock.specs.Prelude.{Meaning}
 use Rattle.ijvm_instr.specs.declared.instr.Instr.{Instr}
 use Rattle.ijvm_instr.specs.declared.instr.Instr.TheVariants.{LdcW, Iload, Istore, Iinc, Ifeq, Iflt, IfIcmpeq, Goto, Ireturn, Invokevirtual, WideIload, WideIstore, WideIinc, In, Out, Err, Halt}
-use Rattle.ijvm_image.specs.Image.{ImageView}
-use Rattle.ijvm_meaning.specs.Frames.{State}
-use Rattle.ijvm_meaning.specs.Cost.{Timing, cost}
-use Rattle.verifier_facts.specs.Accepted.{VerifiedView}
-use Rattle.ijvm_simulation.specs.Stands.{Origin}
-use Rattle.ijvm_simulation.specs.Groups.{IsOfOperands, IsOfLocals, IsJump, IsCall, IsOfConsole, ByGroups}
-use Rattle.ijvm_simulation.specs.Passes.{Moment}
-use Rattle.ijvm_simulation.specs.Outcomes.{Went, Overran}
-use Rattle.ijvm_simulation.specs.Verified.{Fine, IsNext}
-use Rattle.ijvm_simulation.specs.Law.{Moves, Overruns, Takes}
-use Rattle.ijvm_simulation.specs.Stalls.{MovesWithStalls, OverrunsWithStalls, TakesWithStalls}
+use Rattle.ijvm_image.specs.Prelude.{ImageView}
+use Rattle.ijvm_meaning.specs.Prelude.{State, Timing, cost}
+use Rattle.verifier_facts.specs.Prelude.{VerifiedView}
+use Rattle.ijvm_simulation.specs.Prelude.{Origin, IsOfOperands, IsOfLocals, IsJump, IsCall, IsOfConsole, ByGroups, Moment, Went, Overran, Fine, IsNext, Moves, Overruns, Takes, MovesWithStalls, OverrunsWithStalls, TakesWithStalls}
 
 module _ (P : Instr → Type 0) (operands : (i : Instr) → IsOfOperands i → P i) (locals : (i : Instr) → IsOfLocals i → P i) (jumps : (i : Instr) → IsJump i → P i)
     (calls : (i : Instr) → IsCall i → P i) (consoles : (i : Instr) → IsOfConsole i → P i) (err : P Err) (halt : P Halt) where

@@ -3,15 +3,13 @@ use Rattle.std.proofs.Common.{◌≡◌, ℕ, zero, suc, ◌+◌, ◌<◌, ℤ, 
 use Rattle.std.specs.Prelude.{slice_get}
 use Rattle.std.proofs.lemmas.List.{length-replicate, append-nil}
 use Rattle.std.proofs.lemmas.List.Elements.{All-get_or}
-use Rattle.mic_words.specs.Arithmetic.{plus, signed_pair}
-use Rattle.console_port.specs.World.{byte_in}
+use Rattle.mic_words.specs.Prelude.{plus, signed_pair}
+use Rattle.console_port.specs.Prelude.{byte_in}
 use Rattle.ijvm_instr.specs.declared.instr.Instr.{Instr}
-use Rattle.ijvm_instr.specs.Instructions.{word_of, target}
-use Rattle.ijvm_meaning.specs.Frames.{State, HasWords, start_of, frames_of}
-use Rattle.verifier_facts.specs.Accepted.{VerifiedView}
-use Rattle.ijvm_simulation.specs.Stands.{Origin, RegistersStand, IsMemory}
-use Rattle.ijvm_simulation.specs.Verified.{Loads, Fine, IsNext}
-use Rattle.ijvm_simulation.specs.Stack.{IsMapEnd, jump, Lands}
+use Rattle.ijvm_instr.specs.Prelude.{word_of, target}
+use Rattle.ijvm_meaning.specs.Prelude.{State, HasWords, start_of, frames_of}
+use Rattle.verifier_facts.specs.Prelude.{VerifiedView}
+use Rattle.ijvm_simulation.specs.Prelude.{Origin, RegistersStand, IsMemory, Loads, Fine, IsNext, IsMapEnd, jump, Lands}
 use Rattle.ijvm_simulation.proofs.Words.{plus_comm}
 
 pub map : (v : VerifiedView) (o : Origin) → Loads v o → IsMapEnd (length o.words)

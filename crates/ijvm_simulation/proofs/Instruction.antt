@@ -3,22 +3,16 @@ use Rattle.std.proofs.Common.{◌≡◌, ℕ, zero, suc, ◌+◌, ◌<◌, Bool,
 use Rattle.std.specs.Prelude.{nat_le, ◌==◌, is_some}
 use Rattle.std.proofs.lemmas.Bool.Decides.{nat_tests}
 use Rattle.std.proofs.lemmas.Bool.{cases_lt}
-use Rattle.console_port.specs.World.{World, StackLimit}
+use Rattle.console_port.specs.Prelude.{World, StackLimit}
 use Rattle.mic_clock.specs.declared.counts.Boundary.{Boundary}
 use Rattle.mic_clock.specs.declared.counts.Counts.{Counts}
 use Rattle.mic_clock.specs.declared.end.End.{End}
 use Rattle.mic_clock.specs.declared.end.End.TheVariants as clocked
-use Rattle.mic_clock.specs.Meaning.{Meaning, Refused}
-use Rattle.mic_clock.specs.Run.{MicroRun, turn, turn_by, turns, bounded, after_step, after_end_or_step, end_before, completes, last_cycles, number_of}
+use Rattle.mic_clock.specs.Prelude.{Meaning, Refused, MicroRun, turn, turn_by, turns, bounded, after_step, after_end_or_step, end_before, completes, last_cycles, number_of}
 use Rattle.ijvm_meaning.specs.declared.run.RunEnd.{RunEnd}
 use Rattle.ijvm_meaning.specs.declared.run.RunEnd.TheVariants as defined
-use Rattle.ijvm_meaning.specs.Frames.{State}
-use Rattle.ijvm_meaning.specs.Step.{StepOutcome, Goes, Halts, Errs, Limits, Stuck, step_outcome}
-use Rattle.ijvm_meaning.specs.Cost.{next_cost}
-use Rattle.ijvm_meaning.specs.Run.{TimedImage, Point, Finish, point_after, finish_from, after_test, after_outcome, completed, stopped}
-use Rattle.ijvm_simulation.specs.Simulates.{point_behind, below, going_on, board_end, IsBoundary, IsEnd}
-use Rattle.ijvm_simulation.specs.Passes.{Moment, pass}
-use Rattle.ijvm_simulation.specs.Law.{HasWord, Moves, Stops, StopsHere, StopsBehind, Overruns, ShowsState}
+use Rattle.ijvm_meaning.specs.Prelude.{State, StepOutcome, Goes, Halts, Errs, Limits, Stuck, step_outcome, next_cost, TimedImage, Point, Finish, point_after, finish_from, after_test, after_outcome, completed, stopped}
+use Rattle.ijvm_simulation.specs.Prelude.{point_behind, below, going_on, board_end, IsBoundary, IsEnd, Moment, pass, HasWord, Moves, Stops, StopsHere, StopsBehind, Overruns, ShowsState}
 use Rattle.ijvm_simulation.proofs.Passes.{not_boundary}
 use Rattle.ijvm_simulation.proofs.Turns.{moment_of, run_inside, run_at, IsReady, ready_inside, whole_turn, turns-add, ending_turn, clocks, pass_turns, pass_turns_inside, Shorter, shorter}
 

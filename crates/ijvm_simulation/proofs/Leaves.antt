@@ -6,16 +6,11 @@ use Rattle.std.specs.Prelude.{slice_set, slice_get, ℤ}
 use Rattle.std.proofs.lemmas.List.{set_comm}
 use Rattle.std.proofs.lemmas.List.Elements.{All-get_or}
 use Rattle.std.proofs.lemmas.Option.{slice_get_within}
-use Rattle.mic_words.specs.Arithmetic.{plus, minus, next, before}
-use Rattle.console_port.specs.World.{World, StackLimit, next_byte, read_value, untaken_after, after_read, after_write, read_refusal, write_refusal}
-use Rattle.ijvm_meaning.specs.Frames.{State, IsWord, frames_of, base}
-use Rattle.ijvm_meaning.specs.Cost.{tests, are_equal}
-use Rattle.ijvm_meaning.specs.Step.{moved, is_own, with_local, way, taken}
-use Rattle.verifier_facts.specs.Accepted.{VerifiedView}
-use Rattle.ijvm_simulation.specs.Stands.{Origin, RegistersStand, IsTop}
-use Rattle.ijvm_simulation.specs.Stack.{IsMapEnd, IsWordAccess, IsConsoleAccess, IsConstant, console_address, place_behind, jump, Lands, Top, Two, AtBoundary}
-use Rattle.ijvm_simulation.specs.Outcomes.{WithTop, WithTwo, WithLocal, WithConstant, Stores, Fits, Overflows, push}
-use Rattle.ijvm_simulation.specs.Verified.{Loads, Fine}
+use Rattle.mic_words.specs.Prelude.{plus, minus, next, before}
+use Rattle.console_port.specs.Prelude.{World, StackLimit, next_byte, read_value, untaken_after, after_read, after_write, read_refusal, write_refusal}
+use Rattle.ijvm_meaning.specs.Prelude.{State, IsWord, frames_of, base, tests, are_equal, moved, is_own, with_local, way, taken}
+use Rattle.verifier_facts.specs.Prelude.{VerifiedView}
+use Rattle.ijvm_simulation.specs.Prelude.{Origin, RegistersStand, IsTop, IsMapEnd, IsWordAccess, IsConsoleAccess, IsConstant, console_address, place_behind, jump, Lands, Top, Two, AtBoundary, WithTop, WithTwo, WithLocal, WithConstant, Stores, Fits, Overflows, push, Loads, Fine}
 use Rattle.ijvm_simulation.proofs.Stack.{law}
 
 module _ {v : VerifiedView} {o : Origin} {s : State} {sp lv cpp tos : ℕ} {w : World} (loads : Loads v o)

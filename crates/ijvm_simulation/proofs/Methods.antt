@@ -4,14 +4,12 @@ use Rattle.std.specs.Prelude.{slice_index, slice_get, nat_lt, if◌then◌else�
 use Rattle.std.proofs.lemmas.Bool.Decides.{nat_tests}
 use Rattle.std.proofs.lemmas.List.{length-replicate}
 use Rattle.std.proofs.lemmas.Option.{slice_get_within, get_or_from_slice_get, same_Some}
-use Rattle.console_port.specs.World.{byte_in}
+use Rattle.console_port.specs.Prelude.{byte_in}
 use Rattle.ijvm_image.specs.declared.method.Method.{Method}
-use Rattle.ijvm_image.specs.Image.{method_at, params, others}
-use Rattle.ijvm_meaning.specs.Step.{onto}
-use Rattle.verifier_facts.specs.Accepted.{VerifiedView}
-use Rattle.ijvm_simulation.specs.Stands.{Origin}
-use Rattle.ijvm_simulation.specs.Stack.{Arguments, IsConstant, IsMethod}
-use Rattle.ijvm_simulation.specs.Verified.{Loads}
+use Rattle.ijvm_image.specs.Prelude.{method_at, params, others}
+use Rattle.ijvm_meaning.specs.Prelude.{onto}
+use Rattle.verifier_facts.specs.Prelude.{VerifiedView}
+use Rattle.ijvm_simulation.specs.Prelude.{Origin, Arguments, IsConstant, IsMethod, Loads}
 
 pub length-onto : (ps : List ℕ) (xs : List (Option ℕ)) → length (onto ps xs) ≡ length ps + length xs
 length-onto [] xs = omega arith

@@ -1,26 +1,16 @@
 -- What comes next in a run of a verified image, and how the law of a machine's instructions becomes the law of its boundaries.
 use Rattle.std.proofs.Common.{◌≡◌, ℕ, ◌+◌, ◌*◌, ◌<◌, Bool, true, false, Some, List, [], ◌∷◌, ◌++◌, length, refl, arith, sym, ◌∙◌, ap, ap₂, subst, inl, inr}
 use Rattle.std.proofs.lemmas.Option.{same_Some}
-use Rattle.mic_words.specs.Arithmetic.{signed_byte, signed_pair}
-use Rattle.console_port.specs.World.{World, byte_in}
-use Rattle.mic_clock.specs.Meaning.{Meaning}
-use Rattle.ijvm_image.specs.Image.{ImageView, IsImage}
+use Rattle.mic_words.specs.Prelude.{signed_byte, signed_pair}
+use Rattle.console_port.specs.Prelude.{World, byte_in}
+use Rattle.mic_clock.specs.Prelude.{Meaning}
+use Rattle.ijvm_image.specs.Prelude.{ImageView, IsImage}
 use Rattle.ijvm_instr.specs.declared.instr.Instr.{Instr}
 use Rattle.ijvm_instr.specs.declared.instr.Instr.TheVariants.{Bipush, LdcW, Iload, Istore, Iinc, Ifeq, Iflt, IfIcmpeq, Goto, Ior, Invokevirtual, WideIload, WideIstore, WideIinc, Err, Halt}
-use Rattle.ijvm_instr.specs.Instructions.{row_of, size_of, prefix, operand_bytes, instr_at}
-use Rattle.ijvm_meaning.specs.Frames.{State, AreWords, start_of}
-use Rattle.ijvm_meaning.specs.Step.{StepOutcome, Goes, Halts, Errs, Limits, step_outcome, step_if_any}
-use Rattle.ijvm_meaning.specs.Cost.{Timing, next_cost, cost_at, cost}
-use Rattle.ijvm_meaning.specs.Run.{GoesOnInWords}
-use Rattle.ijvm_meaning.specs.Safe.{Here, On}
-use Rattle.verifier_facts.specs.Facts.{Accepts, IsMainCount}
-use Rattle.verifier_facts.specs.Sound.{Finds, KeepsSound}
-use Rattle.verifier_facts.specs.Accepted.{VerifiedView, IsAccepted}
-use Rattle.ijvm_simulation.specs.Stands.{Origin}
-use Rattle.ijvm_simulation.specs.Bytes.{Reads}
-use Rattle.ijvm_simulation.specs.Outcomes.{IsOutcome}
-use Rattle.ijvm_simulation.specs.Verified.{program, Loads, Fine, IsNext}
-use Rattle.ijvm_simulation.specs.Law.{Moves, Stops, Law}
+use Rattle.ijvm_instr.specs.Prelude.{row_of, size_of, prefix, operand_bytes, instr_at}
+use Rattle.ijvm_meaning.specs.Prelude.{State, AreWords, start_of, StepOutcome, Goes, Halts, Errs, Limits, step_outcome, step_if_any, Timing, next_cost, cost_at, cost, GoesOnInWords, Here, On}
+use Rattle.verifier_facts.specs.Prelude.{Accepts, IsMainCount, Finds, KeepsSound, VerifiedView, IsAccepted}
+use Rattle.ijvm_simulation.specs.Prelude.{Origin, Reads, IsOutcome, program, Loads, Fine, IsNext, Moves, Stops, Law}
 use Rattle.ijvm_simulation.proofs.Decoded.{decoded}
 use Rattle.ijvm_simulation.proofs.Cases.{says}
 use Rattle.ijvm_simulation.proofs.Instruction.{Keeps, Law as BoundaryLaw}

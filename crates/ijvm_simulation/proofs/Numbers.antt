@@ -4,8 +4,8 @@ use Rattle.std.specs.Prelude.{nat_lt, if◌then◌else◌, pos, negsuc}
 use Rattle.std.specs.Int.{w8, w16, cast_signed}
 use mir.Val.{sel}
 use Rattle.std.proofs.lemmas.Bool.Decides.{nat_tests}
-use Rattle.mic_words.specs.Arithmetic.{signed_byte, signed_pair}
-use Rattle.ijvm_instr.specs.Instructions.{word_of}
+use Rattle.mic_words.specs.Prelude.{signed_byte, signed_pair}
+use Rattle.ijvm_instr.specs.Prelude.{word_of}
 
 -- a signed byte is the same word for both
 pub byte_word : (x : ℕ) → x < 256 → word_of (cast_signed w8 x) ≡ signed_byte x

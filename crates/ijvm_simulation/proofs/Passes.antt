@@ -3,8 +3,8 @@ use Rattle.std.proofs.Common.{◌≡◌, ℕ, true, false, Option, Some, None, L
 use Rattle.std.proofs.lemmas.Bool.{cases_Bool}
 use Rattle.std.proofs.lemmas.Bool.Decides.{nat_tests}
 use Rattle.std.proofs.lemmas.Option.{same_Some}
-use Rattle.mic_clock.specs.Meaning.{Meaning, Outcome, Done, Refused}
-use Rattle.ijvm_simulation.specs.Passes.{Moment, is_inside, last, onward}
+use Rattle.mic_clock.specs.Prelude.{Meaning, Outcome, Done, Refused}
+use Rattle.ijvm_simulation.specs.Prelude.{Moment, is_inside, last, onward}
 
 module _ {State : Type 0} (m : Meaning State) where
   pub not_boundary : (s : State) → is_inside m s ≡ true → m.is_boundary s ≡ false

@@ -1,9 +1,9 @@
 -- Places of the text, as a machine comes to them that takes its bytes from a fetch unit: PC after an opcode, and what it becomes as one byte or two are taken.
 use Rattle.std.proofs.Common.{◌≡◌, ℕ, ◌+◌, ◌*◌, ◌^◌, ◌<◌, List, refl, sym, arith, ◌∙◌, ap, ap₂}
-use Rattle.mic_words.specs.Arithmetic.{wrap, plus, before, signed_pair}
-use Rattle.console_port.specs.World.{byte_in}
+use Rattle.mic_words.specs.Prelude.{wrap, plus, before, signed_pair}
+use Rattle.console_port.specs.Prelude.{byte_in}
 use Rattle.ijvm_image.specs.declared.method.Method.{Method}
-use Rattle.ijvm_simulation.specs.Stack.{jump}
+use Rattle.ijvm_simulation.specs.Prelude.{jump}
 use Rattle.ijvm_simulation.proofs.Stack.{law}
 
 -- a place of the text: a number of the machine is this address, and the bytes there

@@ -1,12 +1,10 @@
 -- What a machine at a boundary knows of its stack, and what it stands for after an instruction.
 use Rattle.std.proofs.Common.{◌≡◌, ◌≢◌, ℕ, suc, ◌+◌, ◌-◌, ◌<◌, ◌≤◌, Some, List, [], ◌∷◌, length, refl, arith, ◌∙◌, ap, sym, subst, get_or-set_other, length-set}
 use Rattle.std.specs.Prelude.{slice_index, slice_set}
-use Rattle.mic_words.specs.Arithmetic.{next, before}
-use Rattle.console_port.specs.World.{World}
-use Rattle.ijvm_meaning.specs.Frames.{Frame, State, frames_of, operands_at, base}
-use Rattle.ijvm_meaning.specs.Step.{called}
-use Rattle.ijvm_simulation.specs.Stands.{Origin, RegistersStand, FramesStand, OperandsAt, IsTop, IsMemory}
-use Rattle.ijvm_simulation.specs.Stack.{IsMapEnd, IsWordAccess, frame_with, place_behind, Top, AtBoundary, StackLaw}
+use Rattle.mic_words.specs.Prelude.{next, before}
+use Rattle.console_port.specs.Prelude.{World}
+use Rattle.ijvm_meaning.specs.Prelude.{Frame, State, frames_of, operands_at, base, called}
+use Rattle.ijvm_simulation.specs.Prelude.{Origin, RegistersStand, FramesStand, OperandsAt, IsTop, IsMemory, IsMapEnd, IsWordAccess, frame_with, place_behind, Top, AtBoundary, StackLaw}
 use Rattle.ijvm_simulation.proofs.Accesses.{next_is, before_is, access, port, limit}
 use Rattle.ijvm_simulation.proofs.Methods.{locals, arguments, constant, method}
 use Rattle.ijvm_simulation.proofs.Writes.{pushed, stored, entered}

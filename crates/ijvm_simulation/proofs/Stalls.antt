@@ -2,24 +2,15 @@
 use Rattle.std.proofs.Common.{◌≡◌, ℕ, suc, ◌+◌, ◌<◌, Some, false, List, refl, arith, sym, ◌∙◌, ap, subst, zero-add}
 use Rattle.std.specs.Prelude.{nat_le}
 use Rattle.std.proofs.lemmas.Bool.Decides.{nat_tests}
-use Rattle.console_port.specs.World.{World}
-use Rattle.mic_clock.specs.Meaning.{Meaning}
-use Rattle.mic_clock.specs.Run.{MicroRun, turns, last_cycles}
-use Rattle.ijvm_image.specs.Image.{ImageView}
+use Rattle.console_port.specs.Prelude.{World}
+use Rattle.mic_clock.specs.Prelude.{Meaning, MicroRun, turns, last_cycles}
+use Rattle.ijvm_image.specs.Prelude.{ImageView}
 use Rattle.ijvm_instr.specs.declared.instr.Instr.{Instr}
-use Rattle.ijvm_instr.specs.Instructions.{instr_at}
-use Rattle.ijvm_meaning.specs.Frames.{State, start_of}
-use Rattle.ijvm_meaning.specs.Step.{Goes, Limits, step_outcome}
-use Rattle.ijvm_meaning.specs.Cost.{Timing, cost, cost_at, next_cost}
-use Rattle.ijvm_meaning.specs.Run.{TimedImage, Point, point_after, first_point}
-use Rattle.verifier_facts.specs.Accepted.{VerifiedView}
-use Rattle.ijvm_simulation.specs.Stands.{Origin}
-use Rattle.ijvm_simulation.specs.Outcomes.{Went, Overran}
-use Rattle.ijvm_simulation.specs.Verified.{program, Loads, Fine, IsNext}
-use Rattle.ijvm_simulation.specs.Simulates.{IsBoundary}
-use Rattle.ijvm_simulation.specs.Law.{Law, ShowsState, Boots, reset_moment}
-use Rattle.mic_image_board.specs.Reset.{reset_run}
-use Rattle.ijvm_simulation.specs.Stalls.{MovesWithStalls, OverrunsWithStalls, TakesWithStalls, HasStalled, StoppedWithin, Booted, Behind}
+use Rattle.ijvm_instr.specs.Prelude.{instr_at}
+use Rattle.ijvm_meaning.specs.Prelude.{State, start_of, Goes, Limits, step_outcome, Timing, cost, cost_at, next_cost, TimedImage, Point, point_after, first_point}
+use Rattle.verifier_facts.specs.Prelude.{VerifiedView}
+use Rattle.ijvm_simulation.specs.Prelude.{Origin, Went, Overran, program, Loads, Fine, IsNext, IsBoundary, Law, ShowsState, Boots, reset_moment, MovesWithStalls, OverrunsWithStalls, TakesWithStalls, HasStalled, StoppedWithin, Booted, Behind}
+use Rattle.mic_image_board.specs.Prelude.{reset_run}
 use Rattle.ijvm_simulation.proofs.Turns.{moment_of, run_at, IsReady, turns-add, pass_turns}
 use Rattle.ijvm_simulation.proofs.Instruction.{Law as BoundaryLaw, Keeps, Moved, moved, overrun}
 use Rattle.ijvm_simulation.proofs.Next.{Known, fine_start, keeps, next_of, said, boundary_law}

@@ -1,16 +1,11 @@
 -- What holds of one store that ships, where it is given with its entry, holds of all that ship.
 use Rattle.std.proofs.Common.{◌≡◌, ℕ, List, Option, sym, subst}
 use Rattle.std.specs.Prelude.{Result, Ok, Err}
-use Rattle.console_port.specs.World.{World}
-use Rattle.mic_clock.specs.Meaning.{Meaning}
-use Rattle.mic_clock.specs.Run.{MicroRun}
-use Rattle.mic_clock.specs.View.{BoardView}
-use Rattle.ijvm_meaning.specs.Cost.{Timing}
-use Rattle.verifier_facts.specs.Accepted.{VerifiedView}
-use Rattle.ijvm_simulation.specs.Headline.{told_of, Begins, IsAtMoment, HasRun, IsCutByRead, IsCutByWrite}
-use Rattle.ijvm_simulation.specs.Promises.{Promises}
-use Rattle.ijvm_simulation.specs.Interpretation.{interpretation}
-use Rattle.ijvm_simulation.specs.Answers.{RunsAsDefined, IsCutWhereReadFails, IsCutWhereWriteFails}
+use Rattle.console_port.specs.Prelude.{World}
+use Rattle.mic_clock.specs.Prelude.{Meaning, MicroRun, BoardView}
+use Rattle.ijvm_meaning.specs.Prelude.{Timing}
+use Rattle.verifier_facts.specs.Prelude.{VerifiedView}
+use Rattle.ijvm_simulation.specs.Prelude.{told_of, Begins, IsAtMoment, HasRun, IsCutByRead, IsCutByWrite, Promises, interpretation, RunsAsDefined, IsCutWhereReadFails, IsCutWhereWriteFails}
 
 module _ {M S : Type 0} (state : M → S) (m : Meaning S) (IsReady : ℕ → List ℕ → ℕ → S → World → Type 0) (IsShipped : List ℕ → Type 0) (entry : ℕ) (timing : Timing)
     (store : List ℕ) (shipped : IsShipped store) (given : ℕ) (same : given ≡ entry) where

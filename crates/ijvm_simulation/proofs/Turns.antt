@@ -3,9 +3,8 @@ use Rattle.std.proofs.Common.{◌≡◌, ℕ, zero, suc, ◌+◌, ◌-◌, ◌<�
 use Rattle.std.specs.Prelude.{nat_le, ◌==◌, ◌&&◌, is_some}
 use Rattle.std.proofs.lemmas.Bool.Decides.{nat_tests}
 use Rattle.mic_clock.specs.declared.end.End.{End}
-use Rattle.mic_clock.specs.Meaning.{Meaning, Outcome, Done}
-use Rattle.mic_clock.specs.Run.{MicroRun, turn, turn_by, turns, bounded, bounded_by, end_before, after_end_or_step, after_step, last_cycles, number_of}
-use Rattle.ijvm_simulation.specs.Passes.{Moment, is_inside, outcome_at, stalls_at, pass, last, onward}
+use Rattle.mic_clock.specs.Prelude.{Meaning, Outcome, Done, MicroRun, turn, turn_by, turns, bounded, bounded_by, end_before, after_end_or_step, after_step, last_cycles, number_of}
+use Rattle.ijvm_simulation.specs.Prelude.{Moment, is_inside, outcome_at, stalls_at, pass, last, onward}
 use Rattle.ijvm_simulation.proofs.Passes.{not_boundary, onward-inside, Inner, inner, Last, last_is}
 
 abbrev pub moment_of : {State : Type 0} → MicroRun State → Moment State

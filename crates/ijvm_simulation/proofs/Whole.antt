@@ -4,13 +4,11 @@ use Rattle.std.specs.Prelude.{nat_le}
 use Rattle.std.proofs.lemmas.Bool.{cases_lt}
 use Rattle.std.proofs.lemmas.Bool.Decides.{nat_tests}
 use Rattle.std.proofs.lemmas.Option.{none-some, same_Some}
-use Rattle.console_port.specs.World.{World}
-use Rattle.mic_clock.specs.Meaning.{Meaning}
-use Rattle.mic_clock.specs.Run.{MicroRun, turns}
+use Rattle.console_port.specs.Prelude.{World}
+use Rattle.mic_clock.specs.Prelude.{Meaning, MicroRun, turns}
 use Rattle.ijvm_meaning.specs.declared.run.RunEnd.TheVariants as defined
-use Rattle.ijvm_meaning.specs.Frames.{State}
-use Rattle.ijvm_meaning.specs.Run.{TimedImage, Point, Finish, point_after, finish_from, after_test, stopped}
-use Rattle.ijvm_simulation.specs.Simulates.{point_behind, board_end, IsBoundary, IsEnd, Simulates}
+use Rattle.ijvm_meaning.specs.Prelude.{State, TimedImage, Point, Finish, point_after, finish_from, after_test, stopped}
+use Rattle.ijvm_simulation.specs.Prelude.{point_behind, board_end, IsBoundary, IsEnd, Simulates}
 use Rattle.ijvm_simulation.proofs.Turns.{turns-add, ended_stays}
 use Rattle.ijvm_simulation.proofs.Instruction.{Law, Keeps, Turnout, On, Over, turnout}
 

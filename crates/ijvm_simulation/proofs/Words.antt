@@ -3,12 +3,10 @@ use Rattle.std.proofs.Common.{◌≡◌, ℕ, ◌+◌, ◌%◌, ◌^◌, ◌<◌
 use Rattle.std.specs.Prelude.{nat_lt, if◌then◌else◌}
 use Rattle.std.proofs.lemmas.Bool.Decides.{nat_tests}
 use Rattle.std.proofs.lemmas.List.{append-nil}
-use Rattle.mic_words.specs.Arithmetic.{wrap, plus, minus}
-use Rattle.console_port.specs.World.{byte_in, given_after}
-use Rattle.ijvm_meaning.specs.Frames.{IsWord}
-use Rattle.ijvm_simulation.specs.Stack.{console_address}
-use Rattle.ijvm_simulation.specs.Law.{Grows}
-use Rattle.ijvm_simulation.specs.Words.{WordLaw}
+use Rattle.mic_words.specs.Prelude.{wrap, plus, minus}
+use Rattle.console_port.specs.Prelude.{byte_in, given_after}
+use Rattle.ijvm_meaning.specs.Prelude.{IsWord}
+use Rattle.ijvm_simulation.specs.Prelude.{console_address, Grows, WordLaw}
 use Rattle.ijvm_simulation.proofs.Accesses.{next_is, before_is}
 
 wrap_small : (x : ℕ) → x < 2 ^ 32 → wrap x ≡ x

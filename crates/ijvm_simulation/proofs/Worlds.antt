@@ -3,12 +3,11 @@ use Rattle.std.proofs.Common.{◌≡◌, ◌++◌, [], append_assoc, ℕ, zero, 
 use Rattle.std.specs.Prelude.{nat_le, if◌then◌else◌}
 use Rattle.std.proofs.lemmas.Bool.{cases_lt}
 use Rattle.std.proofs.lemmas.List.{append-nil}
-use Rattle.console_port.specs.World.{World}
+use Rattle.console_port.specs.Prelude.{World}
 use Rattle.mic_clock.specs.declared.end.End.{End}
 use Rattle.mic_clock.specs.declared.end.End.TheVariants as ends
-use Rattle.mic_clock.specs.Meaning.{Meaning, Outcome, Done, Refused}
-use Rattle.mic_clock.specs.Run.{MicroRun, turn, turn_by, turns, bounded, bounded_by, after_end_or_step, after_step, end_before, word_at}
-use Rattle.ijvm_simulation.specs.Law.{OnDone, Grows}
+use Rattle.mic_clock.specs.Prelude.{Meaning, Outcome, Done, Refused, MicroRun, turn, turn_by, turns, bounded, bounded_by, after_end_or_step, after_step, end_before, word_at}
+use Rattle.ijvm_simulation.specs.Prelude.{OnDone, Grows}
 use Rattle.ijvm_simulation.proofs.Turns.{whole_turn, turns-add, ended_stays}
 
 module _ {S : Type 0} (m : Meaning S) (words : List ℕ) (bound : ℕ) where

@@ -3,10 +3,8 @@ use Rattle.std.proofs.Common.{true, refl, subst, ◌≡◌, ◌≢◌, ℕ, zero
 use Rattle.std.specs.Prelude.{slice_index, slice_set, slice_get}
 use Rattle.std.proofs.lemmas.List.{length-replicate}
 use Rattle.std.proofs.lemmas.Option.{slice_get_within, none-some, same_Some}
-use Rattle.ijvm_meaning.specs.Step.{is_own, onto, called}
-use Rattle.ijvm_meaning.specs.Frames.{Frame, operands_at, frame_end, base, kept_words}
-use Rattle.ijvm_simulation.specs.Stands.{OperandsAt, IsLinked, FrameStands, FramesStand, caller_lv}
-use Rattle.ijvm_simulation.specs.Stack.{linked_words}
+use Rattle.ijvm_meaning.specs.Prelude.{is_own, onto, called, Frame, operands_at, frame_end, base, kept_words}
+use Rattle.ijvm_simulation.specs.Prelude.{OperandsAt, IsLinked, FrameStands, FramesStand, caller_lv, linked_words}
 use Rattle.ijvm_simulation.proofs.Methods.{length-onto}
 
 read_other : (words : List ℕ) (a b v : ℕ) → (b < a) ⊎ (a < b) → slice_index (slice_set words a v) b ≡ slice_index words b

@@ -16,3 +16,4 @@ pub mod Starts
 pub mod Stalls
 pub mod Promises
 pub mod Words
+pub mod Prelude

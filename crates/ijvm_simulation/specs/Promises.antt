@@ -1,12 +1,11 @@
 -- What a machine promises of the store that ships for it, over every verified image that stands in the memory.
 use Rattle.std.specs.Prelude.{ℕ, List}
-use Rattle.console_port.specs.World.{World}
-use Rattle.mic_clock.specs.Meaning.{Meaning}
-use Rattle.ijvm_image.specs.Image.{ImageView}
+use Rattle.console_port.specs.Prelude.{World}
+use Rattle.mic_clock.specs.Prelude.{Meaning}
+use Rattle.ijvm_image.specs.Prelude.{ImageView}
 use Rattle.ijvm_instr.specs.declared.instr.Instr.{Instr}
-use Rattle.ijvm_meaning.specs.Cost.{Timing}
-use Rattle.ijvm_meaning.specs.Frames.{start_of}
-use Rattle.verifier_facts.specs.Accepted.{VerifiedView}
+use Rattle.ijvm_meaning.specs.Prelude.{Timing, start_of}
+use Rattle.verifier_facts.specs.Prelude.{VerifiedView}
 use Rattle.ijvm_simulation.specs.Groups.{ByGroups}
 use Rattle.ijvm_simulation.specs.Interpretation.{Interpretation}
 use Rattle.ijvm_simulation.specs.Law.{Law, Boots, Takes, OnDone, Grows, reset_moment}

@@ -1,15 +1,14 @@
 -- What a machine at a boundary knows of its memory and its stack, and that it stands for the state after an
 -- instruction once its registers and its memory have become what the instruction makes of them.
 use Rattle.std.specs.Prelude.{◌≡◌, ℕ, suc, ◌+◌, ◌-◌, ◌*◌, ◌%◌, ◌<◌, ◌≤◌, true, List, [], ◌∷◌, ◌++◌, length, take, drop, replicate, slice_index, slice_set, slice_get, Some, None, ℤ}
-use Rattle.mic_words.specs.Arithmetic.{plus, next, before, signed_pair}
-use Rattle.console_port.specs.World.{World, StackLimit, next_byte, read_value, untaken_after, given_after, read_refusal, write_refusal, byte_in}
+use Rattle.mic_words.specs.Prelude.{plus, next, before, signed_pair}
+use Rattle.console_port.specs.Prelude.{World, StackLimit, next_byte, read_value, untaken_after, given_after, read_refusal, write_refusal, byte_in}
 use Rattle.ijvm_image.specs.declared.method.Method.{Method}
-use Rattle.ijvm_image.specs.Image.{method_at}
+use Rattle.ijvm_image.specs.Prelude.{method_at}
 use Rattle.ijvm_instr.specs.declared.instr.Instr.{Instr}
-use Rattle.ijvm_instr.specs.Instructions.{word_of, target}
-use Rattle.ijvm_meaning.specs.Frames.{Frame, State, HasWords, start_of, frames_of, base}
-use Rattle.ijvm_meaning.specs.Step.{moved, is_own, with_local, onto, called}
-use Rattle.verifier_facts.specs.Accepted.{VerifiedView}
+use Rattle.ijvm_instr.specs.Prelude.{word_of, target}
+use Rattle.ijvm_meaning.specs.Prelude.{Frame, State, HasWords, start_of, frames_of, base, moved, is_own, with_local, onto, called}
+use Rattle.verifier_facts.specs.Prelude.{VerifiedView}
 use Rattle.ijvm_simulation.specs.Stands.{Origin, RegistersStand, FramesStand, IsTop}
 use Rattle.ijvm_simulation.specs.Verified.{Loads, Fine, IsNext}
 use Rattle.ijvm_simulation.specs.Words.{WordLaw}

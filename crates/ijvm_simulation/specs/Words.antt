@@ -1,8 +1,8 @@
 -- Words and bytes as an interpreter meets them in its registers: a sum, a difference or a next address that is in range is the number itself.
 use Rattle.std.specs.Prelude.{◌≡◌, ℕ, ◌+◌, ◌^◌, ◌<◌, ◌==◌, List}
-use Rattle.mic_words.specs.Arithmetic.{plus, minus, next, before}
-use Rattle.console_port.specs.World.{byte_in, given_after}
-use Rattle.ijvm_meaning.specs.Frames.{IsWord}
+use Rattle.mic_words.specs.Prelude.{plus, minus, next, before}
+use Rattle.console_port.specs.Prelude.{byte_in, given_after}
+use Rattle.ijvm_meaning.specs.Prelude.{IsWord}
 use Rattle.ijvm_simulation.specs.Law.{Grows}
 
 pub record WordLaw : Type 0 where

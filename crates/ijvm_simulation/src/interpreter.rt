@@ -1,7 +1,7 @@
 //! What is asked of a machine that interprets IJVM.
 
 ghost use Rattle.std.specs.Prelude.{◌≡◌, ◌<◌, ℕ, List, IfOk};
-ghost use Rattle.ijvm_meaning.specs.Cost.{Timing};
+ghost use Rattle.ijvm_meaning.specs.Prelude.{Timing};
 ghost use Rattle.ijvm_simulation.specs.Promises.{KeepsLaw, BootsToMain, KeepsGiven};
 
 use mic_clock::Clocked;

@@ -1,7 +1,7 @@
 //! What holds of every interpreter, and of every run of one, no matter what clocks it.
 
 ghost use Rattle.std.specs.Prelude.{ℕ};
-ghost use Rattle.ijvm_meaning.specs.Run.{TimedImage, Point, Passes};
+ghost use Rattle.ijvm_meaning.specs.Prelude.{TimedImage, Point, Passes};
 ghost use Rattle.ijvm_simulation.specs.Simulates.{IsCounted};
 ghost use Rattle.ijvm_simulation.specs.Promises.{TakesByGroups, StallsByGroups};
 ghost use Rattle.ijvm_simulation.specs.Starts.{EndsAsDefined};

@@ -1,7 +1,7 @@
 //! When an instruction comes next.
 
 ghost use Rattle.std.specs.Prelude.{ℕ, List};
-ghost use Rattle.console_port.specs.World.{World};
+ghost use Rattle.console_port.specs.Prelude.{World};
 
 use mic_clock::Clocked;
 

@@ -1,6 +1,6 @@
 -- Generated programs, byte by byte.
 use Rattle.std.proofs.Common.{◌≡◌, ◌∷◌, [], refl}
-use Rattle.ijvm_soak.specs.Generated.{generated}
+use Rattle.ijvm_soak.specs.Prelude.{generated}
 
 -- a block of each kind
 five : generated 0 5 ≡ record {

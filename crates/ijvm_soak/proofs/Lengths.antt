@@ -3,8 +3,8 @@ use Rattle.std.proofs.Common.{◌≡◌, ℕ, ℤ, pos, zero, suc, ◌+◌, ◌*
 use Rattle.std.specs.List.{flat_map}
 use Rattle.std.proofs.lemmas.Grind.{flat_map-append}
 use Rattle.ijvm_instr.specs.declared.instr.Instr.TheVariants.{Iload, Halt}
-use Rattle.ijvm_instr.specs.Instructions.{spelling}
-use Rattle.ijvm_soak.specs.Generated.{block, block_at, blocks, main_text, method_text}
+use Rattle.ijvm_instr.specs.Prelude.{spelling}
+use Rattle.ijvm_soak.specs.Prelude.{block, block_at, blocks, main_text, method_text}
 
 -- the text before a block
 abbrev front_of : ℕ → ℕ → List ℕ

@@ -8,20 +8,17 @@ use Rattle.std.specs.Prelude.{FitsSigned}
 use Rattle.std.proofs.lemmas.Option.{same_Some}
 use Rattle.std.proofs.lemmas.Bool.{le-ltb, lt-ltb}
 use Rattle.std.proofs.lemmas.List.{get_or-append-add}
-use Rattle.mic_words.specs.Arithmetic.{wrap}
+use Rattle.mic_words.specs.Prelude.{wrap}
 use Rattle.ijvm_instr.specs.declared.instr.Instr.{Instr}
 use Rattle.ijvm_instr.specs.declared.instr.Instr.TheVariants.{Bipush, LdcW, Iload, Istore, Iadd, Isub, Iinc, Iflt, Ireturn, Invokevirtual, Halt}
 use Rattle.ijvm_instr.specs.declared.row.Flow.{Flow}
 use Rattle.ijvm_instr.specs.declared.row.Flow.TheVariants as flows
-use Rattle.ijvm_instr.specs.Instructions.{row_of, size_of, instr_at, target, spelling, IsInstr}
+use Rattle.ijvm_instr.specs.Prelude.{row_of, size_of, instr_at, target, spelling, IsInstr}
 use Rattle.ijvm_image.specs.declared.method.Method.{Method}
-use Rattle.ijvm_image.specs.Image.{ImageView, params, others}
-use Rattle.verifier_facts.specs.Paths.{HasConstant, GoesOn, need_of, ways_of}
-use Rattle.verifier_facts.specs.Facts.{Names}
-use Rattle.verifier_notes.specs.Noted.{Note, FindsMethod}
-use Rattle.verifier_notes.specs.Listed.{Item, Code, Header, items_size, note_at, HasHeader, IsMet, AllMet, IsListed}
-use Rattle.verifier_notes.specs.Seams.{header_after, items_append, met_append, note_at_seam}
-use Rattle.ijvm_soak.specs.Generated.{block, block_at, blocks, main_code, method_code, main_text, method_text, generated}
+use Rattle.ijvm_image.specs.Prelude.{ImageView, params, others}
+use Rattle.verifier_facts.specs.Prelude.{HasConstant, GoesOn, need_of, ways_of, Names}
+use Rattle.verifier_notes.specs.Prelude.{Note, FindsMethod, Item, Code, Header, items_size, note_at, HasHeader, IsMet, AllMet, IsListed, header_after, items_append, met_append, note_at_seam}
+use Rattle.ijvm_soak.specs.Prelude.{block, block_at, blocks, main_code, method_code, main_text, method_text, generated}
 use Rattle.ijvm_soak.proofs.Lengths.{text_long, text_short}
 
 -- ---- the list

@@ -3,8 +3,8 @@ use Rattle.std.specs.Prelude.{ℕ, ℤ, zero, suc, pos, ◌+◌, ◌*◌, ◌%�
 use Rattle.std.specs.List.{flat_map}
 use Rattle.ijvm_instr.specs.declared.instr.Instr.{Instr}
 use Rattle.ijvm_instr.specs.declared.instr.Instr.TheVariants.{Bipush, LdcW, Iload, Istore, Iadd, Isub, Iinc, Iflt, Ireturn, Invokevirtual, Halt}
-use Rattle.ijvm_instr.specs.Instructions.{spelling, two_bytes}
-use Rattle.ijvm_image.specs.Image.{ImageView}
+use Rattle.ijvm_instr.specs.Prelude.{spelling, two_bytes}
+use Rattle.ijvm_image.specs.Prelude.{ImageView}
 
 -- the block of a kind, with a number: local 0 is the sum, and the branch leads to the block's end
 abbrev pub block : ℕ → ℤ → List Instr

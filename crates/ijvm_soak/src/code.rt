@@ -2,7 +2,7 @@
 
 ghost use Rattle.std.specs.Prelude.{◌≡◌, ◌+◌, ◌*◌, ◌%◌, ◌<◌, ◌++◌, OnOk};
 ghost use Rattle.std.specs.List.{flat_map};
-ghost use Rattle.ijvm_instr.specs.Instructions.{spelling};
+ghost use Rattle.ijvm_instr.specs.Prelude.{spelling};
 ghost use Rattle.ijvm_soak.specs.Generated.{block, block_at, main_text, method_text};
 
 use ijvm_image::push_header;

@@ -2,7 +2,7 @@
 
 ghost use Rattle.std.specs.Prelude.{◌≡◌, ◌≤◌, IfOk};
 ghost use Rattle.console_port.specs.declared.map.TheConstants.MemoryMap.{STANDARD};
-ghost use Rattle.verifier_facts.specs.Accepted.{IsAccepted};
+ghost use Rattle.verifier_facts.specs.Prelude.{IsAccepted};
 ghost use Rattle.ijvm_soak.specs.Generated.{generated};
 
 use crate::code::{push_main, push_method};

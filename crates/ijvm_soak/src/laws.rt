@@ -1,8 +1,8 @@
 //! What holds of every generated program.
 
 ghost use Rattle.std.specs.Prelude.{◌≤◌, ℕ, length};
-ghost use Rattle.console_port.specs.Map.{IsMap};
-ghost use Rattle.verifier_facts.specs.Facts.{Accepts};
+ghost use Rattle.console_port.specs.Prelude.{IsMap};
+ghost use Rattle.verifier_facts.specs.Prelude.{Accepts};
 ghost use Rattle.ijvm_soak.specs.Generated.{generated};
 
 use ijvm_instr::read_instructions_are_whole;

@@ -7,11 +7,10 @@ use Rattle.std.proofs.lemmas.List.{append-nil}
 use Rattle.std.proofs.lemmas.List.Folds.{find-append}
 use Rattle.std.proofs.lemmas.Grind.{flat_map-append}
 use Rattle.ijvm_instr.specs.declared.instr.Instr.{Instr}
-use Rattle.ijvm_instr.specs.Instructions.{spelling}
-use Rattle.ijvm_instr.specs.Jumps.{Jump, first_far, is_far}
+use Rattle.ijvm_instr.specs.Prelude.{spelling, Jump, first_far, is_far}
 use Rattle.ijvm_program.specs.declared.line.Jump as kinds
 use Rattle.ijvm_program.specs.declared.line.Jump.TheVariants.{Ifeq}
-use Rattle.ijvm_program.specs.Layout.{jump_by}
+use Rattle.ijvm_program.specs.Prelude.{jump_by}
 use Rattle.ijvm_text.specs.declared.text.FarJump.{FarJump}
 use Rattle.ijvm_text.specs.declared.text.Text.{Text}
 use Rattle.ijvm_text.specs.Adds.{Adds, AddsJump, IsText, far_of}

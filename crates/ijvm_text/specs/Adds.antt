@@ -4,9 +4,9 @@ use Rattle.std.specs.declared.alloc.Global.{Global}
 use Rattle.std.specs.Option.{option_map, option_or}
 use Rattle.ijvm_instr.specs.declared.instr.Instr.{Instr}
 use Rattle.ijvm_instr.specs.Jumps as jumps
-use Rattle.ijvm_instr.specs.Jumps.{first_far, jumps_of}
+use Rattle.ijvm_instr.specs.Prelude.{first_far, jumps_of}
 use Rattle.ijvm_program.specs.declared.line.Jump.{Jump}
-use Rattle.ijvm_program.specs.Layout.{jump_by}
+use Rattle.ijvm_program.specs.Prelude.{jump_by}
 use Rattle.ijvm_text.specs.declared.text.FarJump.{FarJump}
 use Rattle.ijvm_text.specs.declared.text.Text.{Text}
 use Rattle.ijvm_text.specs.Bytes.{code_bytes}

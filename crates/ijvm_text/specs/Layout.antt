@@ -2,8 +2,8 @@
 -- begin, between other words. And the limits of both, in their order.
 use Rattle.std.specs.Prelude.{◌≡◌, ◌<◌, ◌≤◌, ℕ, ◌+◌, List, [], ◌∷◌, ◌++◌, length, Some, None}
 use Rattle.std.specs.List.{flat_map}
-use Rattle.ijvm_instr.specs.Jumps.{Jump, first_far}
-use Rattle.ijvm_image.specs.Image.{ImageView}
+use Rattle.ijvm_instr.specs.Prelude.{Jump, first_far}
+use Rattle.ijvm_image.specs.Prelude.{ImageView}
 
 -- main's code, or a method with its header
 pub record Part : Type 0 where

@@ -3,3 +3,4 @@ pub mod Adds
 pub mod Adding
 pub mod Layout
 pub mod Parts
+pub mod Prelude

@@ -2,8 +2,8 @@
 
 ghost use Rattle.std.specs.Prelude.{◌≡◌, ◌<◌, ◌≤◌, ◌^◌, ◌∷◌, [], false, None, length, IfOk, OnOk};
 ghost use Rattle.std.specs.Option.{option_or};
-ghost use Rattle.ijvm_instr.specs.Jumps.{first_far, is_far};
-ghost use Rattle.ijvm_program.specs.Layout.{jump_by};
+ghost use Rattle.ijvm_instr.specs.Prelude.{first_far, is_far};
+ghost use Rattle.ijvm_program.specs.Prelude.{jump_by};
 ghost use Rattle.ijvm_text.specs.Adds.{AddsCode, AddsJump, AddsText, IsCode, Puts, far_of};
 
 use ijvm_instr::{Instr, is_far, push_instr};

@@ -2,10 +2,8 @@
 use Rattle.std.proofs.Common.{◌≡◌, ℕ, true, inl, inr, List, [], ◌∷◌, Some, refl, sym, subst}
 use Rattle.std.proofs.lemmas.Slice.Eq.{bytes_eq-Decides}
 use Rattle.std.specs.Str.{bytes_eq}
-use Rattle.mic_base.specs.Name.{is_name}
-use Rattle.mic_base.specs.Number.{number_of}
-use Rattle.source_text.specs.Options.{find_passes, mapped}
-use Rattle.source_text.specs.Spelled.{ByTable, by_table}
+use Rattle.mic_base.specs.Prelude.{is_name, number_of}
+use Rattle.source_text.specs.Prelude.{find_passes, mapped, ByTable, by_table}
 use Rattle.ijvm_tokens.specs.declared.sign.Sign.{Sign}
 use Rattle.ijvm_tokens.specs.declared.token.Token.{Token}
 use Rattle.ijvm_tokens.specs.declared.token.Token.TheVariants as tokens

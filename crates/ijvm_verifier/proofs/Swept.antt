@@ -5,17 +5,14 @@ use Rattle.std.proofs.lemmas.Bool.{cases_lt, cases_eq}
 use Rattle.std.proofs.lemmas.List.Quantifiers.{all_pairs_push}
 use Rattle.std.proofs.lemmas.List.Elements.{Contains-append_left, Contains-push, Contains-push_cases, Contains-get_or}
 use Rattle.ijvm_instr.specs.declared.row.Row.{Row}
-use Rattle.ijvm_instr.specs.Instructions.{size_of}
-use Rattle.ijvm_image.specs.Image.{ImageView}
+use Rattle.ijvm_instr.specs.Prelude.{size_of}
+use Rattle.ijvm_image.specs.Prelude.{ImageView}
 use Rattle.verifier_reach.specs.declared.kept.Kept.{Kept}
 use Rattle.verifier_facts.specs.declared.error.VerifyError.TheVariants.{Overlap}
-use Rattle.verifier_facts.specs.Paths.{HasRow, IsReachedMethod}
-use Rattle.verifier_facts.specs.Facts.{Piece, Code, Header, Covers, IsTrueOf, IsMethodCount}
+use Rattle.verifier_facts.specs.Prelude.{HasRow, IsReachedMethod, Piece, Code, Header, Covers, IsTrueOf, IsMethodCount, first, IsKind}
 use Rattle.verifier_facts.specs.declared.kind.Kind.{Kind}
-use Rattle.verifier_facts.specs.Kinds.{first, IsKind}
-use Rattle.verifier_reach.specs.Search.{kept_at, kept_of, IsClosed}
-use Rattle.verifier_reach.specs.Places.{method_inside}
-use Rattle.ijvm_verifier.specs.Sweep.{rank, IsSwept, AreMethodsBelow}
+use Rattle.verifier_reach.specs.Prelude.{kept_at, kept_of, IsClosed, method_inside}
+use Rattle.ijvm_verifier.specs.Prelude.{rank, IsSwept, AreMethodsBelow}
 
 -- one element more at the end
 pub get_push : {X : Type 0} (xs : List X) (y v : X) (i : ℕ) → slice_get (xs ++ y ∷ []) i ≡ Some v → (slice_get xs i ≡ Some v) ⊎ ((i ≡ length xs) × (y ≡ v))

@@ -1,10 +1,9 @@
 -- The locals that main names, as far as the count has come.
 use Rattle.std.specs.Prelude.{◌≡◌, ℕ, ◌+◌, ◌<◌, ◌⊎◌, None, Some}
 use Rattle.ijvm_instr.specs.declared.row.Row.{Row}
-use Rattle.ijvm_image.specs.Image.{ImageView}
+use Rattle.ijvm_image.specs.Prelude.{ImageView}
 use Rattle.verifier_locals.specs.declared.graph.Node.{Node}
-use Rattle.verifier_facts.specs.Paths.{Arrival, HasRow, Reached}
-use Rattle.verifier_facts.specs.Facts.{Names, MainNames}
+use Rattle.verifier_facts.specs.Prelude.{Arrival, HasRow, Reached, Names, MainNames}
 
 abbrev pub NodeNames : Node → ℕ → Type 0
 NodeNames node k = (node.reads ≡ Some k) ⊎ (node.stores ≡ Some k)

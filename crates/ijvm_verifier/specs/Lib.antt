@@ -1,3 +1,4 @@
 pub mod Sweep
 pub mod Counted
 pub mod Survey
+pub mod Prelude

@@ -1,12 +1,11 @@
 -- What the searches find where nothing is wrong but perhaps the size of main's frame.
 use Rattle.std.specs.Prelude.{ℕ, ◌≤◌, List}
-use Rattle.ijvm_image.specs.Image.{ImageView}
+use Rattle.ijvm_image.specs.Prelude.{ImageView}
 use Rattle.verifier_facts.specs.declared.error.VerifyError.{VerifyError}
 use Rattle.verifier_facts.specs.declared.error.VerifyError.TheVariants.{UnsetLocal, Overlap}
 use Rattle.verifier_facts.specs.declared.kind.Kind.{Kind}
-use Rattle.verifier_facts.specs.Facts.{IsTrueOf, IsMainCount, IsMethodCount}
-use Rattle.verifier_facts.specs.Kinds.{AreKinds}
-use Rattle.verifier_reach.specs.Search.{IsDecided}
+use Rattle.verifier_facts.specs.Prelude.{IsTrueOf, IsMainCount, IsMethodCount, AreKinds}
+use Rattle.verifier_reach.specs.Prelude.{IsDecided}
 
 pub record IsSurvey (image : ImageView) (main_locals methods : ℕ) (kinds : List Kind) : Type 0 where
   pub decided : (stack_end : ℕ) (e : VerifyError) → IsDecided e → IsTrueOf image stack_end e → ⊥

@@ -1,8 +1,7 @@
 -- What the sweep over the bytes keeps.
 use Rattle.std.specs.Prelude.{◌≡◌, ◌≢◌, ℕ, ◌+◌, ◌*◌, ◌<◌, ◌≤◌, ◌↔◌, List, length, Contains, AllPairs}
-use Rattle.ijvm_image.specs.Image.{ImageView}
-use Rattle.verifier_facts.specs.Paths.{IsReachedMethod}
-use Rattle.verifier_facts.specs.Facts.{Piece, Code, Header, Covers}
+use Rattle.ijvm_image.specs.Prelude.{ImageView}
+use Rattle.verifier_facts.specs.Prelude.{IsReachedMethod, Piece, Code, Header, Covers}
 
 -- the order in which the pieces are met: by address, the instruction before the header
 abbrev pub rank : Piece → ℕ

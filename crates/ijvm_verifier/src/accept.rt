@@ -1,11 +1,10 @@
 //! Verifies an image: the searches in their order, and then the size of main's frame.
 
 ghost use Rattle.std.specs.Prelude.{◌≡◌, ◌≢◌, ◌⊎◌, ℕ, IfOk, IfErr};
-ghost use Rattle.console_port.specs.Map.{IsMap};
-ghost use Rattle.verifier_facts.specs.Facts.{IsTrueOf};
-ghost use Rattle.verifier_reach.specs.Search.{States};
+ghost use Rattle.console_port.specs.Prelude.{IsMap};
+ghost use Rattle.verifier_facts.specs.Prelude.{IsTrueOf, IsAccepted};
+ghost use Rattle.verifier_reach.specs.Prelude.{States};
 ghost use Rattle.ijvm_verifier.specs.Survey.{IsSurvey};
-ghost use Rattle.verifier_facts.specs.Accepted.{IsAccepted};
 
 use crate::count::count_locals;
 use crate::sweep::{count_methods, sweep_all};

@@ -1,9 +1,9 @@
 //! The number of main's locals.
 
 ghost use Rattle.std.specs.Prelude.{◌≡◌, ◌+◌, ◌<◌, ◌≤◌, ◌⊎◌, ℕ, Some, length};
-ghost use Rattle.verifier_facts.specs.Facts.{IsMainCount};
-ghost use Rattle.verifier_reach.specs.Search.{IsClosed};
-ghost use Rattle.verifier_locals.specs.Graph.{IsGraph};
+ghost use Rattle.verifier_facts.specs.Prelude.{IsMainCount};
+ghost use Rattle.verifier_reach.specs.Prelude.{IsClosed};
+ghost use Rattle.verifier_locals.specs.Prelude.{IsGraph};
 ghost use Rattle.ijvm_verifier.specs.Counted.{NodeNames, IsCounted};
 
 use ijvm_image::Image;

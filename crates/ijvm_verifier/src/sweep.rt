@@ -4,10 +4,8 @@ ghost use Rattle.std.specs.Prelude.{◌≡◌, ◌+◌, ◌*◌, ◌<◌, ◌≤
 ghost use Rattle.verifier_facts.specs.declared.error.VerifyError.{VerifyError};
 ghost use Rattle.verifier_reach.specs.declared.kept.Kept.{Kept};
 ghost use Rattle.verifier_facts.specs.declared.kind.Kind.{Kind};
-ghost use Rattle.verifier_facts.specs.Paths.{IsReachedMethod};
-ghost use Rattle.verifier_facts.specs.Facts.{IsTrueOf, IsMethodCount};
-ghost use Rattle.verifier_facts.specs.Kinds.{IsKind, AreKinds};
-ghost use Rattle.verifier_reach.specs.Search.{IsClosed, States};
+ghost use Rattle.verifier_facts.specs.Prelude.{IsReachedMethod, IsTrueOf, IsMethodCount, IsKind, AreKinds};
+ghost use Rattle.verifier_reach.specs.Prelude.{IsClosed, States};
 ghost use Rattle.ijvm_verifier.specs.Sweep.{IsSwept};
 
 use ijvm_image::Image;

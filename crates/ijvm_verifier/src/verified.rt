@@ -1,9 +1,7 @@
 //! An accepted image with what verifying found of it, which its type keeps.
 
 ghost use Rattle.std.specs.Prelude.{◌≡◌, ◌+◌, ◌≤◌};
-ghost use Rattle.verifier_facts.specs.Accepted.{IsAccepted};
-ghost use Rattle.verifier_facts.specs.Facts.{IsMethodCount};
-ghost use Rattle.verifier_facts.specs.Kinds.{IsKind};
+ghost use Rattle.verifier_facts.specs.Prelude.{IsAccepted, IsMethodCount, IsKind};
 
 use console_port::MemoryMap;
 use ijvm_image::Image;
@@ -21,7 +19,7 @@ pub struct VerifiedImage {
 }
 
 impl Model for VerifiedImage {
-    ghost use Rattle.verifier_facts.specs.Accepted.{VerifiedView, IsVerified};
+    ghost use Rattle.verifier_facts.specs.Prelude.{VerifiedView, IsVerified};
 
     ghost Value = { VerifiedView };
 
@@ -31,7 +29,7 @@ impl Model for VerifiedImage {
 }
 
 impl VerifiedImage {
-    ghost use Rattle.verifier_facts.specs.Accepted.{VerifiedView, IsVerified};
+    ghost use Rattle.verifier_facts.specs.Prelude.{VerifiedView, IsVerified};
 
     pub(crate) fn new(
         image: Image,

@@ -6,9 +6,7 @@ use Rattle.std.proofs.lemmas.List.{take-append-drop}
 use Rattle.std.proofs.Math.Seq.{take-append_seam, drop-append_seam}
 use Rattle.std.proofs.lemmas.Bool.{and_parts, or_right}
 use Rattle.mic_words.specs.declared.machine.Machine.{Machine}
-use Rattle.source_text.specs.Runs.{begins_with}
-use Rattle.source_text.specs.Fronts.{run_all, run_passes}
-use Rattle.source_text.specs.Options.{chosen, mapped}
+use Rattle.source_text.specs.Prelude.{begins_with, run_all, run_passes, chosen, mapped}
 use Rattle.mal_tokens.specs.declared.word.Word.{Word}
 use Rattle.mal_tokens.specs.declared.sign.Sign.TheVariants as signs
 use Rattle.mal_tokens.specs.declared.token.Token.{Token}
@@ -17,9 +15,7 @@ use Rattle.mal_line.specs.declared.operation.Operation.{Operation}
 use Rattle.mal_line.specs.declared.chain.Assignment.{Assignment}
 use Rattle.mal_line.specs.declared.chain.Tail.{Tail}
 use Rattle.mal_line.specs.declared.chain.Tail.TheVariants as tails
-use Rattle.mal_line.specs.Chains.{bit, dest_bits, dest_tokens, HasCoding, is_dest, is_expr, is_filled, IsAssignment, tail_tokens}
-use Rattle.mal_line.specs.Lookup.{coding_of}
-use Rattle.mal_line.specs.Reading.{assigned, chain_at, dest_of, last, on_dest, shifting, tail_of}
+use Rattle.mal_line.specs.Prelude.{bit, dest_bits, dest_tokens, HasCoding, is_dest, is_expr, is_filled, IsAssignment, tail_tokens, coding_of, assigned, chain_at, dest_of, last, on_dest, shifting, tail_of}
 use Rattle.mal_line.proofs.Codings.{coding_again, coding_is}
 
 -- ---- what follows an expression

@@ -4,23 +4,21 @@ use Rattle.std.specs.Prelude.{ℤ, pos, negsuc, not, option_and_then, ◌&&◌, 
 use Rattle.std.proofs.lemmas.Bool.{and_parts, eqb-true}
 use Rattle.mic_words.specs.declared.machine.Machine.{Machine}
 use Rattle.mic_words.specs.declared.machine.Machine.TheVariants.{Mic1, Mic2}
-use Rattle.source_text.specs.Options.{bound, chosen, mapped}
+use Rattle.source_text.specs.Prelude.{bound, chosen, mapped}
 use Rattle.micro_word.specs.declared.statement.AluOp.{AluOp}
 use Rattle.micro_word.specs.declared.statement.AluOp.TheVariants as ops
 use Rattle.micro_word.specs.declared.statement.BusSource.{BusSource}
 use Rattle.micro_word.specs.declared.statement.BusSource.TheVariants as bus
 use Rattle.micro_word.specs.declared.statement.Shift.{Shift}
 use Rattle.micro_word.specs.declared.statement.Shift.TheVariants as shifts
-use Rattle.micro_word.specs.Coding.{row}
-use Rattle.micro_word.specs.Words.{fits_side, has_operation, is_h, is_mixed, may_be_a, may_be_b, may_fetch}
+use Rattle.micro_word.specs.Prelude.{row, fits_side, has_operation, is_h, is_mixed, may_be_a, may_be_b, may_fetch}
 use Rattle.mal_tokens.specs.declared.word.Word.TheVariants as words
 use Rattle.mal_tokens.specs.declared.token.Token.{Token}
 use Rattle.mal_tokens.specs.declared.token.Token.TheVariants as tokens
 use Rattle.mal_line.specs.declared.operation.Operation.{Operation}
 use Rattle.mal_line.specs.declared.chain.Tail.{Tail}
 use Rattle.mal_line.specs.declared.chain.Tail.TheVariants as tails
-use Rattle.mal_line.specs.Expressions.{fits, IsCoded, IsOneOf, minus, one_token, other_spellings, plus, side, source_word, spelling, spellings, tail_with}
-use Rattle.mal_line.specs.Lookup.{checked, coding_of, operation_in, is_number, from_one_source, paired, shift_of, source_of, with_shift, work}
+use Rattle.mal_line.specs.Prelude.{fits, IsCoded, IsOneOf, minus, one_token, other_spellings, plus, side, source_word, spelling, spellings, tail_with, checked, coding_of, operation_in, is_number, from_one_source, paired, shift_of, source_of, with_shift, work}
 use Rattle.mal_line.proofs.Table.{form_is, Commutes, sum, sum_inc, and_op, or_op}
 
 -- ---- what is spelled is looked up

@@ -7,10 +7,10 @@ use Rattle.std.proofs.lemmas.Nat.{or_lt}
 use Rattle.std.proofs.lemmas.Bool.Decides.{nat_tests}
 use Rattle.micro_word.specs.declared.destination.Destination.{Destination}
 use Rattle.micro_word.specs.declared.destination.Destination.TheVariants as registers
-use Rattle.micro_word.specs.Destinations.{loads, register_bit}
+use Rattle.micro_word.specs.Prelude.{loads, register_bit}
 use Rattle.mal_tokens.specs.declared.word.Word.{Word}
 use Rattle.mal_tokens.specs.declared.word.Word.TheVariants as words
-use Rattle.mal_line.specs.Chains.{bit, dest_bits, LoadsNamed, register_word}
+use Rattle.mal_line.specs.Prelude.{bit, dest_bits, LoadsNamed, register_word}
 
 -- ---- the number of a register's bit
 

@@ -3,7 +3,7 @@ use Rattle.std.proofs.Common.{◌≡◌, ℕ, Bool, true, false, List, [], ◌�
 use Rattle.std.specs.Prelude.{Result, Ok, Err, ◌≢◌, ◌⊎◌, option_map, option_and_then}
 use Rattle.std.specs.List.{onto_first}
 use Rattle.mic_words.specs.declared.machine.Machine.{Machine}
-use Rattle.source_text.specs.Options.{mapped}
+use Rattle.source_text.specs.Prelude.{mapped}
 use Rattle.mal_tokens.specs.declared.sign.Sign.TheVariants as signs
 use Rattle.mal_tokens.specs.declared.token.Token.{Token}
 use Rattle.mal_tokens.specs.declared.token.Token.TheVariants as tokens
@@ -14,10 +14,7 @@ use Rattle.mal_line.specs.declared.line.Form.{Form}
 use Rattle.mal_line.specs.declared.line.Form.TheVariants as forms
 use Rattle.mal_line.specs.declared.line.LineFault.{LineFault}
 use Rattle.mal_line.specs.declared.line.LineFault.TheVariants as faults
-use Rattle.mal_line.specs.Statements.{is_semicolon, pieces}
-use Rattle.mal_line.specs.Reading.{add, adds, chain_at, dest_of, empty, piece_of, tree_of}
-use Rattle.mal_line.specs.Lines.{content_of, IsForm, IsRefused, names_foreign, SpellsLine}
-use Rattle.mal_line.specs.Reading.{behind_colon, fix_of, form_of, labelled, line_from, said, said_by}
+use Rattle.mal_line.specs.Prelude.{is_semicolon, pieces, add, adds, chain_at, dest_of, empty, piece_of, tree_of, content_of, IsForm, IsRefused, names_foreign, SpellsLine, behind_colon, fix_of, form_of, labelled, line_from, said, said_by}
 use Rattle.mal_line.proofs.Parting.{tree_again, tree_is}
 
 -- ---- what is read has the form

@@ -4,7 +4,7 @@ use Rattle.std.specs.Prelude.{ℤ, pos, option_map, ◌≢◌}
 use Rattle.std.specs.List.{list_all}
 use Rattle.std.proofs.lemmas.Bool.{and_parts}
 use Rattle.mic_words.specs.declared.machine.Machine.{Machine}
-use Rattle.source_text.specs.Options.{chosen, mapped}
+use Rattle.source_text.specs.Prelude.{chosen, mapped}
 use Rattle.micro_word.specs.declared.statement.Mem.{Mem}
 use Rattle.micro_word.specs.declared.statement.Mem.TheVariants as mems
 use Rattle.micro_word.specs.declared.statement.Test.{Test}
@@ -19,10 +19,7 @@ use Rattle.mal_line.specs.declared.piece.Piece.{Piece}
 use Rattle.mal_line.specs.declared.piece.Piece.TheVariants as found
 use Rattle.mal_line.specs.declared.next.Next.{Next}
 use Rattle.mal_line.specs.declared.next.Next.TheVariants as nexts
-use Rattle.mal_line.specs.Chains.{dest_tokens, is_dest, is_filled, IsAssignment, tail_tokens}
-use Rattle.mal_line.specs.Lookup.{is_number}
-use Rattle.mal_line.specs.Statements.{is_byte_word, IsElse, IsFetch, IsGoto, IsIf, IsMem, test_word}
-use Rattle.mal_line.specs.Reading.{by_offset, chain_at, dispatch, else_of, goto_of, if_of, piece_of, test_of}
+use Rattle.mal_line.specs.Prelude.{dest_tokens, is_dest, is_filled, IsAssignment, tail_tokens, is_number, is_byte_word, IsElse, IsFetch, IsGoto, IsIf, IsMem, test_word, by_offset, chain_at, dispatch, else_of, goto_of, if_of, piece_of, test_of}
 use Rattle.mal_line.proofs.Codings.{number_is}
 use Rattle.mal_line.proofs.Chaining.{chain_again, chain_is}
 

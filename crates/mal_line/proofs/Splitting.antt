@@ -6,8 +6,7 @@ use Rattle.std.specs.List.{prefix_len, onto_first}
 use Rattle.mic_words.specs.declared.machine.Machine.{Machine}
 use Rattle.mal_tokens.specs.declared.token.Token.{Token}
 use Rattle.mal_line.specs.declared.gathering.Gathered.{Gathered}
-use Rattle.mal_line.specs.Statements.{is_semicolon, pieces}
-use Rattle.mal_line.specs.Reading.{add_tokens, adds, ended}
+use Rattle.mal_line.specs.Prelude.{is_semicolon, pieces, add_tokens, adds, ended}
 
 -- how many tokens stand before the first semicolon
 abbrev pub len : List Token → ℕ

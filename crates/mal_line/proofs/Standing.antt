@@ -5,11 +5,10 @@ use Rattle.std.specs.List.{list_any, list_all, onto_first}
 use Rattle.std.proofs.lemmas.Bool.{or_parts, lt-ltb}
 use Rattle.mic_words.specs.declared.machine.Machine.{Machine}
 use Rattle.mic_words.specs.declared.machine.Machine.TheVariants.{Mic1, Mic2}
-use Rattle.source_text.specs.Options.{mapped}
+use Rattle.source_text.specs.Prelude.{mapped}
 use Rattle.micro_word.specs.declared.statement.Part.{Part}
 use Rattle.micro_word.specs.declared.statement.Mem.{Mem}
-use Rattle.micro_word.specs.Coding.{idle, row}
-use Rattle.micro_word.specs.Words.{fits_side, has_operation, is_mixed, is_part, may_be_a, may_be_b, may_fetch}
+use Rattle.micro_word.specs.Prelude.{idle, row, fits_side, has_operation, is_mixed, is_part, may_be_a, may_be_b, may_fetch}
 use Rattle.mal_tokens.specs.declared.sign.Sign.TheVariants as signs
 use Rattle.mal_tokens.specs.declared.token.Token.{Token}
 use Rattle.mal_tokens.specs.declared.token.Token.TheVariants as tokens
@@ -23,10 +22,7 @@ use Rattle.mal_line.specs.declared.line.Form.{Form}
 use Rattle.mal_line.specs.declared.line.Form.TheVariants as forms
 use Rattle.mal_line.specs.declared.next.Next.{Next}
 use Rattle.mal_line.specs.declared.next.Next.TheVariants as nexts
-use Rattle.mal_line.specs.Expressions.{fits, part_with}
-use Rattle.mal_line.specs.Chains.{HasCoding, IsAssignment}
-use Rattle.mal_line.specs.Statements.{AreParts, AreTree, assign, assignments, counted, fetch_count, fetches, is_semicolon, jump, Kind, listed, pieces}
-use Rattle.mal_line.specs.Lines.{content_of, HasPart, is_foreign, IsForm, names_foreign, next_by_jump, part_by, part_of, parts_by, parts_of, SpellsLine, with_access}
+use Rattle.mal_line.specs.Prelude.{fits, part_with, HasCoding, IsAssignment, AreParts, AreTree, assign, assignments, counted, fetch_count, fetches, is_semicolon, jump, Kind, listed, pieces, content_of, HasPart, is_foreign, IsForm, names_foreign, next_by_jump, part_by, part_of, parts_by, parts_of, SpellsLine, with_access}
 use Rattle.mal_line.proofs.Codings.{six_parts}
 use Rattle.mal_line.proofs.Destinations.{dest_bits-lt}
 

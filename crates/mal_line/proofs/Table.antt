@@ -6,7 +6,7 @@ use Rattle.mic_words.specs.declared.machine.Machine.TheVariants.{Mic1, Mic2}
 use Rattle.micro_word.specs.declared.statement.AluOp.{AluOp}
 use Rattle.micro_word.specs.declared.statement.AluOp.TheVariants as ops
 use Rattle.micro_word.specs.declared.statement.BusSource.{BusSource}
-use Rattle.micro_word.specs.Words.{is_h}
+use Rattle.micro_word.specs.Prelude.{is_h}
 use Rattle.mal_tokens.specs.declared.word.Word.{Word}
 use Rattle.mal_tokens.specs.declared.word.Word.TheVariants as words
 use Rattle.mal_tokens.specs.declared.sign.Sign.TheVariants as signs
@@ -15,8 +15,7 @@ use Rattle.mal_tokens.specs.declared.token.Token.TheVariants as tokens
 use Rattle.mal_line.specs.declared.operation.Operation.{Operation}
 use Rattle.mal_line.specs.declared.expression.Operand.{Operand}
 use Rattle.mal_line.specs.declared.expression.Operand.TheVariants as operands
-use Rattle.mal_line.specs.Expressions.{IsOneOf, minus, one_token, plus, side, source_word, spelling, spellings, zero_token}
-use Rattle.mal_line.specs.Lookup.{from_one_source, joined, on_a, operand_by, operand_of, operation_in, paired, prefixed, single, source_of, sum_and_one, work}
+use Rattle.mal_line.specs.Prelude.{IsOneOf, minus, one_token, plus, side, source_word, spelling, spellings, zero_token, from_one_source, joined, on_a, operand_by, operand_of, operation_in, paired, prefixed, single, source_of, sum_and_one, work}
 
 -- ---- what is looked up is spelled
 

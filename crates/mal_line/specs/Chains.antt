@@ -5,7 +5,7 @@ use Rattle.std.specs.List.{list_all}
 use Rattle.mic_words.specs.declared.machine.Machine.{Machine}
 use Rattle.micro_word.specs.declared.destination.Destination.{Destination}
 use Rattle.micro_word.specs.declared.destination.Destination.TheVariants as registers
-use Rattle.micro_word.specs.Destinations.{loads, register_bit}
+use Rattle.micro_word.specs.Prelude.{loads, register_bit}
 use Rattle.mal_tokens.specs.declared.word.Word.{Word}
 use Rattle.mal_tokens.specs.declared.word.Word.TheVariants as words
 use Rattle.mal_tokens.specs.declared.sign.Sign.TheVariants as signs

@@ -5,3 +5,4 @@ pub mod Targets
 pub mod Lines
 pub mod Lookup
 pub mod Reading
+pub mod Prelude

@@ -4,8 +4,7 @@ use Rattle.std.specs.List.{list_any}
 use Rattle.mic_words.specs.declared.machine.Machine.{Machine}
 use Rattle.mic_words.specs.declared.machine.Machine.TheVariants.{Mic1, Mic2}
 use Rattle.micro_word.specs.declared.statement.Part.{Part}
-use Rattle.micro_word.specs.Coding.{idle}
-use Rattle.micro_word.specs.Words.{is_part}
+use Rattle.micro_word.specs.Prelude.{idle, is_part}
 use Rattle.mal_tokens.specs.declared.word.Word.{Word}
 use Rattle.mal_tokens.specs.declared.word.Word.TheVariants as words
 use Rattle.mal_tokens.specs.declared.sign.Sign.TheVariants as signs

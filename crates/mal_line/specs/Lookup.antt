@@ -8,7 +8,7 @@ use Rattle.micro_word.specs.declared.statement.BusSource.{BusSource}
 use Rattle.micro_word.specs.declared.statement.BusSource.TheVariants as bus
 use Rattle.micro_word.specs.declared.statement.Shift.{Shift}
 use Rattle.micro_word.specs.declared.statement.Shift.TheVariants as shifts
-use Rattle.micro_word.specs.Words.{is_h}
+use Rattle.micro_word.specs.Prelude.{is_h}
 use Rattle.mal_tokens.specs.declared.word.Word.{Word}
 use Rattle.mal_tokens.specs.declared.word.Word.TheVariants as words
 use Rattle.mal_tokens.specs.declared.sign.Sign.TheVariants as signs

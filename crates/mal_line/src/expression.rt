@@ -1,6 +1,6 @@
 //! The coding of an expression, looked up by its tokens.
 ghost use Rattle.std.specs.Prelude.{◌≡◌};
-ghost use Rattle.micro_word.specs.Words.{is_h};
+ghost use Rattle.micro_word.specs.Prelude.{is_h};
 ghost use Rattle.mal_line.specs.Lookup.{checked, coding_of, from_one_source, joined, operand_of, operation_in, paired, prefixed, shift_of, single, source_of, sum_and_one, work};
 
 use crate::chain::Tail;

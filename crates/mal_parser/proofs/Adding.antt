@@ -7,7 +7,7 @@ use Rattle.std.proofs.lemmas.List.{append-nil, map-append}
 use Rattle.std.proofs.lemmas.Bool.Decides.{nat_tests}
 use Rattle.std.proofs.lemmas.List.Folds.{list_any-append}
 use Rattle.std.proofs.lemmas.Bool.{or_from, or_parts}
-use Rattle.source_text.specs.Parsing.{Makes}
+use Rattle.source_text.specs.Prelude.{Makes}
 use Rattle.mic_words.specs.declared.machine.Machine.{Machine}
 use Rattle.mal_line.specs.declared.content.Content.{Content}
 use Rattle.mal_line.specs.declared.content.Content.TheVariants as said
@@ -15,9 +15,7 @@ use Rattle.mal_line.specs.declared.content.Parts.{Parts}
 use Rattle.mal_parser.specs.declared.error.MalError.TheVariants as errors
 use Rattle.mal_parser.specs.declared.source.Draft.{Draft}
 use Rattle.mal_parser.specs.declared.source.Fix.{Fix}
-use Rattle.mal_parser.specs.Labels.{address_of, AreDistinct, fix_labels, has_fix, has_label, has_name, is_among, is_label, labels_of}
-use Rattle.mal_parser.specs.Text.{AreAddresses, fallbacks_from, fixes_from, IsFine, statements_from}
-use Rattle.mal_parser.specs.Reading.{add_content, add_fix, empty, first, parser, Sketch, sketch_of}
+use Rattle.mal_parser.specs.Prelude.{address_of, AreDistinct, fix_labels, has_fix, has_label, has_name, is_among, is_label, labels_of, AreAddresses, fallbacks_from, fixes_from, IsFine, statements_from, add_content, add_fix, empty, first, parser, Sketch, sketch_of}
 use Rattle.mal_parser.proofs.Resolved.{same_text, text_same}
 
 -- ---- adding what the lines say

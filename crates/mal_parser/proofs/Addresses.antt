@@ -3,10 +3,9 @@ use Rattle.std.proofs.Common.{◌≡◌, ℕ, suc, ◌+◌, Bool, true, false, L
 use Rattle.std.specs.Prelude.{find, is_some, option_and_then, option_map, slice_get, ◌||◌}
 use Rattle.std.specs.Str.{bytes_eq}
 use Rattle.std.proofs.lemmas.List.{map-append}
-use Rattle.source_text.specs.Places.{place_of_name}
+use Rattle.source_text.specs.Prelude.{place_of_name}
 use Rattle.mal_parser.specs.declared.source.Fix.{Fix}
-use Rattle.mal_parser.specs.Labels.{fix_labels, has_fix}
-use Rattle.mal_parser.specs.Reading.{address_at}
+use Rattle.mal_parser.specs.Prelude.{fix_labels, has_fix, address_at}
 
 -- a label that has a place is that of a line
 pub has_place : (fs : List Fix) (label : List ℕ) → is_some (place_of_name (fix_labels fs) label) ≡ has_fix fs label

@@ -12,9 +12,7 @@ use Rattle.mal_parser.specs.declared.error.MalError.{MalError}
 use Rattle.mal_parser.specs.declared.error.MalError.TheVariants as errors
 use Rattle.mal_parser.specs.declared.source.Draft.{Draft}
 use Rattle.mal_parser.specs.declared.source.Fix.{Fix}
-use Rattle.mal_parser.specs.Labels.{address_of, has_label, is_labelled}
-use Rattle.mal_parser.specs.Text.{AreAddresses, AreRefused, fallbacks_from, falls, falls_off, FallsOff, fixes_from, is_statement, IsAt, IsFine, IsFirst, names_unknown, NamesUnknown, Never, statements, statements_from, targets_of}
-use Rattle.mal_parser.specs.Reading.{by_entry, by_falling, by_unknown, earlier, falling, first, first_falling, first_unknown, knows, main1, number_of, resolved_program, sketch_of, unknown_draft, unknown_fix, unknown_in}
+use Rattle.mal_parser.specs.Prelude.{address_of, has_label, is_labelled, AreAddresses, AreRefused, fallbacks_from, falls, falls_off, FallsOff, fixes_from, is_statement, IsAt, IsFine, IsFirst, names_unknown, NamesUnknown, Never, statements, statements_from, targets_of, by_entry, by_falling, by_unknown, earlier, falling, first, first_falling, first_unknown, knows, main1, number_of, resolved_program, sketch_of, unknown_draft, unknown_fix, unknown_in}
 use Rattle.mal_parser.proofs.Resolved.{any_position, at_position}
 
 -- ---- the first line that names an unknown label

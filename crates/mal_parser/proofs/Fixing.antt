@@ -4,9 +4,7 @@ use Rattle.std.specs.Prelude.{find, slice_get, option_map, ◌||◌}
 use Rattle.std.specs.Str.{bytes_eq}
 use Rattle.std.proofs.lemmas.Bool.{or_right}
 use Rattle.mal_parser.specs.declared.source.Fix.{Fix}
-use Rattle.mal_parser.specs.Labels.{AreDistinct, fix_labels, is_among}
-use Rattle.mal_parser.specs.Text.{IsFixedBy}
-use Rattle.mal_parser.specs.Reading.{address_at, fixed_of}
+use Rattle.mal_parser.specs.Prelude.{AreDistinct, fix_labels, is_among, IsFixedBy, address_at, fixed_of}
 use Rattle.mal_parser.proofs.Resolved.{same_text, text_same}
 
 module _ (label : List ℕ) where

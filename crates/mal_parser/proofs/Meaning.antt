@@ -12,10 +12,7 @@ use Rattle.mal_line.specs.declared.next.Next.TheVariants as nexts
 use Rattle.mal_parser.specs.declared.source.Draft.{Draft}
 use Rattle.mal_parser.specs.declared.source.Fix.{Fix}
 use Rattle.mal_parser.specs.declared.statement.Statement.{Statement}
-use Rattle.mal_parser.specs.Labels.{AreDistinct, fix_labels, has_label, is_labelled, labels_of}
-use Rattle.mal_parser.specs.Text.{AreResolved, fallbacks, falls, fixes, IsFine, IsProgramOf, IsResolved, IsResolvedNext, statements}
-use Rattle.mal_parser.specs.Reading.{by_entry, by_falling, by_unknown, earlier, falling, first, first_falling, first_unknown, fixed_of, IsSound, knows, main1, resolved_next, number_of, resolved_program, program_with, resolved, sketch_of, target_number, unknown_draft, unknown_fix, unknown_in}
-use Rattle.mal_parser.specs.Program.{IsFallback, label_at, MalView}
+use Rattle.mal_parser.specs.Prelude.{AreDistinct, fix_labels, has_label, is_labelled, labels_of, AreResolved, fallbacks, falls, fixes, IsFine, IsProgramOf, IsResolved, IsResolvedNext, statements, by_entry, by_falling, by_unknown, earlier, falling, first, first_falling, first_unknown, fixed_of, IsSound, knows, main1, resolved_next, number_of, resolved_program, program_with, resolved, sketch_of, target_number, unknown_draft, unknown_fix, unknown_in, IsFallback, label_at, MalView}
 use Rattle.mal_parser.proofs.Fixing.{fixed_is, fixed_there}
 use Rattle.mal_parser.proofs.Resolved.{among_at, any_position, at_position, draft_label, found_later, known_one, label_is, labelled_at, neither, no_line, one_place, program_is, target_label}
 use Rattle.mal_parser.proofs.Adding.{label_among}

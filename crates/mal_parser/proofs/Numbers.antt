@@ -8,8 +8,7 @@ use Rattle.std.specs.Cmp.Lexicographic.{slice_cmp, texts_ties}
 use Rattle.std.specs.BTreeMap.{BTreeMap, get, is_at}
 use Rattle.std.proofs.lemmas.Iterator.Adapters.{position_from-zero}
 use Rattle.mal_parser.specs.declared.source.Draft.{Draft}
-use Rattle.mal_parser.specs.Labels.{AddsNumber, AreNumbers, has_label, has_name, is_label, is_labelled, is_numbered, with_number}
-use Rattle.mal_parser.specs.Reading.{number_of}
+use Rattle.mal_parser.specs.Prelude.{AddsNumber, AreNumbers, has_label, has_name, is_label, is_labelled, is_numbered, with_number, number_of}
 use Rattle.mal_parser.proofs.Resolved.{same_text}
 
 some_from : {X : Type 0} (p : X → Bool) (i : ℕ) (xs : List X) → is_some (position_from p i xs) ≡ list_any p xs

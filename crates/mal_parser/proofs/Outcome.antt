@@ -2,16 +2,12 @@
 use Rattle.std.proofs.Common.{◌≡◌, ℕ, ◌+◌, List, true, false, length, refl, sym, ap, subst, ◌∙◌, inl, inr}
 use Rattle.std.specs.Prelude.{Result, Ok, Err, IfOk, IfErr, ◌⊎◌}
 use Rattle.mic_words.specs.declared.machine.Machine.{Machine}
-use Rattle.source_text.specs.Content.{contents}
-use Rattle.source_text.specs.Parsing.{Agrees, IsReadAsSpelled, Makes}
-use Rattle.source_text.specs.Walk.{FailsBy, Leads}
+use Rattle.source_text.specs.Prelude.{contents, Agrees, IsReadAsSpelled, Makes, FailsBy, Leads}
 use Rattle.mal_line.specs.declared.content.Content.{Content}
 use Rattle.mal_line.specs.Lines as lines
 use Rattle.mal_parser.specs.declared.error.MalError.{MalError}
 use Rattle.mal_parser.specs.declared.error.MalError.TheVariants as errors
-use Rattle.mal_parser.specs.Program.{MalView}
-use Rattle.mal_parser.specs.Text.{grammar, is_memory, IsRefused, SpellsProgram}
-use Rattle.mal_parser.specs.Reading.{add_content, empty, IsSound, parser, resolved_program, ReadsLines, Sketch, sketch_of, step}
+use Rattle.mal_parser.specs.Prelude.{MalView, grammar, is_memory, IsRefused, SpellsProgram, add_content, empty, IsSound, parser, resolved_program, ReadsLines, Sketch, sketch_of, step}
 use Rattle.mal_parser.proofs.Adding.{fine_made, made_fine}
 use Rattle.mal_parser.proofs.Ending.{ends_refused, refused_ends}
 use Rattle.mal_parser.proofs.Meaning.{means_program, program_means}

@@ -5,10 +5,9 @@ use Rattle.std.specs.List.{list_all, onto_first}
 use Rattle.std.specs.Str.Lines.{lines, lines_of_parts, strip_carriage_return}
 use Rattle.std.proofs.lemmas.Bool.Decides.{nat_tests}
 use Rattle.std.proofs.lemmas.Bool.{and_parts}
-use Rattle.source_text.specs.Content.{begins_comment, contents, without_comment}
-use Rattle.source_text.specs.Parts.{before_more, parts}
-use Rattle.mal_print.specs.StatementText.{is_plain}
-use Rattle.mal_parser.specs.ProgramText.{text_of}
+use Rattle.source_text.specs.Prelude.{begins_comment, contents, without_comment, before_more, parts}
+use Rattle.mal_print.specs.Prelude.{is_plain}
+use Rattle.mal_parser.specs.Prelude.{text_of}
 
 abbrev pub ArePlain : List (List ℕ) → Type 0
 ArePlain [] = Unit {0}

@@ -6,10 +6,9 @@ use Rattle.std.proofs.lemmas.Option.{get_or_from_slice_get}
 use Rattle.std.proofs.lemmas.Bool.{and_parts}
 use Rattle.mic_words.specs.declared.machine.Machine.{Machine}
 use Rattle.micro_word.specs.declared.statement.Placed.{Placed}
-use Rattle.micro_word.specs.Words.{is_next, is_part, is_valid}
+use Rattle.micro_word.specs.Prelude.{is_next, is_part, is_valid}
 use Rattle.mal_parser.specs.declared.statement.Statement.{Statement}
-use Rattle.mal_parser.specs.Program.{IsStatement, MalView}
-use Rattle.mal_parser.specs.ProgramText.{canonical_text, default_line, fix_line, labelled_line, statement_text, text_of}
+use Rattle.mal_parser.specs.Prelude.{IsStatement, MalView, canonical_text, default_line, fix_line, labelled_line, statement_text, text_of}
 
 -- ---- targets
 

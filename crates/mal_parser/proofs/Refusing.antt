@@ -8,9 +8,7 @@ use Rattle.mal_line.specs.declared.content.Content.TheVariants as said
 use Rattle.mal_parser.specs.declared.error.MalError.{MalError}
 use Rattle.mal_parser.specs.declared.error.MalError.TheVariants as errors
 use Rattle.mal_parser.specs.declared.source.Draft.{Draft}
-use Rattle.mal_parser.specs.Labels.{address_of, has_fix, has_name}
-use Rattle.mal_parser.specs.Text.{fallbacks, fixes, IsMisfit, statements}
-use Rattle.mal_parser.specs.Reading.{add_content, add_fix, first, sketch_of}
+use Rattle.mal_parser.specs.Prelude.{address_of, has_fix, has_name, fallbacks, fixes, IsMisfit, statements, add_content, add_fix, first, sketch_of}
 use Rattle.mal_parser.proofs.Adding.{picked, with_fallback, with_fix, with_statement}
 
 some_first : (ds : List Draft) → is_some (first ds) ≡ true → 0 < length ds

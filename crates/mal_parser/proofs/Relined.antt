@@ -4,8 +4,7 @@ use Rattle.std.specs.Prelude.{IfSome, IsSome, slice_get, option_map}
 use Rattle.mal_line.specs.declared.next.Next.{Next}
 use Rattle.mal_line.specs.declared.next.Next.TheVariants as nexts
 use Rattle.mal_parser.specs.declared.statement.Statement.{Statement}
-use Rattle.mal_parser.specs.Program.{HasTargets, IsFallback, IsLabelled, IsMalProgram, IsStatement, label_at, MalView}
-use Rattle.mal_parser.specs.ProgramText.{on_line, on_lines}
+use Rattle.mal_parser.specs.Prelude.{HasTargets, IsFallback, IsLabelled, IsMalProgram, IsStatement, label_at, MalView, on_line, on_lines}
 
 pub length_lines : (k : ℕ) (ss : List Statement) → length (on_lines k ss) ≡ length ss
 length_lines k [] = refl

@@ -16,10 +16,7 @@ use Rattle.mal_line.specs.declared.next.Next.TheVariants as nexts
 use Rattle.mal_parser.specs.declared.source.Draft.{Draft}
 use Rattle.mal_parser.specs.declared.source.Fix.{Fix}
 use Rattle.mal_parser.specs.declared.statement.Statement.{Statement}
-use Rattle.mal_parser.specs.Labels.{AreDistinct, has_label, is_among, is_label, is_labelled, labels_of}
-use Rattle.mal_parser.specs.Text.{falls}
-use Rattle.mal_parser.specs.Reading.{address_at, earlier, falling, first_falling, first_unknown, fixed_of, IsDraft, IsSound, knows, main1, resolved_next, number_of, program_with, resolved, Sketch, target_number, unknown_draft, unknown_fix, unknown_in}
-use Rattle.mal_parser.specs.Program.{HasTargets, IsFallback, IsLabelled, IsMalProgram, IsStatement, label_at}
+use Rattle.mal_parser.specs.Prelude.{AreDistinct, has_label, is_among, is_label, is_labelled, labels_of, falls, address_at, earlier, falling, first_falling, first_unknown, fixed_of, IsDraft, IsSound, knows, main1, resolved_next, number_of, program_with, resolved, Sketch, target_number, unknown_draft, unknown_fix, unknown_in, HasTargets, IsFallback, IsLabelled, IsMalProgram, IsStatement, label_at}
 
 -- ---- places of lists
 

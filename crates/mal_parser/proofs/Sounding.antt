@@ -4,14 +4,12 @@ use Rattle.std.specs.Prelude.{IfSome, All, nat_lt, option_map, ℤ, pos, negsuc}
 use Rattle.std.specs.List.{cons_option}
 use Rattle.std.proofs.lemmas.Bool.Decides.{nat_tests}
 use Rattle.std.proofs.lemmas.List.Elements.{All-cons, All-nil}
-use Rattle.source_text.specs.Text.{SayAll}
+use Rattle.source_text.specs.Prelude.{SayAll}
 use Rattle.mic_words.specs.declared.machine.Machine.{Machine}
 use Rattle.mal_line.specs.declared.content.Content.{Content}
 use Rattle.mal_line.specs.declared.content.Content.TheVariants as said
 use Rattle.mal_parser.specs.declared.source.Fix.{Fix}
-use Rattle.mal_parser.specs.Labels.{address_of}
-use Rattle.mal_parser.specs.Text.{fallbacks_from, fixes_from, grammar, IsFine, statements_from}
-use Rattle.mal_parser.specs.Reading.{first, IsDraft, IsSound, ReadsLines, sketch_of}
+use Rattle.mal_parser.specs.Prelude.{address_of, fallbacks_from, fixes_from, grammar, IsFine, statements_from, first, IsDraft, IsSound, ReadsLines, sketch_of}
 use Rattle.mal_parser.proofs.Saying.{free_label}
 
 module _ (laws : ReadsLines) (m : Machine) where

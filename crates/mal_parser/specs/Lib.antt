@@ -3,3 +3,4 @@ pub mod ProgramText
 pub mod Labels
 pub mod Text
 pub mod Reading
+pub mod Prelude

@@ -9,9 +9,8 @@ use Rattle.mal_tokens.specs.declared.token.Token.{Token}
 use Rattle.mal_tokens.specs.declared.token.Token.TheVariants as tokens
 use Rattle.mal_line.specs.declared.next.Next.{Next}
 use Rattle.mal_line.specs.declared.next.Next.TheVariants as nexts
-use Rattle.mal_line.specs.Targets.{by_targets}
-use Rattle.mal_print.specs.Printed.{printed}
-use Rattle.mal_print.specs.StatementText.{fallback, fix, or_semicolon, parts, statement}
+use Rattle.mal_line.specs.Prelude.{by_targets}
+use Rattle.mal_print.specs.Prelude.{printed, fallback, fix, or_semicolon, parts, statement}
 use Rattle.mal_parser.specs.declared.statement.Statement.{Statement}
 use Rattle.mal_parser.specs.Program.{label_at, MalView}
 

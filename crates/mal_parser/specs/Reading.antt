@@ -4,13 +4,11 @@ use Rattle.std.specs.List.{position}
 use Rattle.std.specs.Str.{bytes_eq}
 use Rattle.mic_words.specs.declared.machine.Machine.{Machine}
 use Rattle.source_text.specs.Parsing as parsing
-use Rattle.source_text.specs.Parsing.{add_said, Parser}
-use Rattle.source_text.specs.Walk.{Step}
-use Rattle.micro_word.specs.Words.{is_part}
+use Rattle.source_text.specs.Prelude.{add_said, Parser, Step}
+use Rattle.micro_word.specs.Prelude.{is_part}
 use Rattle.mal_tokens.specs.declared.token.Token.{Token}
-use Rattle.mal_tokens.specs.Tokens.{read}
+use Rattle.mal_tokens.specs.Prelude.{read, IsLabelText}
 use Rattle.mal_tokens.specs.Tokens as tokens
-use Rattle.mal_tokens.specs.Words.{IsLabelText}
 use Rattle.mal_line.specs.declared.content.Content.{Content}
 use Rattle.mal_line.specs.declared.content.Content.TheVariants as contents
 use Rattle.mal_line.specs.declared.content.Parts.{Parts}
@@ -18,9 +16,7 @@ use Rattle.mal_line.specs.declared.line.LineFault.{LineFault}
 use Rattle.mal_line.specs.declared.next.Next.{Next}
 use Rattle.mal_line.specs.declared.next.Next.TheVariants as nexts
 use Rattle.mal_line.specs.Lines as lines
-use Rattle.mal_line.specs.Lines.{HasPart}
-use Rattle.mal_line.specs.Reading.{line_from, LinesReadAsSpelled, LinesRefusedAsFaulty}
-use Rattle.mal_line.specs.Targets.{by_targets}
+use Rattle.mal_line.specs.Prelude.{HasPart, line_from, LinesReadAsSpelled, LinesRefusedAsFaulty, by_targets}
 use Rattle.mal_parser.specs.declared.error.MalError.{MalError}
 use Rattle.mal_parser.specs.declared.error.MalError.TheVariants as errors
 use Rattle.mal_parser.specs.declared.source.Draft.{Draft}

@@ -3,9 +3,9 @@ use Rattle.std.specs.Prelude.{◌≡◌, ◌⊎◌, ◌+◌, ◌≤◌, ◌<◌,
 use Rattle.std.specs.List.{cons_option, list_all, list_any}
 use Rattle.mic_words.specs.declared.machine.Machine.{Machine}
 use Rattle.source_text.specs.Text as text
-use Rattle.source_text.specs.Text.{Grammar, LineRefusals}
+use Rattle.source_text.specs.Prelude.{Grammar, LineRefusals}
 use Rattle.mal_tokens.specs.declared.token.Token.{Token}
-use Rattle.mal_tokens.specs.Tokens.{mal}
+use Rattle.mal_tokens.specs.Prelude.{mal}
 use Rattle.mal_line.specs.declared.content.Content.{Content}
 use Rattle.mal_line.specs.declared.content.Content.TheVariants as said
 use Rattle.mal_line.specs.declared.line.LineFault.{LineFault}

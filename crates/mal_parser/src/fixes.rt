@@ -1,7 +1,7 @@
 //! The `.label` lines of a source, found by their labels.
 
 ghost use Rattle.std.specs.Prelude.{◌≡◌, ◌++◌, ◌∷◌, [], false, OnOk, OnErr, option_and_then, option_map, slice_get};
-ghost use Rattle.source_text.specs.Places.{place_of_name};
+ghost use Rattle.source_text.specs.Prelude.{place_of_name};
 ghost use Rattle.mal_parser.specs.Labels.{has_fix};
 ghost use Rattle.mal_parser.specs.Reading.{address_at};
 

@@ -2,7 +2,7 @@
 
 ghost use Rattle.std.specs.Prelude.{◌≡◌, ◌≤◌, ◌<◌, ◌-◌, length, option_map, map, slice_get, find, min, IfOk, IfErr, Ok, Some};
 ghost use Rattle.std.specs.List.{position};
-ghost use Rattle.source_text.specs.Walk.{FailsBy};
+ghost use Rattle.source_text.specs.Prelude.{FailsBy};
 ghost use Rattle.mal_parser.specs.Labels.{has_label, is_labelled};
 ghost use Rattle.mal_parser.specs.Text.{falls, is_memory};
 ghost use Rattle.mal_parser.specs.Reading.{earlier, falling, first_falling, first_unknown, fixed_of, IsSound, knows, main1, resolved_next, number_of, resolved_program, resolved, target_number, unknown_draft, unknown_fix, unknown_in};

@@ -1,7 +1,7 @@
 //! The lines of a source, kept as drafts.
 
 ghost use Rattle.std.specs.Prelude.{◌≡◌, ◌<◌, Ok, Err, OnOk, OnErr, IfErr, is_some};
-ghost use Rattle.source_text.specs.Walk.{FailsBy};
+ghost use Rattle.source_text.specs.Prelude.{FailsBy};
 ghost use Rattle.mal_parser.specs.declared.error.MalError.TheVariants.{OutOfMemory};
 ghost use Rattle.mal_parser.specs.Labels.{address_of};
 ghost use Rattle.mal_parser.specs.Text.{at_line, is_memory};

@@ -15,8 +15,7 @@ use Rattle.micro_word.specs.declared.statement.Shift.TheVariants as shifts
 use Rattle.micro_word.specs.declared.statement.Mem.{Mem}
 use Rattle.micro_word.specs.declared.statement.Test.TheVariants as tests
 use Rattle.micro_word.specs.declared.statement.Part.{Part}
-use Rattle.micro_word.specs.Coding.{row}
-use Rattle.micro_word.specs.Words.{fits_side, has_operation, is_mixed, may_be_a, may_be_b, may_fetch}
+use Rattle.micro_word.specs.Prelude.{row, fits_side, has_operation, is_mixed, may_be_a, may_be_b, may_fetch}
 use Rattle.mal_tokens.specs.declared.word.Word.{Word}
 use Rattle.mal_tokens.specs.declared.word.Word.TheVariants as words
 use Rattle.mal_tokens.specs.declared.token.Token.{Token}
@@ -26,9 +25,8 @@ use Rattle.mal_line.specs.declared.chain.Assignment.{Assignment}
 use Rattle.mal_line.specs.declared.next.Next.{Next}
 use Rattle.mal_line.specs.declared.next.Next.TheVariants as nexts
 use Rattle.mal_line.specs.Expressions as table
-use Rattle.mal_line.specs.Expressions.{fits, source_word, spelling, tail_with}
-use Rattle.mal_line.specs.Chains.{dest_bits, is_dest, is_expr, is_expr_word, is_filled, IsAssignment}
-use Rattle.mal_print.specs.StatementText.{all_dests, chain, dests_of, has_dest, heads, is_absent, is_nothing, is_unshifted, is_zero, tested}
+use Rattle.mal_line.specs.Prelude.{fits, source_word, spelling, tail_with, dest_bits, is_dest, is_expr, is_expr_word, is_filled, IsAssignment}
+use Rattle.mal_print.specs.Prelude.{all_dests, chain, dests_of, has_dest, heads, is_absent, is_nothing, is_unshifted, is_zero, tested}
 use Rattle.mal_print.proofs.Each.{Each, each_spelling, Expressed}
 use Rattle.mal_print.proofs.Fitting.{filtered, Fits}
 

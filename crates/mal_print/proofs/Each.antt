@@ -16,8 +16,7 @@ use Rattle.micro_word.specs.declared.statement.Mem.TheVariants as mems
 use Rattle.micro_word.specs.declared.statement.Test.{Test}
 use Rattle.micro_word.specs.declared.statement.Test.TheVariants as tests
 use Rattle.micro_word.specs.declared.statement.Part.{Part}
-use Rattle.micro_word.specs.Coding.{row}
-use Rattle.micro_word.specs.Words.{fits_side, may_be_a, may_be_b, may_fetch}
+use Rattle.micro_word.specs.Prelude.{row, fits_side, may_be_a, may_be_b, may_fetch}
 use Rattle.mal_tokens.specs.declared.word.Word.{Word}
 use Rattle.mal_tokens.specs.declared.word.Word.TheVariants as words
 use Rattle.mal_tokens.specs.declared.sign.Sign.{Sign}
@@ -26,12 +25,8 @@ use Rattle.mal_tokens.specs.declared.token.Token.{Token}
 use Rattle.mal_tokens.specs.declared.token.Token.TheVariants as tokens
 use Rattle.mal_line.specs.declared.next.Next.{Next}
 use Rattle.mal_line.specs.declared.next.Next.TheVariants as nexts
-use Rattle.mal_line.specs.Expressions.{minus, one_token, plus, side, source_word, spelling, tail_with, zero_token}
-use Rattle.mal_line.specs.Chains.{dest_tokens, tail_tokens}
-use Rattle.mal_line.specs.Lines.{is_foreign_word}
-use Rattle.mal_line.specs.Statements.{is_semicolon, test_word}
-use Rattle.mal_line.specs.Targets.{EachTarget}
-use Rattle.mal_print.specs.StatementText.{all_dests, assignment, beside, byte_word, chain, dests_of, fetches, has_dest, heads, is_absent, leads, memory, or_semicolon, parts, tested, value}
+use Rattle.mal_line.specs.Prelude.{minus, one_token, plus, side, source_word, spelling, tail_with, zero_token, dest_tokens, tail_tokens, is_foreign_word, is_semicolon, test_word, EachTarget}
+use Rattle.mal_print.specs.Prelude.{all_dests, assignment, beside, byte_word, chain, dests_of, fetches, has_dest, heads, is_absent, leads, memory, or_semicolon, parts, tested, value}
 use Rattle.mal_print.proofs.Fitting.{filtered, Fits}
 
 -- ---- sources of a machine

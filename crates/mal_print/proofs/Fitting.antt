@@ -5,8 +5,7 @@ use Rattle.std.specs.List.{filter, list_all}
 use Rattle.std.proofs.lemmas.Bool.{and_parts}
 use Rattle.mic_words.specs.declared.machine.Machine.{Machine}
 use Rattle.micro_word.specs.declared.statement.Part.{Part}
-use Rattle.micro_word.specs.Coding.{row}
-use Rattle.micro_word.specs.Words.{fits_side, has_operation, is_mixed, is_part, may_be_a, may_be_b, may_fetch}
+use Rattle.micro_word.specs.Prelude.{row, fits_side, has_operation, is_mixed, is_part, may_be_a, may_be_b, may_fetch}
 
 pub filtered : {A : Type 0} (q p : A → Bool) (ws : List A) → list_all q ws ≡ true → list_all q (filter p ws) ≡ true
 filtered q p [] h = refl

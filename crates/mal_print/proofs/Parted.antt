@@ -16,10 +16,9 @@ use Rattle.mal_line.specs.declared.chain.Assignment.{Assignment}
 use Rattle.mal_line.specs.declared.tree.Tree.{Tree}
 use Rattle.mal_line.specs.declared.next.Next.{Next}
 use Rattle.mal_line.specs.declared.next.Next.TheVariants as nexts
-use Rattle.mal_line.specs.Chains.{dest_tokens}
-use Rattle.mal_line.specs.Statements.{AreParts, AreTree, assign, assignments, counted, fetch_count, fetches, IsJumpLast, is_semicolon, jump, jumps_of, Kind, listed, listed_mem, memories, memory, nothing, pieces}
+use Rattle.mal_line.specs.Prelude.{dest_tokens, AreParts, AreTree, assign, assignments, counted, fetch_count, fetches, IsJumpLast, is_semicolon, jump, jumps_of, Kind, listed, listed_mem, memories, memory, nothing, pieces}
 use Rattle.mal_print.specs.StatementText as text
-use Rattle.mal_print.specs.StatementText.{assignment, beside, chain, dests_of, heads, is_absent, labelled, leads, or_semicolon, parts, value}
+use Rattle.mal_print.specs.Prelude.{assignment, beside, chain, dests_of, heads, is_absent, labelled, leads, or_semicolon, parts, value}
 use Rattle.mal_print.proofs.Chained.{assignment_of, chain_is}
 use Rattle.mal_print.proofs.Each.{Each, each_chain, Stands}
 use Rattle.mal_print.proofs.Fitting.{Fits}

@@ -4,19 +4,16 @@ use Rattle.std.specs.Prelude.{◌&&◌, codes}
 use Rattle.std.specs.List.{list_all}
 use Rattle.std.proofs.lemmas.Bool.Decides.{nat_tests}
 use Rattle.std.proofs.lemmas.Bool.{and_parts}
-use Rattle.mic_base.specs.Name.{is_name_byte}
-use Rattle.source_text.specs.Spelled.{named}
+use Rattle.mic_base.specs.Prelude.{is_name_byte}
+use Rattle.source_text.specs.Prelude.{named}
 use Rattle.mal_tokens.specs.declared.word.Word.{Word}
 use Rattle.mal_tokens.specs.declared.word.Word.TheVariants as words
 use Rattle.mal_tokens.specs.declared.sign.Sign.{Sign}
 use Rattle.mal_tokens.specs.declared.sign.Sign.TheVariants as signs
 use Rattle.mal_tokens.specs.declared.token.Token.{Token}
 use Rattle.mal_tokens.specs.declared.token.Token.TheVariants as tokens
-use Rattle.mal_tokens.specs.Words.{sign_text, word_text}
-use Rattle.mal_tokens.specs.Spelled.{IsTextOf, spelled_as}
-use Rattle.mal_tokens.specs.Tokens.{IsLexeme}
-use Rattle.mal_print.specs.Printed.{is_spaced, is_spacing, printed_after, token_text}
-use Rattle.mal_print.specs.StatementText.{is_plain}
+use Rattle.mal_tokens.specs.Prelude.{sign_text, word_text, IsTextOf, spelled_as, IsLexeme}
+use Rattle.mal_print.specs.Prelude.{is_spaced, is_spacing, printed_after, token_text, is_plain}
 use Rattle.mal_print.proofs.Spelling.{AreLexemes}
 
 pub all_append : {A : Type 0} (p : A → Bool) (xs ys : List A) → list_all p xs ≡ true → list_all p ys ≡ true → list_all p (xs ++ ys) ≡ true

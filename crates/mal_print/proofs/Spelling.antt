@@ -1,17 +1,14 @@
 -- What is printed spells its tokens, where each text is its token's.
 use Rattle.std.proofs.Common.{◌≡◌, ℕ, Bool, true, false, List, [], ◌∷◌, ◌++◌, refl, ap, ◌∙◌, cond}
 use Rattle.std.specs.Prelude.{◌&&◌, ◌||◌, codes}
-use Rattle.mic_base.specs.Name.{is_name_byte}
-use Rattle.source_text.specs.Runs.{begins_with, ends_with}
-use Rattle.source_text.specs.Tokens.{AreBlank}
+use Rattle.mic_base.specs.Prelude.{is_name_byte}
+use Rattle.source_text.specs.Prelude.{begins_with, ends_with, AreBlank}
 use Rattle.mal_tokens.specs.declared.token.Token.{Token}
 use Rattle.mal_tokens.specs.declared.token.Token.TheVariants as tokens
 use Rattle.mal_tokens.specs.declared.sign.Sign.{Sign}
 use Rattle.mal_tokens.specs.declared.sign.Sign.TheVariants as signs
-use Rattle.mal_tokens.specs.Words.{sign_text}
-use Rattle.mal_tokens.specs.Spelled.{may_end, spelled_as}
-use Rattle.mal_tokens.specs.Tokens.{IsLexeme, SpellsTokens}
-use Rattle.mal_print.specs.Printed.{is_open, is_spaced, is_spacing, is_wordy, printed_after, token_text}
+use Rattle.mal_tokens.specs.Prelude.{sign_text, may_end, spelled_as, IsLexeme, SpellsTokens}
+use Rattle.mal_print.specs.Prelude.{is_open, is_spaced, is_spacing, is_wordy, printed_after, token_text}
 use Rattle.mal_print.proofs.Each.{Each}
 
 -- the text that is printed of each token spells it

@@ -7,27 +7,20 @@ use Rattle.std.specs.List.{list_all}
 use Rattle.std.proofs.lemmas.Bool.Decides.{nat_tests}
 use Rattle.mic_words.specs.declared.machine.Machine.{Machine}
 use Rattle.micro_word.specs.declared.statement.Part.{Part}
-use Rattle.micro_word.specs.Words.{is_part}
-use Rattle.mic_base.specs.Digits.{hex_text}
-use Rattle.mic_base.specs.Name.{is_name_byte}
-use Rattle.mic_base.specs.Number.{number_of}
+use Rattle.micro_word.specs.Prelude.{is_part}
+use Rattle.mic_base.specs.Prelude.{hex_text, is_name_byte, number_of}
 use Rattle.mal_tokens.specs.declared.sign.Sign.TheVariants as signs
 use Rattle.mal_tokens.specs.declared.token.Token.{Token}
 use Rattle.mal_tokens.specs.declared.token.Token.TheVariants as tokens
-use Rattle.mal_tokens.specs.Words.{IsLabelText}
-use Rattle.mal_tokens.specs.Spelled.{label_lexeme, number_lexeme, sign_lexeme, word_lexeme}
-use Rattle.mal_tokens.specs.Tokens.{IsLexeme}
+use Rattle.mal_tokens.specs.Prelude.{IsLabelText, label_lexeme, number_lexeme, sign_lexeme, word_lexeme, IsLexeme}
 use Rattle.mal_line.specs.declared.content.Parts.{Parts}
 use Rattle.mal_line.specs.declared.content.Content.{Content}
 use Rattle.mal_line.specs.declared.content.Content.TheVariants as contents
 use Rattle.mal_line.specs.declared.line.Form.TheVariants as forms
 use Rattle.mal_line.specs.declared.next.Next.{Next}
 use Rattle.mal_line.specs.declared.next.Next.TheVariants as nexts
-use Rattle.mal_line.specs.Lines.{is_foreign, names_foreign, next_by_jump, part_by, part_of, parts_by, parts_of, SpellsLine, with_access}
-use Rattle.mal_line.specs.Targets.{EachTarget}
-use Rattle.mal_print.specs.Lines.{IsLineOf}
-use Rattle.mal_print.specs.Printed.{address_of, number_text, printed, token_text}
-use Rattle.mal_print.specs.StatementText.{fallback, fix, HasLabels, is_absent, labelled, or_semicolon, parts, statement}
+use Rattle.mal_line.specs.Prelude.{is_foreign, names_foreign, next_by_jump, part_by, part_of, parts_by, parts_of, SpellsLine, with_access, EachTarget}
+use Rattle.mal_print.specs.Prelude.{IsLineOf, address_of, number_text, printed, token_text, fallback, fix, HasLabels, is_absent, labelled, or_semicolon, parts, statement}
 use Rattle.mal_print.proofs.Chained.{absent_bare}
 use Rattle.mal_print.proofs.Each.{Each, each_lone, each_parts, Stands}
 use Rattle.mal_print.proofs.Fitting.{Fits, part_fits}

@@ -23,13 +23,11 @@ use Rattle.mal_tokens.specs.declared.sign.Sign.{Sign}
 use Rattle.mal_tokens.specs.declared.sign.Sign.TheVariants as signs
 use Rattle.mal_tokens.specs.declared.token.Token.{Token}
 use Rattle.mal_tokens.specs.declared.token.Token.TheVariants as tokens
-use Rattle.mal_tokens.specs.Words.{sign_text, word_text}
+use Rattle.mal_tokens.specs.Prelude.{sign_text, word_text}
 use Rattle.mal_line.specs.declared.next.Next.{Next}
 use Rattle.mal_line.specs.declared.next.Next.TheVariants as nexts
-use Rattle.mal_line.specs.Expressions.{minus, one_token, plus, side, source_word, spelling, tail_with}
-use Rattle.mal_line.specs.Chains.{dest_tokens, tail_tokens}
-use Rattle.mal_print.specs.Printed.{address_of, number_width, token_width, width}
-use Rattle.mal_print.specs.StatementText.{all_dests, assignment, beside, chain, dests_of, fetches, has_dest, heads, is_absent, leads, memory, or_semicolon, parts, tested, value}
+use Rattle.mal_line.specs.Prelude.{minus, one_token, plus, side, source_word, spelling, tail_with, dest_tokens, tail_tokens}
+use Rattle.mal_print.specs.Prelude.{address_of, number_width, token_width, width, all_dests, assignment, beside, chain, dests_of, fetches, has_dest, heads, is_absent, leads, memory, or_semicolon, parts, tested, value}
 
 -- ---- numbers and other tokens
 

@@ -1,3 +1,4 @@
 pub mod Printed
 pub mod StatementText
 pub mod Lines
+pub mod Prelude

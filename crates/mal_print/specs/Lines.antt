@@ -2,9 +2,9 @@
 use Rattle.std.specs.Prelude.{◌≡◌, ℕ, true, List, ◌<◌, Option, IfSome, IsTrue, pos}
 use Rattle.std.specs.List.{list_all}
 use Rattle.mic_words.specs.declared.machine.Machine.{Machine}
-use Rattle.micro_word.specs.Words.{is_part}
+use Rattle.micro_word.specs.Prelude.{is_part}
 use Rattle.mal_tokens.specs.declared.token.Token.{Token}
-use Rattle.mal_tokens.specs.Words.{IsLabelText}
+use Rattle.mal_tokens.specs.Prelude.{IsLabelText}
 use Rattle.mal_tokens.specs.Tokens as tokens
 use Rattle.mal_line.specs.declared.content.Parts.{Parts}
 use Rattle.mal_line.specs.declared.content.Content.{Content}

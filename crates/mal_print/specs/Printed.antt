@@ -1,11 +1,11 @@
 -- Tokens printed one after the other, and the spaces between them.
 use Rattle.std.specs.Prelude.{ℕ, ℤ, pos, negsuc, ◌+◌, ◌||◌, ◌&&◌, Bool, true, false, List, [], ◌∷◌, ◌++◌, Option, Some, None, codes, length, if◌then◌else◌, nat_lt}
 use Rattle.std.specs.Fmt.{signed_decimal}
-use Rattle.mic_base.specs.Digits.{hex_text}
+use Rattle.mic_base.specs.Prelude.{hex_text}
 use Rattle.mal_tokens.specs.declared.sign.Sign.TheVariants as signs
 use Rattle.mal_tokens.specs.declared.token.Token.{Token}
 use Rattle.mal_tokens.specs.declared.token.Token.TheVariants as tokens
-use Rattle.mal_tokens.specs.Words.{sign_text, word_text}
+use Rattle.mal_tokens.specs.Prelude.{sign_text, word_text}
 
 -- a word, a name, a number or a dotted word
 abbrev pub is_wordy : Token → Bool

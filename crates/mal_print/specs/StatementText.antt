@@ -11,7 +11,7 @@ use Rattle.micro_word.specs.declared.statement.Mem.{Mem}
 use Rattle.micro_word.specs.declared.statement.Mem.TheVariants as mems
 use Rattle.micro_word.specs.declared.statement.Test.TheVariants as tests
 use Rattle.micro_word.specs.declared.statement.Part.{Part}
-use Rattle.mal_tokens.specs.Words.{IsLabelText}
+use Rattle.mal_tokens.specs.Prelude.{IsLabelText}
 use Rattle.mal_tokens.specs.declared.word.Word.{Word}
 use Rattle.mal_tokens.specs.declared.word.Word.TheVariants as words
 use Rattle.mal_tokens.specs.declared.sign.Sign.TheVariants as signs
@@ -19,10 +19,7 @@ use Rattle.mal_tokens.specs.declared.token.Token.{Token}
 use Rattle.mal_tokens.specs.declared.token.Token.TheVariants as tokens
 use Rattle.mal_line.specs.declared.next.Next.{Next}
 use Rattle.mal_line.specs.declared.next.Next.TheVariants as nexts
-use Rattle.mal_line.specs.Expressions.{side, spelling, tail_with}
-use Rattle.mal_line.specs.Chains.{bit, dest_tokens, tail_tokens}
-use Rattle.mal_line.specs.Statements.{test_word}
-use Rattle.mal_line.specs.Targets.{by_targets, EachTarget}
+use Rattle.mal_line.specs.Prelude.{side, spelling, tail_with, bit, dest_tokens, tail_tokens, test_word, by_targets, EachTarget}
 
 -- those of these that are there
 abbrev pub present : List (Option Token) → List Token

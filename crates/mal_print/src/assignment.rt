@@ -3,8 +3,7 @@
 ghost use Rattle.std.specs.Prelude.{◌≡◌, ◌≤◌, ◌+◌, ◌*◌, ◌++◌, ◌∷◌, [], length, option_to_list};
 ghost use Rattle.mal_tokens.specs.declared.token.Token.{Token};
 ghost use Rattle.mal_tokens.specs.declared.sign.Sign.{Sign};
-ghost use Rattle.mal_line.specs.Expressions.{side, source_word, spelling, tail_with};
-ghost use Rattle.mal_line.specs.Chains.{dest_tokens, tail_tokens};
+ghost use Rattle.mal_line.specs.Prelude.{side, source_word, spelling, tail_with, dest_tokens, tail_tokens};
 ghost use Rattle.mal_print.specs.StatementText.{assignment, dests_among, dests_of, has_dest, heads, is_absent, is_idle, is_nothing, present, tested};
 
 use crate::token_list::{Tokens, add};

@@ -2,7 +2,7 @@
 
 ghost use Rattle.std.specs.Prelude.{◌≡◌, ◌≤◌, ◌+◌, length, option_to_list};
 ghost use Rattle.mal_tokens.specs.declared.token.Token.{Token};
-ghost use Rattle.mal_line.specs.Statements.{test_word};
+ghost use Rattle.mal_line.specs.Prelude.{test_word};
 ghost use Rattle.mal_print.specs.Printed.{width};
 ghost use Rattle.mal_print.specs.StatementText.{beside, byte_word, fetches, leads, memory, parts};
 

@@ -8,14 +8,12 @@ use Rattle.mic_words.specs.declared.machine.Machine.TheVariants.{Mic1, Mic2}
 use Rattle.mal_parser.specs.declared.statement.Statement.{Statement}
 use Rattle.mal_parser.specs.declared.error.MalError.{MalError}
 use Rattle.mal_parser.specs.declared.error.MalError.TheVariants.{OutOfMemory}
-use Rattle.mal_parser.specs.ProgramText.{canonical_text, on_line, on_lines, relined}
-use Rattle.mal_parser.specs.Text.{SpellsProgram}
-use Rattle.mal_parser.specs.Program.{IsMalProgram, MalView}
+use Rattle.mal_parser.specs.Prelude.{canonical_text, on_line, on_lines, relined, SpellsProgram, IsMalProgram, MalView}
 use Rattle.micro_word.specs.declared.statement.Placed.{Placed}
-use Rattle.store_placement.specs.Program.{demands_of, placed_default, Decodes, IsFilled}
+use Rattle.store_placement.specs.Prelude.{demands_of, placed_default, Decodes, IsFilled}
 use Rattle.mal_shipped.proofs.Valid.{valid}
 use Rattle.mal_shipped.proofs.Texts.{canonical}
-use Rattle.mal_shipped.specs.Listing.{listed_program, text_of, unlined, without_line, program1, rows1, program2, rows2}
+use Rattle.mal_shipped.specs.Prelude.{listed_program, text_of, unlined, without_line, program1, rows1, program2, rows2}
 
 pub one_more : (ss : List Statement) (k : ℕ) (s : Statement) → slice_get ss k ≡ Some s →
     map without_line (take k ss) ++ without_line s ∷ [] ≡ map without_line (take (k + 1) ss)

@@ -6,15 +6,15 @@ use Rattle.std.specs.Str.{bytes_eq}
 use Rattle.std.proofs.lemmas.Bool.{ltb-true, and_parts, not-true, or_right}
 use Rattle.std.proofs.lemmas.Slice.Eq.{bytes_eq-Decides}
 use Rattle.mic_words.specs.declared.machine.Machine.{Machine}
-use Rattle.micro_word.specs.Words.{is_part}
-use Rattle.mic_base.specs.Name.{is_name}
-use Rattle.mal_tokens.specs.Words.{is_reserved, IsLabelText}
+use Rattle.micro_word.specs.Prelude.{is_part}
+use Rattle.mic_base.specs.Prelude.{is_name}
+use Rattle.mal_tokens.specs.Prelude.{is_reserved, IsLabelText}
 use Rattle.mal_line.specs.declared.next.Next.{Next}
 use Rattle.mal_line.specs.declared.next.Next.TheVariants as nexts
 use Rattle.mal_parser.specs.declared.statement.Statement.{Statement}
-use Rattle.mal_parser.specs.Program.{MalView, label_at, HasTargets, IsStatement, IsMalProgram}
+use Rattle.mal_parser.specs.Prelude.{MalView, label_at, HasTargets, IsStatement, IsMalProgram}
 use Rattle.mic_words.specs.declared.machine.Machine.TheVariants.{Mic1, Mic2}
-use Rattle.mal_shipped.specs.Listing.{listed_program, program1, rows1, program2, rows2}
+use Rattle.mal_shipped.specs.Prelude.{listed_program, program1, rows1, program2, rows2}
 
 -- ---- each statement may stand where it stands
 

@@ -5,13 +5,11 @@ use Rattle.std.proofs.lemmas.Bool.{eqb-false, eqb-true}
 use Rattle.mic_words.specs.declared.machine.Machine.{Machine}
 use Rattle.mic_words.specs.declared.machine.Machine.TheVariants.{Mic1, Mic2}
 use Rattle.micro_word.specs.declared.statement.Placed.{Placed}
-use Rattle.micro_word.specs.Words.{is_valid}
-use Rattle.micro_word.specs.Coding.{microword_of, statement_of}
+use Rattle.micro_word.specs.Prelude.{is_valid, microword_of, statement_of}
 use Rattle.mal_parser.specs.declared.statement.Statement.{Statement}
-use Rattle.mal_parser.specs.Program.{MalView}
-use Rattle.store_placement.specs.Program.{placed_statement, placed_default, IsFilled, Decodes}
-use Rattle.mal_shipped.specs.Listing.{ListingRow, listed_program, addresses_of, program1, rows1, program2, rows2}
-use Rattle.mal_shipped.specs.Shipped.{shipped, HasShipped}
+use Rattle.mal_parser.specs.Prelude.{MalView}
+use Rattle.store_placement.specs.Prelude.{placed_statement, placed_default, IsFilled, Decodes}
+use Rattle.mal_shipped.specs.Prelude.{ListingRow, listed_program, addresses_of, program1, rows1, program2, rows2, shipped, HasShipped}
 
 -- the statement at an address among these rows, the first of which has this number; else what unused words hold
 abbrev statement_among : Placed → (ℕ → ℕ) → ℕ → List ListingRow → ℕ → Placed

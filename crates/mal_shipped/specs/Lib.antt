@@ -1,3 +1,4 @@
 pub mod Listing
 pub mod Loaded
 pub mod Shipped
+pub mod Prelude

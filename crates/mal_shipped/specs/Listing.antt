@@ -19,7 +19,7 @@ use Rattle.micro_word.specs.declared.statement.PlacedNext.TheVariants as to
 use Rattle.mal_line.specs.declared.next.Next.{Next}
 use Rattle.mal_line.specs.declared.next.Next.TheVariants as nexts
 use Rattle.mal_parser.specs.declared.statement.Statement.{Statement}
-use Rattle.mal_parser.specs.Program.{MalView}
+use Rattle.mal_parser.specs.Prelude.{MalView}
 use Rattle.mal_shipped.specs.declared.mic1.TheConstants.{MIC1}
 use Rattle.mal_shipped.specs.declared.mic2.TheConstants.{MIC2}
 

@@ -1,9 +1,8 @@
 -- A microprogram in the control store: each statement at its chosen address.
 use Rattle.std.specs.Prelude.{◌≡◌, slice_index, ℕ, List}
 use Rattle.mic_words.specs.declared.machine.Machine.{Machine}
-use Rattle.mal_parser.specs.Program.{MalView}
-use Rattle.store_placement.specs.Chosen.{IsChosenList}
-use Rattle.store_placement.specs.Program.{demands_of, IsFilled}
+use Rattle.mal_parser.specs.Prelude.{MalView}
+use Rattle.store_placement.specs.Prelude.{IsChosenList, demands_of, IsFilled}
 use Rattle.mal_shipped.specs.declared.loaded.Loaded.{Loaded}
 use Rattle.mal_shipped.specs.Listing.{listed_program}
 

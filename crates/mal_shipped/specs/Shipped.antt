@@ -3,8 +3,8 @@ use Rattle.std.specs.Prelude.{◌≡◌, ℕ, ◌<◌, ◌==◌, true, false, Li
 use Rattle.mic_words.specs.declared.machine.Machine.{Machine}
 use Rattle.mic_words.specs.declared.machine.Machine.TheVariants.{Mic1, Mic2}
 use Rattle.micro_word.specs.declared.statement.Placed.{Placed}
-use Rattle.micro_word.specs.Coding.{statement_of}
-use Rattle.store_placement.specs.Program.{goto_end}
+use Rattle.micro_word.specs.Prelude.{statement_of}
+use Rattle.store_placement.specs.Prelude.{goto_end}
 use Rattle.mal_shipped.specs.Listing.{ListingRow, table1, table2}
 
 abbrev pub table_of : Machine → List ListingRow

@@ -2,7 +2,7 @@
 
 ghost use Rattle.std.specs.Prelude.{◌≡◌, ℕ, List};
 ghost use Rattle.mic_words.specs.declared.machine.Machine.{Machine};
-ghost use Rattle.mal_parser.specs.ProgramText.{canonical_text};
+ghost use Rattle.mal_parser.specs.Prelude.{canonical_text};
 ghost use Rattle.mal_shipped.specs.declared.loaded.Loaded.{Loaded};
 ghost use Rattle.mal_shipped.specs.Listing.{listed_program, addresses_of, text_of};
 ghost use Rattle.mal_shipped.specs.Loaded.{AreChosenFor, IsLoadedFor};

@@ -1,9 +1,7 @@
 //! A microprogram in the control store.
 
 ghost use Rattle.std.specs.Prelude.{◌≡◌, ◌↔◌, IsOk, IfOk, Err};
-ghost use Rattle.store_placement.specs.Placement.{HasPlacement};
-ghost use Rattle.store_placement.specs.Program.{demands_of};
-ghost use Rattle.store_placement.specs.Refusals.{Refuses};
+ghost use Rattle.store_placement.specs.Prelude.{HasPlacement, demands_of, Refuses};
 ghost use Rattle.mal_shipped.specs.Loaded.{IsLoaded};
 ghost use Rattle.mal_shipped.specs.Shipped.{HasShipped};
 

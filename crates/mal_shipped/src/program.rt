@@ -1,8 +1,7 @@
 //! The shipped microprograms as programs.
 
 ghost use Rattle.std.specs.Prelude.{◌≡◌, IfOk, option_map};
-ghost use Rattle.mal_parser.specs.ProgramText.{relined};
-ghost use Rattle.mal_parser.specs.Program.{IsMalProgram};
+ghost use Rattle.mal_parser.specs.Prelude.{relined, IsMalProgram};
 ghost use Rattle.mal_shipped.specs.Listing.{listed_program, text_of, unlined, without_line};
 
 use crate::mic1::MIC1;

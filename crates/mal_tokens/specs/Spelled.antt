@@ -6,15 +6,9 @@ use Rattle.std.proofs.lemmas.Slice.Eq.{bytes_eq-Decides}
 use Rattle.std.proofs.lemmas.Bool.{and_parts, and_right, or_cases}
 use Rattle.std.specs.List.{list_all}
 use Rattle.std.specs.Str.{bytes_eq}
-use Rattle.mic_base.specs.Name.{begins_digit, is_name_byte}
-use Rattle.mic_base.specs.Number.{number_of}
+use Rattle.mic_base.specs.Prelude.{begins_digit, is_name_byte, number_of}
 use Rattle.mic_base.specs.declared.number.NumberError.{NumberError}
-use Rattle.source_text.specs.Options.{find_passes}
-use Rattle.source_text.specs.Fronts.{ends_all}
-use Rattle.source_text.specs.Runs.{begins_with, ends_with}
-use Rattle.source_text.specs.Spelled.{ByTable, by_table, name_dark, named, not_of_name}
-use Rattle.source_text.specs.Table.{GoesOn, begins_number, front_of, token_of}
-use Rattle.source_text.specs.Tokens.{EndsLexeme}
+use Rattle.source_text.specs.Prelude.{find_passes, ends_all, begins_with, ends_with, ByTable, by_table, name_dark, named, not_of_name, GoesOn, begins_number, front_of, token_of, EndsLexeme}
 use Rattle.mal_tokens.specs.declared.word.Word.{Word}
 use Rattle.mal_tokens.specs.declared.word.Word.TheVariants as words
 use Rattle.mal_tokens.specs.declared.sign.Sign.{Sign}

@@ -1,10 +1,9 @@
 -- Which tokens a line of the microassembly language spells.
 use Rattle.std.specs.Prelude.{ℕ, ℤ, false, List, Option, Some, None, Result, Ok, Err, option_map}
-use Rattle.mic_base.specs.Name.{is_name_byte}
-use Rattle.mic_base.specs.Number.{number_of}
+use Rattle.mic_base.specs.Prelude.{is_name_byte, number_of}
 use Rattle.mic_base.specs.declared.number.NumberError.{NumberError}
 use Rattle.source_text.specs.Reading as reading
-use Rattle.source_text.specs.Table.{Table}
+use Rattle.source_text.specs.Prelude.{Table}
 use Rattle.source_text.specs.Tokens as source
 use Rattle.mal_tokens.specs.declared.word.Word.{Word}
 use Rattle.mal_tokens.specs.declared.sign.Sign.{Sign}

@@ -1,7 +1,7 @@
 -- The reserved words, the signs and the dotted words, and how each is spelled.
 use Rattle.std.specs.Prelude.{◌≡◌, ℕ, Bool, true, false, List, [], ◌∷◌, Option, codes, find, is_some}
 use Rattle.std.specs.Str.{bytes_eq}
-use Rattle.mic_base.specs.Name.{is_name}
+use Rattle.mic_base.specs.Prelude.{is_name}
 use Rattle.mal_tokens.specs.declared.word.Word.{Word}
 use Rattle.mal_tokens.specs.declared.word.Word.TheVariants as words
 use Rattle.mal_tokens.specs.declared.sign.Sign.{Sign}

@@ -4,9 +4,7 @@ use Rattle.std.proofs.lemmas.Grind.{common_steps}
 use Rattle.std.proofs.lemmas.Bool.{cases_eq}
 use Rattle.std.proofs.lemmas.List.{get_or-set_same, get_or-set_other, length-set, get_or-replicate}
 use Rattle.std.proofs.Math.ListN.{set}
-use Rattle.mem_cache.specs.Accesses.{Access, asks_for, with_block, blocks_of, is_block, last_on, is_hit, hits_after, misses_after}
-use Rattle.mem_cache.specs.Tally.{Tally, has_block, after_hit, after_miss, after_asking, empty_tally}
-use Rattle.mem_cache.specs.View.{CacheView, AllLead, answered}
+use Rattle.mem_cache.specs.Prelude.{Access, asks_for, with_block, blocks_of, is_block, last_on, is_hit, hits_after, misses_after, Tally, has_block, after_hit, after_miss, after_asking, empty_tally, CacheView, AllLead, answered}
 
 -- an entry that `is_block` accepts holds this block
 is_block_then : (o : Option ℕ) (block : ℕ) → is_block block o ≡ true → o ≡ Some block

@@ -7,9 +7,7 @@ use Rattle.std.proofs.Math.ListN.{set}
 use Rattle.std.proofs.Math.Seq.{map-set_same}
 use Rattle.mem_cache.specs.declared.lines.CacheLine.{CacheLine}
 use Rattle.mem_cache.specs.declared.counts.CacheCounts.{CacheCounts}
-use Rattle.mem_cache.specs.Accesses.{is_block, Read}
-use Rattle.mem_cache.specs.Tally.{Tally, has_block, after_hit, after_miss, after_asking, counted}
-use Rattle.mem_cache.specs.Lines.{AreLines, HasWords, block_in}
+use Rattle.mem_cache.specs.Prelude.{is_block, Read, Tally, has_block, after_hit, after_miss, after_asking, counted, AreLines, HasWords, block_in}
 
 true_not_false : true ≡ false → ⊥
 true_not_false e = cc

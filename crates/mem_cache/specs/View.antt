@@ -1,6 +1,6 @@
 -- What contracts see of a cached bus, and what calls of it come to, one after the other.
 use Rattle.std.specs.Prelude.{◌≡◌, ℕ, ◌<◌, List, [], ◌∷◌, length, Option, Some, None}
-use Rattle.console_port.specs.View.{BusView}
+use Rattle.console_port.specs.Prelude.{BusView}
 use Rattle.mem_cache.specs.Accesses.{Access, hits_of, misses_of}
 use Rattle.mem_cache.specs.Tally.{Tally, counted, empty_tally}
 

@@ -1,11 +1,7 @@
 //! A bus behind a direct-mapped cache.
 
 ghost use Rattle.std.specs.Prelude.{◌==◌, ◌≡◌, ◌≢◌, ◌≤◌, ◌<◌, ◌%◌, ◌^◌, ℕ, List, Option, Some, None, Ok, Err, true, [], length, slice_index, slice_set, slice_get, map, nat_lt, IsOk, IsSome, IfOk, OnOk, OnErr, IfErr};
-ghost use Rattle.console_port.specs.Access.{IsAccess, IsByMap};
-ghost use Rattle.console_port.specs.Bus.{ChangesOnly, FailsAsRefused, Shows, Stands, IsLed, IsRead, refused_by};
-ghost use Rattle.console_port.specs.Console.{HasFaultCause, IsFault, most_kept};
-ghost use Rattle.console_port.specs.Streams.{SinkGoesOn};
-ghost use Rattle.console_port.specs.World.{World, after_write, byte_in, console_at, fetch_refusal, read_refusal, write_refusal};
+ghost use Rattle.console_port.specs.Prelude.{IsAccess, IsByMap, ChangesOnly, FailsAsRefused, Shows, Stands, IsLed, IsRead, refused_by, HasFaultCause, IsFault, most_kept, SinkGoesOn, World, after_write, byte_in, console_at, fetch_refusal, read_refusal, write_refusal};
 ghost use Rattle.mem_cache.specs.Accesses.{Access};
 ghost use Rattle.mem_cache.specs.Tally.{empty_tally};
 ghost use Rattle.mem_cache.specs.View.{Counts};

@@ -5,11 +5,10 @@ use Rattle.ijvm_program.specs.declared.line.CodeLine.{CodeLine}
 use Rattle.ijvm_program.specs.declared.line.Jump.TheVariants.{IfIcmpeq, Goto}
 use Rattle.ijvm_program.specs.declared.line.Operation.{Operation}
 use Rattle.ijvm_program.specs.declared.line.Operation.TheVariants.{Plain, Constant, Call, To}
-use Rattle.ijvm_program.specs.Program.{ProgramView}
-use Rattle.ijvm_instr.specs.Jumps.{first_far}
-use Rattle.ijvm_text.specs.Layout.{pool_of, text_of}
-use Rattle.ijvm_text.specs.Bytes.{code_bytes}
-use Rattle.method_linker.specs.Linked.{layout_of, unit_code}
+use Rattle.ijvm_program.specs.Prelude.{ProgramView}
+use Rattle.ijvm_instr.specs.Prelude.{first_far}
+use Rattle.ijvm_text.specs.Prelude.{pool_of, text_of, code_bytes}
+use Rattle.method_linker.specs.Prelude.{layout_of, unit_code}
 
 abbrev at_line : ℕ → Operation → CodeLine
 at_line line operation = record { line = line; operation = operation }

@@ -6,8 +6,8 @@ use Rattle.std.proofs.lemmas.Int.{ints}
 use Rattle.std.proofs.lemmas.List.FromFn.{map-range_with_len_more, length-map-range_with_len, get_or-map-range_with_len}
 use Rattle.std.proofs.lemmas.List.Sums.{sum_by-take-le, sum_by_more}
 use Rattle.ijvm_program.specs.declared.line.CodeLine.{CodeLine}
-use Rattle.ijvm_program.specs.Layout.{line_size, line_address}
-use Rattle.method_linker.specs.Steps.{line_places}
+use Rattle.ijvm_program.specs.Prelude.{line_size, line_address}
+use Rattle.method_linker.specs.Prelude.{line_places}
 
 -- one more place, after the places so far
 pub places_more : (lines : List CodeLine) (n place : ℕ) (places more : List ℕ) → places ≡ map (line_address lines) (range_with_len 0 n) →

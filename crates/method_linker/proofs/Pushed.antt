@@ -6,15 +6,10 @@ use Rattle.std.proofs.lemmas.List.FromFn.{length-enumerate_from, get_or-enumerat
 use Rattle.ijvm_instr.specs.declared.instr.Instr.{Instr}
 use Rattle.ijvm_text.specs.declared.text.Text.{Text}
 use Rattle.ijvm_text.specs.declared.units.Units.{Units}
-use Rattle.ijvm_text.specs.Adds.{Adds}
-use Rattle.ijvm_text.specs.Adding.{joined, no_code, then}
-use Rattle.ijvm_text.specs.Bytes.{code_bytes}
-use Rattle.ijvm_text.specs.Parts.{AddsPart, AddsParts, AreUnits, no_parts, part_then, whole}
+use Rattle.ijvm_text.specs.Prelude.{Adds, joined, no_code, then, code_bytes, AddsPart, AddsParts, AreUnits, no_parts, part_then, whole}
 use Rattle.ijvm_program.specs.declared.line.CodeLine.{CodeLine}
-use Rattle.ijvm_program.specs.Program.{ProgramView}
-use Rattle.ijvm_program.specs.Unit.{UnitView}
-use Rattle.method_linker.specs.Linked.{distance, layout_of, line_instr, line_jumps, method_part, unit_code, unit_jumps}
-use Rattle.method_linker.specs.Steps.{AddsLine, AddsLines, AddsUnit}
+use Rattle.ijvm_program.specs.Prelude.{ProgramView, UnitView}
+use Rattle.method_linker.specs.Prelude.{distance, layout_of, line_instr, line_jumps, method_part, unit_code, unit_jumps, AddsLine, AddsLines, AddsUnit}
 
 -- ---- lines
 

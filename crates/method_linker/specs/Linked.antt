@@ -3,17 +3,13 @@
 use Rattle.std.specs.Prelude.{ℕ, ◌+◌, ℤ, pos, ◌-ℤ◌, List, [], ◌∷◌, ◌++◌, length, map}
 use Rattle.std.specs.List.{flat_map, enumerate_from}
 use Rattle.ijvm_instr.specs.declared.instr.Instr.{Instr}
-use Rattle.ijvm_instr.specs.Jumps.{Jump}
-use Rattle.ijvm_image.specs.Header.{header}
-use Rattle.ijvm_image.specs.Image.{ImageView}
-use Rattle.ijvm_text.specs.Bytes.{code_bytes}
-use Rattle.ijvm_text.specs.Layout.{ExceedsJump, ExceedsPool, ExceedsText, IsImageOf, Layout, Part, begins}
+use Rattle.ijvm_instr.specs.Prelude.{Jump}
+use Rattle.ijvm_image.specs.Prelude.{header, ImageView}
+use Rattle.ijvm_text.specs.Prelude.{code_bytes, ExceedsJump, ExceedsPool, ExceedsText, IsImageOf, Layout, Part, begins}
 use Rattle.ijvm_program.specs.declared.line.CodeLine.{CodeLine}
 use Rattle.ijvm_program.specs.declared.line.Operation.{Operation}
 use Rattle.ijvm_program.specs.declared.line.Operation.TheVariants.{Plain, Constant, Call, To}
-use Rattle.ijvm_program.specs.Layout.{instr_of, line_address}
-use Rattle.ijvm_program.specs.Unit.{UnitView}
-use Rattle.ijvm_program.specs.Program.{ProgramView}
+use Rattle.ijvm_program.specs.Prelude.{instr_of, line_address, UnitView, ProgramView}
 use Rattle.method_linker.specs.declared.error.LinkError.{LinkError}
 use Rattle.method_linker.specs.declared.error.LinkError.TheVariants.{PoolTooLong, TextTooLong, JumpTooFar, OutOfMemory}
 

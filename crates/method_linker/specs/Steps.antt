@@ -2,13 +2,11 @@
 use Rattle.std.specs.Prelude.{ℕ, ◌+◌, ◌<◌, ◌≤◌, ℤ, List, [], ◌∷◌, length, map, All}
 use Rattle.std.specs.List.{range_with_len, flat_map}
 use Rattle.ijvm_text.specs.declared.text.Text.{Text}
-use Rattle.ijvm_text.specs.Adds.{Adds}
-use Rattle.ijvm_text.specs.Bytes.{code_bytes}
+use Rattle.ijvm_text.specs.Prelude.{Adds, code_bytes}
 use Rattle.ijvm_program.specs.declared.line.CodeLine.{CodeLine}
 use Rattle.ijvm_program.specs.declared.line.Operation.{Operation}
 use Rattle.ijvm_program.specs.declared.line.Operation.TheVariants.{Plain, Constant, Call, To}
-use Rattle.ijvm_program.specs.Layout.{instr_of, line_address}
-use Rattle.ijvm_program.specs.Unit.{UnitView}
+use Rattle.ijvm_program.specs.Prelude.{instr_of, line_address, UnitView}
 use Rattle.method_linker.specs.Linked.{jumps_at, line_instr, line_jumps, unit_code, unit_jumps}
 
 -- the places of a unit's lines

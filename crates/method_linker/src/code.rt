@@ -1,7 +1,7 @@
 //! The code of a unit.
 
 ghost use Rattle.std.specs.Prelude.{◌≡◌, ◌<◌, ◌^◌, length, All, IfOk, OnOk, sum_by};
-ghost use Rattle.ijvm_program.specs.Layout.{line_size};
+ghost use Rattle.ijvm_program.specs.Prelude.{line_size};
 ghost use Rattle.method_linker.specs.Steps.{line_places, HasIndex, IsLinkable, AddsLine, AddsUnit};
 
 use crate::distance::distance;

@@ -1,7 +1,7 @@
 //! How far lines jump.
 
 ghost use Rattle.std.specs.Prelude.{◌≡◌, ◌<◌, ◌^◌, length, sum_by};
-ghost use Rattle.ijvm_program.specs.Layout.{line_size};
+ghost use Rattle.ijvm_program.specs.Prelude.{line_size};
 ghost use Rattle.method_linker.specs.Linked.{distance};
 ghost use Rattle.method_linker.specs.Steps.{line_places, HasTarget};
 

@@ -1,7 +1,7 @@
 //! The image of a program.
 
 ghost use Rattle.std.specs.Prelude.{◌≡◌, ◌≤◌, IfOk, IfErr};
-ghost use Rattle.ijvm_text.specs.Parts.{AreUnits};
+ghost use Rattle.ijvm_text.specs.Prelude.{AreUnits};
 ghost use Rattle.method_linker.specs.Linked.{layout_of, pool_size, IsLinked, IsRefused};
 
 use crate::code::push_code;

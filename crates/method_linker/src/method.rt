@@ -1,8 +1,7 @@
 //! Methods: a header and code.
 
 ghost use Rattle.std.specs.Prelude.{◌≤◌, ◌+◌, [], length, map, All, OnOk};
-ghost use Rattle.ijvm_text.specs.Adds.{Adds};
-ghost use Rattle.ijvm_text.specs.Parts.{AddsPart, AddsParts};
+ghost use Rattle.ijvm_text.specs.Prelude.{Adds, AddsPart, AddsParts};
 ghost use Rattle.method_linker.specs.Linked.{header_of, method_bytes, method_part, unit_jumps};
 ghost use Rattle.method_linker.specs.Steps.{IsLinkableUnit};
 

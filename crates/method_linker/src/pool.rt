@@ -1,7 +1,7 @@
 //! The constant pool of a linked program: its constants, then the entries of its methods.
 
 ghost use Rattle.std.specs.Prelude.{◌≡◌, length, IfOk};
-ghost use Rattle.ijvm_text.specs.Layout.{pool_of};
+ghost use Rattle.ijvm_text.specs.Prelude.{pool_of};
 ghost use Rattle.method_linker.specs.Linked.{entries_of, layout_of, pool_size};
 
 use ijvm_program::Program;

@@ -2,7 +2,7 @@
 use Rattle.std.proofs.Common.{◌≡◌, ℕ, zero, suc, ◌+◌, ◌*◌, ◌/◌, ◌%◌, ◌^◌, ◌<◌, refl, sym, ap, ◌∙◌, arith}
 use Rattle.std.specs.Int.{bit_at}
 use Rattle.std.proofs.lemmas.Nat.Bits.{bit_at_lowest, bit_at-suc, bit_at-lt, bit_at_cat_low, same_from_bits_below}
-use Rattle.mic_words.specs.Arithmetic.{wrap}
+use Rattle.mic_words.specs.Prelude.{wrap}
 
 -- the carry into bit i of a sum of two numbers and a first carry
 abbrev pub ripple : ℕ → ℕ → ℕ → ℕ → ℕ

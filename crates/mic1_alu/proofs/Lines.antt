@@ -2,7 +2,7 @@
 use Rattle.std.proofs.Common.{◌≡◌, ℕ, ◌%◌, ◌^◌, ◌<◌, Bool, true, false, ◌∙◌, arith}
 use Rattle.std.specs.Int.Bits.{bit_and}
 use Rattle.std.proofs.lemmas.Nat.{and_mask}
-use Rattle.mic1_alu.specs.Gates.{enabled}
+use Rattle.mic1_alu.specs.Prelude.{enabled}
 
 -- what a line lets through
 pub through : (on : Bool) (x : ℕ) → x < 2 ^ 32 → bit_and x (enabled on 4294967295) ≡ enabled on x

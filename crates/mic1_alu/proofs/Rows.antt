@@ -2,10 +2,9 @@
 use Rattle.std.proofs.Common.{◌≡◌, ℕ, ◌-◌, ◌^◌, ◌<◌, refl, ◌∙◌, arith}
 use Rattle.std.specs.Int.Bits.{bit_xor, xor_zero_r, or_zero_r, xor_add_and}
 use Rattle.std.proofs.lemmas.Nat.{and_mask}
-use Rattle.mic_words.specs.Arithmetic.{wrap}
-use Rattle.micro_word.specs.Operation.{alu}
-use Rattle.mic1_alu.specs.Gates.{gates, controls_of}
-use Rattle.micro_word.specs.Coding.{row}
+use Rattle.mic_words.specs.Prelude.{wrap}
+use Rattle.micro_word.specs.Prelude.{alu, row}
+use Rattle.mic1_alu.specs.Prelude.{gates, controls_of}
 use Rattle.micro_word.specs.declared.statement.AluOp.{AluOp}
 use Rattle.micro_word.specs.declared.statement.AluOp.TheVariants as ops
 

@@ -5,7 +5,7 @@ use Rattle.std.specs.Int.Bits.{bit_and, bit_or, bit_xor}
 use Rattle.std.proofs.lemmas.Nat.{and_le_l}
 use Rattle.std.proofs.lemmas.Nat.Bits.{bit_at_and, bit_at_or, bit_at_xor, bit_at_not, bit_at-lt}
 use Rattle.mic1_alu.specs.declared.wires.Wires.{Wires}
-use Rattle.mic1_alu.specs.Slices.{gate, hands_on, left_at, right_at, slice_bit, slice_carry}
+use Rattle.mic1_alu.specs.Prelude.{gate, hands_on, left_at, right_at, slice_bit, slice_carry}
 
 -- the words of both sides
 abbrev pub left_word : Wires → ℕ → ℕ

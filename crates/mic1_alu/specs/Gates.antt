@@ -1,6 +1,6 @@
 -- The gates of the ALU (chapter 4): the word that they give for six control lines and two words.
 use Rattle.std.specs.Prelude.{ℕ, ◌+◌, ◌/◌, ◌%◌, ◌==◌, Bool, if◌then◌else◌, bit_and, bit_or, bit_xor}
-use Rattle.mic_words.specs.Arithmetic.{wrap, complement}
+use Rattle.mic_words.specs.Prelude.{wrap, complement}
 use Rattle.mic1_alu.specs.declared.controls.Controls.{Controls}
 
 -- what a side passes on

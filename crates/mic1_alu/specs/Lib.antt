@@ -1,3 +1,4 @@
 pub mod Gates
 pub mod Slices
 pub mod Rounds
+pub mod Prelude

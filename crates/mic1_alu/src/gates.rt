@@ -1,6 +1,6 @@
 //! The gates of the ALU.
 ghost use Rattle.std.specs.Prelude.{◌≡◌, ◌/◌, ◌%◌, ◌==◌};
-ghost use Rattle.mic_words.specs.Arithmetic.{is_negative};
+ghost use Rattle.mic_words.specs.Prelude.{is_negative};
 ghost use Rattle.mic1_alu.specs.Gates.{enabled, gates, controls_of};
 
 use crate::controls::Controls;

@@ -1,6 +1,6 @@
 //! The shifter after the ALU.
 ghost use Rattle.std.specs.Prelude.{◌≡◌};
-ghost use Rattle.micro_word.specs.Operation.{shifted};
+ghost use Rattle.micro_word.specs.Prelude.{shifted};
 
 use micro_word::Shift;
 

@@ -1,8 +1,7 @@
 //! The table of operations, by the gates.
 ghost use Rattle.std.specs.Prelude.{◌≡◌, ◌<◌, ◌^◌, ℕ};
 ghost use Rattle.micro_word.specs.declared.statement.AluOp.{AluOp};
-ghost use Rattle.micro_word.specs.Coding.{row};
-ghost use Rattle.micro_word.specs.Operation.{alu};
+ghost use Rattle.micro_word.specs.Prelude.{row, alu};
 ghost use Rattle.mic1_alu.specs.Gates.{gates, controls_of};
 
 /// For each row of the table of operations, the gates with that row's bits give that row's arithmetic.

@@ -8,3 +8,4 @@ pub mod Spent
 pub mod Start
 pub mod Transfer
 pub mod Words
+pub mod Prelude

@@ -7,3 +7,4 @@ pub mod Refusals
 pub mod Sites
 pub mod Symbols
 pub mod Trail
+pub mod Prelude

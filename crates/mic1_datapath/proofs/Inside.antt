@@ -1,9 +1,6 @@
 -- An edge that reaches no console.
 use Rattle.std.proofs.Common.{◌≡◌, ℕ, List, Option, refl, sym, subst}
-use Rattle.console_port.specs.World.{World}
-use Rattle.console_port.specs.View.{BusView, ConsoleView}
-use Rattle.console_port.specs.Console.{Untaken, Given}
-use Rattle.console_port.specs.Bus.{Shows, IsLed}
+use Rattle.console_port.specs.Prelude.{World, BusView, ConsoleView, Untaken, Given, Shows, IsLed}
 
 -- what leads each shown world to itself
 pub led_same : (left held : Option (List ℕ)) (bus : BusView) (leads : World → World → Type 0) →

@@ -1,14 +1,10 @@
 -- What was on the buses in a clocked cycle, by what the latches keep of it.
 use Rattle.std.proofs.Common.{◌≡◌, ℕ, Bool, if◌then◌else◌, ap, ◌∙◌}
 use Rattle.mic_words.specs.declared.machine.Machine.TheVariants as machines
-use Rattle.micro_word.specs.Coding.{statement_of}
-use Rattle.mic_clock.specs.Run.{start_buses}
+use Rattle.micro_word.specs.Prelude.{statement_of}
+use Rattle.mic_clock.specs.Prelude.{start_buses}
 use Rattle.mic_clock.specs.declared.buses.Drive.{Drive}
-use Rattle.mic1_datapath.specs.Cycle.{IsLast}
-use Rattle.mic1_datapath.specs.Micro.{Micro}
-use Rattle.mic1_datapath.specs.Mic1.{computed, driven}
-use Rattle.mic1_datapath.specs.Microstep.{source}
-use Rattle.mic1_datapath.specs.View.{buses_by}
+use Rattle.mic1_datapath.specs.Prelude.{IsLast, Micro, computed, driven, source, buses_by}
 use Rattle.mic1_datapath.specs.declared.latches.Latches.{Latches}
 
 -- the latches keep the word, and with its operands it decides what was on the buses

@@ -1,26 +1,17 @@
 -- What is asked of the bus for a statement, with its accesses, is its microstep or its refusal.
 use Rattle.std.proofs.Common.{◌≡◌, ℕ, ◌==◌, Bool, List, Option, None, Result, Ok, Err, length, sym, ap, ◌∙◌}
 use Rattle.std.specs.Prelude.{⊤, IsErrAnd}
-use Rattle.console_port.specs.World.{World, Refusal}
-use Rattle.console_port.specs.Bus.{ChangesOnly, IsLed, refused_by}
-use Rattle.console_port.specs.View.{BusView}
+use Rattle.console_port.specs.Prelude.{World, Refusal, ChangesOnly, IsLed, refused_by, BusView}
 use Rattle.console_port.specs.declared.fault.BusFault.{BusFault}
 use Rattle.mic_words.specs.declared.machine.Machine.TheVariants as machines
-use Rattle.micro_word.specs.Coding.{statement_of, mem_of}
-use Rattle.micro_word.specs.Layout.{fields_of}
-use Rattle.micro_word.specs.Operation.{shifted}
+use Rattle.micro_word.specs.Prelude.{statement_of, mem_of, fields_of, shifted}
 use Rattle.micro_word.specs.declared.statement.Mem.{Mem}
 use Rattle.micro_word.specs.declared.statement.Placed.{Placed}
-use Rattle.mic_clock.specs.Edge.{IsEdge, LetsBytesWait}
-use Rattle.mic_clock.specs.Meaning.{Outcome, Done}
-use Rattle.mic_datapath.specs.Memory.{access_refusal, word_under_way, byte_under_way, written, sampled, outcome}
-use Rattle.mic1_datapath.specs.Cycle.{ports_at}
-use Rattle.mic1_datapath.specs.Microstep.{ports_of, result_of, settled, next_micro, refusal, clock, world_after}
-use Rattle.mic_datapath.specs.Access.{AtConsole, HasAccessed, IsAccess, LetsBytesWait as LetsWait}
+use Rattle.mic_clock.specs.Prelude.{IsEdge, LetsBytesWait, Outcome, Done}
+use Rattle.mic_datapath.specs.Prelude.{access_refusal, word_under_way, byte_under_way, written, sampled, outcome, AtConsole, HasAccessed, IsAccess, Asks, answered}
+use Rattle.mic1_datapath.specs.Prelude.{ports_at, ports_of, result_of, settled, next_micro, refusal, clock, world_after, microstep, step_of_word, mic1_meaning, Micro}
+use Rattle.mic_datapath.specs.Access.{LetsBytesWait as LetsWait}
 use Rattle.mic_datapath.specs.Edges as edges
-use Rattle.mic_datapath.specs.Edges.{Asks, answered}
-use Rattle.mic1_datapath.specs.Mic1.{microstep, step_of_word, mic1_meaning}
-use Rattle.mic1_datapath.specs.Micro.{Micro}
 use Rattle.mic_datapath.specs.declared.ports.Ports.{Ports}
 
 -- what a cycle asks of the bus

@@ -1,18 +1,13 @@
 -- An edge whose accesses need no source and no sink is done.
 use Rattle.std.proofs.Common.{◌≡◌, ℕ, ◌==◌, Bool, true, Option, None, ap, length, ◌∙◌}
-use Rattle.console_port.specs.Bus.{ChangesOnly}
-use Rattle.console_port.specs.View.{BusView}
+use Rattle.console_port.specs.Prelude.{ChangesOnly, BusView}
 use Rattle.mic_words.specs.declared.machine.Machine.TheVariants as machines
-use Rattle.micro_word.specs.Coding.{statement_of, mem_of}
-use Rattle.micro_word.specs.Layout.{fields_of}
+use Rattle.micro_word.specs.Prelude.{statement_of, mem_of, fields_of}
 use Rattle.micro_word.specs.declared.lines.Lines.{Lines}
 use Rattle.micro_word.specs.declared.statement.Mem.{Mem}
-use Rattle.mic_datapath.specs.Access.{IsAccess, LeadsInside}
-use Rattle.mic_datapath.specs.Memory.{access_refusal}
+use Rattle.mic_datapath.specs.Prelude.{IsAccess, LeadsInside, access_refusal}
 use Rattle.mic_datapath.specs.declared.ports.Ports.{Ports}
-use Rattle.mic1_datapath.specs.Cycle.{IsAtEdge, IsLast, IsTried, moved_on, ports_at}
-use Rattle.mic1_datapath.specs.Latches.{AreLatches, micro_in}
-use Rattle.mic1_datapath.specs.Microstep.{settled, next_micro}
+use Rattle.mic1_datapath.specs.Prelude.{IsAtEdge, IsLast, IsTried, moved_on, ports_at, AreLatches, micro_in, settled, next_micro}
 use Rattle.mic1_datapath.specs.declared.latches.Latches.{Latches}
 use Rattle.mic1_datapath.proofs.Steps.{Asked, IsAsked, edge_done, is_asked}
 

@@ -1,14 +1,10 @@
 -- What a cycle of Mic-1 has before its edge: a word with its control lines, and what leaves the ALU and the shifter.
 -- And an edge that needs no source and no sink.
 use Rattle.std.specs.Prelude.{◌≡◌, ℕ, Bool, true, false, IsTrue, Option}
-use Rattle.console_port.specs.View.{BusView}
-use Rattle.mic_clock.specs.Edge.{IsEdgeInside}
+use Rattle.console_port.specs.Prelude.{BusView}
+use Rattle.mic_clock.specs.Prelude.{IsEdgeInside}
 use Rattle.mic_words.specs.declared.machine.Machine.TheVariants as machines
-use Rattle.micro_word.specs.Coding.{mem_of, statement_of}
-use Rattle.micro_word.specs.Layout.{fields_of}
-use Rattle.micro_word.specs.Lines.{AreLines}
-use Rattle.micro_word.specs.Operation.{shifted}
-use Rattle.micro_word.specs.Words.{is_canonical}
+use Rattle.micro_word.specs.Prelude.{mem_of, statement_of, fields_of, AreLines, shifted, is_canonical}
 use Rattle.micro_word.specs.declared.lines.Lines.{Lines}
 use Rattle.micro_word.specs.declared.statement.Mem.TheVariants as mems
 use Rattle.mic_datapath.specs.declared.ports.Ports.{Ports}

@@ -1,9 +1,8 @@
 -- What the latches of Mic-1 mean: the microstep's state.
 use Rattle.std.specs.Prelude.{◌≡◌, ℕ, ◌<◌, ◌==◌, Bool, true, false, if◌then◌else◌, List, IsTrue, Option, Some, None, slice_index}
-use Rattle.mic_words.specs.Arithmetic.{signed_byte}
+use Rattle.mic_words.specs.Prelude.{signed_byte}
 use Rattle.mic_words.specs.declared.machine.Machine.TheVariants as machines
-use Rattle.micro_word.specs.Layout.{fields_of}
-use Rattle.micro_word.specs.Words.{is_canonical}
+use Rattle.micro_word.specs.Prelude.{fields_of, is_canonical}
 use Rattle.micro_word.specs.declared.lines.TheConstants.{NOTHING}
 use Rattle.micro_word.specs.declared.statement.Mem.{Mem}
 use Rattle.micro_word.specs.declared.statement.Mem.TheVariants as mems

@@ -4,3 +4,4 @@ pub mod Mic1
 pub mod Latches
 pub mod Cycle
 pub mod View
+pub mod Prelude

@@ -1,8 +1,7 @@
 -- What contracts see of a Mic-1.
 use Rattle.std.specs.Prelude.{ℕ, false, if◌then◌else◌}
-use Rattle.mic_clock.specs.Meaning.{Phase}
-use Rattle.mic_clock.specs.Run.{Buses, start_buses}
-use Rattle.mic_datapath.specs.Stage.{phase_of}
+use Rattle.mic_clock.specs.Prelude.{Phase, Buses, start_buses}
+use Rattle.mic_datapath.specs.Prelude.{phase_of}
 use Rattle.mic1_datapath.specs.Mic1.{computed_on}
 use Rattle.mic1_datapath.specs.Micro.{Micro}
 use Rattle.mic1_datapath.specs.Latches.{micro_in}

@@ -2,10 +2,7 @@
 
 ghost use Rattle.std.specs.Prelude.{◌≡◌, IsTrue};
 ghost use Rattle.mic_words.specs.declared.machine.Machine.TheVariants.{Mic1};
-ghost use Rattle.micro_word.specs.Coding.{shift_of, statement_of};
-ghost use Rattle.micro_word.specs.Layout.{fields_of};
-ghost use Rattle.micro_word.specs.Operation.{shifted};
-ghost use Rattle.micro_word.specs.Words.{is_canonical};
+ghost use Rattle.micro_word.specs.Prelude.{shift_of, statement_of, fields_of, shifted, is_canonical};
 ghost use Rattle.mic1_datapath.specs.Cycle.{HasComputed, IsDecoded};
 ghost use Rattle.mic1_datapath.specs.Latches.{AreLatches, micro_in};
 ghost use Rattle.mic1_datapath.specs.Mic1.{computed, computed_on, driven};

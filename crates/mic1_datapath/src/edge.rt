@@ -1,10 +1,10 @@
 //! The clock edge of a cycle, after what the cycle computed.
 
 ghost use Rattle.std.specs.Prelude.{◌≡◌, ◌≢◌, true, false, OnOk, OnErr};
-ghost use Rattle.console_port.specs.Streams.{StreamsGoOn};
+ghost use Rattle.console_port.specs.Prelude.{StreamsGoOn};
 ghost use Rattle.mic_words.specs.declared.machine.Machine.TheVariants.{Mic1};
-ghost use Rattle.micro_word.specs.Layout.{fields_of};
-ghost use Rattle.mic_clock.specs.Edge.{IsEdgeOver};
+ghost use Rattle.micro_word.specs.Prelude.{fields_of};
+ghost use Rattle.mic_clock.specs.Prelude.{IsEdgeOver};
 ghost use Rattle.mic1_datapath.specs.Cycle.{IsAtEdge, IsLast, IsQuiet, IsTried, is_done};
 ghost use Rattle.mic1_datapath.specs.Latches.{AreLatches, fetches, micro_in};
 ghost use Rattle.mic1_datapath.specs.Mic1.{mic1_meaning};

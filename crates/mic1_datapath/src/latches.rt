@@ -2,12 +2,8 @@
 
 ghost use Rattle.std.specs.Prelude.{◌≡◌, ◌≢◌, ◌<◌, ℕ, IsTrue, is_some, slice_index, unwrap_or, true, false};
 ghost use Rattle.mic_words.specs.declared.machine.Machine.TheVariants.{Mic1};
-ghost use Rattle.micro_word.specs.Words.{is_canonical};
-ghost use Rattle.micro_word.specs.Coding.{mem_of, statement_of};
-ghost use Rattle.micro_word.specs.Layout.{fields_of};
-ghost use Rattle.micro_word.specs.Lines.{AreLines};
-ghost use Rattle.micro_word.specs.Operation.{shifted};
-ghost use Rattle.mic_datapath.specs.Next.{GoesTo};
+ghost use Rattle.micro_word.specs.Prelude.{is_canonical, mem_of, statement_of, fields_of, AreLines, shifted};
+ghost use Rattle.mic_datapath.specs.Prelude.{GoesTo};
 ghost use Rattle.mic_datapath.specs.Registers.{arrived as arrived_of};
 ghost use Rattle.mic1_datapath.specs.Mic1.{initial as initial_of};
 ghost use Rattle.mic1_datapath.specs.Cycle.{IsLast, moved_on, ports_at};

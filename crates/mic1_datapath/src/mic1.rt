@@ -2,9 +2,9 @@
 
 ghost use Rattle.std.specs.Prelude.{◌≡◌, refl};
 ghost use Rattle.mic_words.specs.declared.machine.Machine.TheVariants.{Mic1 as Mic1Machine};
-ghost use Rattle.micro_word.specs.Coding.{statement_of};
-ghost use Rattle.mic_clock.specs.Meaning.{Driven, AtEdge};
-ghost use Rattle.mic_datapath.specs.Stage.{phase_of};
+ghost use Rattle.micro_word.specs.Prelude.{statement_of};
+ghost use Rattle.mic_clock.specs.Prelude.{Driven, AtEdge};
+ghost use Rattle.mic_datapath.specs.Prelude.{phase_of};
 ghost use Rattle.mic1_datapath.specs.Cycle.{HasComputed, IsDecoded};
 ghost use Rattle.mic1_datapath.specs.Microstep.{source};
 ghost use Rattle.mic1_datapath.specs.Latches.{AreLatches, micro_in};
@@ -44,7 +44,7 @@ pub struct Mic1 {
 }
 
 impl Mic1 {
-    ghost use Rattle.mic_clock.specs.Meaning.{AtRest};
+    ghost use Rattle.mic_clock.specs.Prelude.{AtRest};
     ghost use Rattle.mic1_datapath.specs.Mic1.{at_zero, initial as initial_of};
     ghost use Rattle.mic1_datapath.specs.View.{micro_of, phase};
 

@@ -1,24 +1,18 @@
 -- From the reset of a Mic-1 to its first boundary.
 use Rattle.std.proofs.Common.{◌≡◌, ℕ, ◌+◌, ◌-◌, None, List, [], ◌∷◌, length, refl, arith, ap}
 use Rattle.mic_words.specs.declared.machine.Machine.TheVariants.{Mic1}
-use Rattle.mic_words.specs.Arithmetic.{next, wrap}
-use Rattle.console_port.specs.World.{World, fetch_refusal, byte_in}
-use Rattle.mic_clock.specs.Run.{MicroRun, start_run}
-use Rattle.mic1_datapath.specs.Micro.{Micro}
-use Rattle.mic1_datapath.specs.Mic1.{mic1_meaning}
-use Rattle.ijvm_meaning.specs.Cost.{timing_of}
-use Rattle.ijvm_meaning.specs.Frames.{start_of}
+use Rattle.mic_words.specs.Prelude.{next, wrap}
+use Rattle.console_port.specs.Prelude.{World, fetch_refusal, byte_in}
+use Rattle.mic_clock.specs.Prelude.{MicroRun, start_run}
+use Rattle.mic1_datapath.specs.Prelude.{Micro, mic1_meaning}
+use Rattle.ijvm_meaning.specs.Prelude.{timing_of, start_of}
 use Rattle.mic1_interpreter.proofs.Store.{HasStatements}
-use Rattle.mic1_interpreter.specs.Stands.{Stands}
+use Rattle.mic1_interpreter.specs.Prelude.{Stands}
 use Rattle.mic1_interpreter.proofs.Guided.{clocked, pass-clocked}
 use Rattle.mic1_interpreter.proofs.Boundaries.{at_boundary}
 use Rattle.mic1_interpreter.proofs.Words.{fetch_ok}
-use Rattle.ijvm_simulation.specs.Stands.{Origin}
-use Rattle.ijvm_simulation.specs.Stack.{StackLaw}
-use Rattle.ijvm_simulation.specs.Passes.{Moment}
-use Rattle.ijvm_simulation.specs.Law.{Boots, reset_moment}
-use Rattle.ijvm_simulation.specs.Verified.{Loads}
-use Rattle.verifier_facts.specs.Accepted.{VerifiedView}
+use Rattle.ijvm_simulation.specs.Prelude.{Origin, StackLaw, Moment, Boots, reset_moment, Loads}
+use Rattle.verifier_facts.specs.Prelude.{VerifiedView}
 
 first_address : next 4294967295 ≡ 0
 unfolding wrap

@@ -2,27 +2,20 @@
 use Rattle.std.proofs.Common.{◌≡◌, ℕ, ◌+◌, ◌<◌, ◌++◌, Option, Some, None, true, List, length, arith, ◌∙◌, ap, sym, subst}
 use Rattle.std.specs.Prelude.{nat_lt, ◌==◌}
 use Rattle.std.proofs.lemmas.Bool.Decides.{nat_tests}
-use Rattle.console_port.specs.World.{World, Refusal, StackLimit, byte_in, fetch_refusal}
+use Rattle.console_port.specs.Prelude.{World, Refusal, StackLimit, byte_in, fetch_refusal}
 use Rattle.micro_word.specs.declared.statement.Placed.{Placed}
-use Rattle.mic_datapath.specs.Memory.{memory_refusal, byte_refusal, first_refusal}
-use Rattle.mic_words.specs.Arithmetic.{next}
-use Rattle.ijvm_meaning.specs.Frames.{State}
-use Rattle.mic1_datapath.specs.Micro.{Micro}
-use Rattle.mic1_datapath.specs.Mic1.{mic1_meaning}
-use Rattle.mic1_datapath.specs.Microstep.{settled}
+use Rattle.mic_datapath.specs.Prelude.{memory_refusal, byte_refusal, first_refusal}
+use Rattle.mic_words.specs.Prelude.{next}
+use Rattle.ijvm_meaning.specs.Prelude.{State, timing_of, cost}
+use Rattle.mic1_datapath.specs.Prelude.{Micro, mic1_meaning, settled}
 use Rattle.mic_words.specs.declared.machine.Machine.TheVariants.{Mic1}
 use Rattle.ijvm_instr.specs.declared.instr.Instr.{Instr}
-use Rattle.ijvm_meaning.specs.Cost.{timing_of, cost}
-use Rattle.verifier_facts.specs.Accepted.{VerifiedView}
+use Rattle.verifier_facts.specs.Prelude.{VerifiedView}
 use Rattle.mic1_interpreter.proofs.Store.{shipped, HasStatements}
-use Rattle.mic1_interpreter.specs.Stands.{Stands}
+use Rattle.mic1_interpreter.specs.Prelude.{Stands}
 use Rattle.mic1_interpreter.proofs.Guided.{clocked, IsSmooth, pass-clocked, outcome_is, step-refused}
 use Rattle.mic1_interpreter.proofs.Words.{byte_kept, fetch_ok, next_is}
-use Rattle.ijvm_simulation.specs.Stands.{Origin, RegistersStand}
-use Rattle.ijvm_simulation.specs.Stack.{IsMapEnd}
-use Rattle.ijvm_simulation.specs.Passes.{Moment, is_inside, pass}
-use Rattle.ijvm_simulation.specs.Verified.{Loads, IsNext}
-use Rattle.ijvm_simulation.specs.Law.{ShowsState, HasWord, Moves, Overruns}
+use Rattle.ijvm_simulation.specs.Prelude.{Origin, RegistersStand, IsMapEnd, Moment, is_inside, pass, Loads, IsNext, ShowsState, HasWord, Moves, Overruns}
 use Rattle.ijvm_simulation.proofs.Stack.{law}
 
 -- the moment at Main1, with nothing under way

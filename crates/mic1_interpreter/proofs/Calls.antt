@@ -2,26 +2,18 @@
 use Rattle.std.proofs.Common.{◌≡◌, ℕ, ◌+◌, ◌*◌, ◌<◌, None, List, [], ◌∷◌, length, refl, arith, ◌∙◌, ap, inl, inr, add_comm, length-set}
 use Rattle.std.specs.Prelude.{bit_or}
 use Rattle.mic_words.specs.declared.machine.Machine.TheVariants.{Mic1}
-use Rattle.mic_words.specs.Arithmetic.{wrap, plus, next}
-use Rattle.console_port.specs.World.{read_value, byte_in, fetch_refusal}
+use Rattle.mic_words.specs.Prelude.{wrap, plus, next}
+use Rattle.console_port.specs.Prelude.{read_value, byte_in, fetch_refusal}
 use Rattle.ijvm_instr.specs.declared.instr.Instr.{Instr}
 use Rattle.ijvm_instr.specs.declared.instr.Instr.TheVariants.{Ireturn, Invokevirtual}
 use Rattle.ijvm_image.specs.declared.method.Method.{Method}
-use Rattle.ijvm_meaning.specs.Frames.{State}
-use Rattle.ijvm_meaning.specs.Cost.{timing_of, cost}
-use Rattle.verifier_facts.specs.Accepted.{VerifiedView}
-use Rattle.mic1_datapath.specs.Micro.{Micro}
-use Rattle.mic1_datapath.specs.Mic1.{mic1_meaning}
-use Rattle.ijvm_simulation.specs.Stands.{Origin}
-use Rattle.ijvm_simulation.specs.Stack.{IsMapEnd}
-use Rattle.ijvm_simulation.specs.Passes.{Moment}
-use Rattle.ijvm_simulation.specs.Outcomes.{Went, Overran}
-use Rattle.ijvm_simulation.specs.Verified.{Loads, IsNext}
-use Rattle.ijvm_simulation.specs.Law.{Moves, Overruns, Takes}
-use Rattle.ijvm_simulation.specs.Groups.{IsCall}
+use Rattle.ijvm_meaning.specs.Prelude.{State, timing_of, cost}
+use Rattle.verifier_facts.specs.Prelude.{VerifiedView}
+use Rattle.mic1_datapath.specs.Prelude.{Micro, mic1_meaning}
+use Rattle.ijvm_simulation.specs.Prelude.{Origin, IsMapEnd, Moment, Went, Overran, Loads, IsNext, Moves, Overruns, Takes, IsCall}
 use Rattle.ijvm_simulation.proofs.Stack.{law}
 use Rattle.ijvm_simulation.proofs.Calling.{Named, returned, named, called, cut_off}
-use Rattle.mic1_interpreter.specs.Stands.{Stands}
+use Rattle.mic1_interpreter.specs.Prelude.{Stands}
 use Rattle.mic1_interpreter.proofs.Store.{HasStatements}
 use Rattle.mic1_interpreter.proofs.Boundaries.{At, at, opcode, arrives, overruns, at_boundary, at_text}
 use Rattle.mic1_interpreter.proofs.Instructions.{constant_after}

@@ -2,17 +2,11 @@
 use Rattle.std.proofs.Common.{◌≡◌, ℕ, List, [], ◌∷◌, length, refl, arith, ◌∙◌, ap, inr}
 use Rattle.mic_words.specs.declared.machine.Machine.TheVariants.{Mic1}
 use Rattle.ijvm_instr.specs.declared.instr.Instr.TheVariants.{Err, Halt}
-use Rattle.ijvm_meaning.specs.Frames.{State}
-use Rattle.ijvm_meaning.specs.Cost.{timing_of, cost}
-use Rattle.verifier_facts.specs.Accepted.{VerifiedView}
-use Rattle.mic1_datapath.specs.Micro.{Micro}
-use Rattle.mic1_datapath.specs.Mic1.{mic1_meaning}
-use Rattle.ijvm_simulation.specs.Stands.{Origin}
-use Rattle.ijvm_simulation.specs.Stack.{IsMapEnd, StackLaw}
-use Rattle.ijvm_simulation.specs.Passes.{Moment, pass}
-use Rattle.ijvm_simulation.specs.Verified.{Loads, Fine, IsNext}
-use Rattle.ijvm_simulation.specs.Law.{Stops, HaltsAndErrs}
-use Rattle.mic1_interpreter.specs.Stands.{Stands}
+use Rattle.ijvm_meaning.specs.Prelude.{State, timing_of, cost}
+use Rattle.verifier_facts.specs.Prelude.{VerifiedView}
+use Rattle.mic1_datapath.specs.Prelude.{Micro, mic1_meaning}
+use Rattle.ijvm_simulation.specs.Prelude.{Origin, IsMapEnd, StackLaw, Moment, pass, Loads, Fine, IsNext, Stops, HaltsAndErrs}
+use Rattle.mic1_interpreter.specs.Prelude.{Stands}
 use Rattle.mic1_interpreter.proofs.Store.{HasStatements}
 use Rattle.mic1_interpreter.proofs.Guided.{clocked, pass-clocked}
 use Rattle.mic1_interpreter.proofs.Boundaries.{Counts, counts, at_main, starts, begins}

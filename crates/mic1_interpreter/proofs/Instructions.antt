@@ -3,29 +3,22 @@ use Rattle.std.proofs.Common.{ℕ, List, [], ◌∷◌, refl, arith, sym, ◌∙
 use Rattle.std.specs.Prelude.{bit_and, bit_or}
 use Rattle.std.proofs.lemmas.Nat.{and_comm, or_comm}
 use Rattle.mic_words.specs.declared.machine.Machine.TheVariants.{Mic1}
-use Rattle.mic_words.specs.Arithmetic.{plus, minus, next, signed_byte, wrap}
+use Rattle.mic_words.specs.Prelude.{plus, minus, next, signed_byte, wrap}
 use Rattle.ijvm_instr.specs.declared.instr.Instr.{Instr}
 use Rattle.ijvm_instr.specs.declared.instr.Instr.TheVariants.{Nop, Bipush, Pop, Dup, Swap, Iadd, Isub, Iand, Ior}
 use Rattle.ijvm_instr.specs.declared.instr.Instr.TheVariants.{LdcW, Iload, Istore, Iinc, WideIload, WideIstore, WideIinc, In, Out}
-use Rattle.ijvm_meaning.specs.Frames.{State}
-use Rattle.ijvm_meaning.specs.Cost.{timing_of, cost}
-use Rattle.verifier_facts.specs.Accepted.{VerifiedView}
-use Rattle.mic1_datapath.specs.Micro.{Micro}
-use Rattle.mic1_datapath.specs.Mic1.{mic1_meaning}
-use Rattle.ijvm_simulation.specs.Stands.{Origin}
-use Rattle.ijvm_simulation.specs.Passes.{Moment}
-use Rattle.ijvm_simulation.specs.Outcomes.{Went, Overran}
-use Rattle.ijvm_simulation.specs.Verified.{Loads, IsNext}
-use Rattle.ijvm_simulation.specs.Law.{Moves, Overruns, Takes}
-use Rattle.ijvm_simulation.specs.Groups.{IsOfOperands, IsOfLocals, IsOfConsole}
+use Rattle.ijvm_meaning.specs.Prelude.{State, timing_of, cost}
+use Rattle.verifier_facts.specs.Prelude.{VerifiedView}
+use Rattle.mic1_datapath.specs.Prelude.{Micro, mic1_meaning}
+use Rattle.ijvm_simulation.specs.Prelude.{Origin, Moment, Went, Overran, Loads, IsNext, Moves, Overruns, Takes, IsOfOperands, IsOfLocals, IsOfConsole}
 use Rattle.ijvm_simulation.proofs.Words.{plus_comm}
 use Rattle.ijvm_simulation.proofs.Leaves.{stays, bipush, dup, popped, operated, operated_turned, swapped, push_full, constant_pushed}
 use Rattle.ijvm_simulation.proofs.Leaves.{local_pushed, constant_full, local_full, stored, changed, changed_turned, taken_pushed, taken_full, gives}
-use Rattle.mic1_interpreter.specs.Stands.{Stands}
+use Rattle.mic1_interpreter.specs.Prelude.{Stands}
 use Rattle.mic1_interpreter.proofs.Store.{HasStatements}
 use Rattle.mic1_interpreter.proofs.Boundaries.{At, at, opcode, arrives, overruns, at_boundary, at_text}
-use Rattle.console_port.specs.World.{byte_in}
-use Rattle.ijvm_instr.specs.Instructions.{word_of}
+use Rattle.console_port.specs.Prelude.{byte_in}
+use Rattle.ijvm_instr.specs.Prelude.{word_of}
 use Rattle.mic1_interpreter.proofs.Words.{pair_is, signed_pair_is}
 
 module _ {program : List ℕ} {o : Origin} {v : VerifiedView} {s : State} {q : Moment Micro} (a : At program o v s q) where

@@ -3,27 +3,18 @@ use Rattle.std.proofs.Common.{◌≡◌, ℕ, ◌+◌, ◌*◌, Bool, ◌==◌, 
 use Rattle.std.specs.Prelude.{bit_or, if◌then◌else◌, ℤ}
 use Rattle.std.proofs.lemmas.Bool.{cases_Bool}
 use Rattle.mic_words.specs.declared.machine.Machine.TheVariants.{Mic1}
-use Rattle.mic_words.specs.Arithmetic.{wrap, plus, minus, next, before, signed_byte, is_negative}
-use Rattle.console_port.specs.World.{World, read_value, byte_in, fetch_refusal}
+use Rattle.mic_words.specs.Prelude.{wrap, plus, minus, next, before, signed_byte, is_negative}
+use Rattle.console_port.specs.Prelude.{World, read_value, byte_in, fetch_refusal}
 use Rattle.ijvm_instr.specs.declared.instr.Instr.{Instr}
 use Rattle.ijvm_instr.specs.declared.instr.Instr.TheVariants.{Ifeq, Iflt, IfIcmpeq, Goto}
-use Rattle.ijvm_instr.specs.Instructions.{target}
-use Rattle.ijvm_meaning.specs.Frames.{State}
-use Rattle.ijvm_meaning.specs.Cost.{timing_of, cost}
-use Rattle.ijvm_meaning.specs.Step.{moved}
-use Rattle.verifier_facts.specs.Accepted.{VerifiedView}
-use Rattle.mic1_datapath.specs.Micro.{Micro}
-use Rattle.mic1_datapath.specs.Mic1.{mic1_meaning}
-use Rattle.ijvm_simulation.specs.Stands.{Origin}
-use Rattle.ijvm_simulation.specs.Stack.{jump, Lands}
-use Rattle.ijvm_simulation.specs.Passes.{Moment}
-use Rattle.ijvm_simulation.specs.Outcomes.{Went, Overran}
-use Rattle.ijvm_simulation.specs.Verified.{Loads, Fine, IsNext}
-use Rattle.ijvm_simulation.specs.Law.{Moves, Overruns, Takes}
-use Rattle.ijvm_simulation.specs.Groups.{IsJump}
+use Rattle.ijvm_instr.specs.Prelude.{target}
+use Rattle.ijvm_meaning.specs.Prelude.{State, timing_of, cost, moved}
+use Rattle.verifier_facts.specs.Prelude.{VerifiedView}
+use Rattle.mic1_datapath.specs.Prelude.{Micro, mic1_meaning}
+use Rattle.ijvm_simulation.specs.Prelude.{Origin, jump, Lands, Moment, Went, Overran, Loads, Fine, IsNext, Moves, Overruns, Takes, IsJump}
 use Rattle.ijvm_simulation.proofs.Stack.{law}
 use Rattle.ijvm_simulation.proofs.Leaves.{stays, popped, popped_two, branches_by, branches_equal}
-use Rattle.mic1_interpreter.specs.Stands.{Stands}
+use Rattle.mic1_interpreter.specs.Prelude.{Stands}
 use Rattle.mic1_interpreter.proofs.Store.{HasStatements}
 use Rattle.mic1_interpreter.proofs.Boundaries.{At, at, opcode, arrives, at_boundary}
 use Rattle.mic1_interpreter.proofs.Words.{byte_kept, fetch_ok, signed_pair_is}

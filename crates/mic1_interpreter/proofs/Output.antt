@@ -3,16 +3,13 @@ use Rattle.std.proofs.Common.{ℕ, Some, None, Option, List, [], length, sym}
 use Rattle.std.proofs.lemmas.List.{append-nil}
 use Rattle.micro_word.specs.declared.statement.Mem.{Mem}
 use Rattle.micro_word.specs.declared.statement.Mem.TheVariants.{Write}
-use Rattle.mic1_datapath.specs.Micro.{Micro}
+use Rattle.mic1_datapath.specs.Prelude.{Micro, ports_of, settled, clock, world_after, refusal, step_of_word}
 use Rattle.mic_datapath.specs.declared.ports.Ports.{Ports}
-use Rattle.mic_datapath.specs.Memory.{written, sampled, outcome}
-use Rattle.mic1_datapath.specs.Microstep.{ports_of, settled, clock, world_after, refusal}
-use Rattle.console_port.specs.World.{World, Refusal}
+use Rattle.mic_datapath.specs.Prelude.{written, sampled, outcome}
+use Rattle.console_port.specs.Prelude.{World, Refusal}
 use Rattle.mic_words.specs.declared.machine.Machine.TheVariants as machines
-use Rattle.micro_word.specs.Coding.{statement_of}
-use Rattle.mic1_datapath.specs.Mic1.{step_of_word}
-use Rattle.ijvm_simulation.specs.Law.{Grows, OnDone}
-use Rattle.ijvm_simulation.specs.Words.{WordLaw}
+use Rattle.micro_word.specs.Prelude.{statement_of}
+use Rattle.ijvm_simulation.specs.Prelude.{Grows, OnDone, WordLaw}
 
 stays : (xs : List ℕ) → Grows xs xs
 stays xs = record { more = []; are = sym (append-nil xs) }

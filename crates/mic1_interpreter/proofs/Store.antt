@@ -3,9 +3,9 @@ use Rattle.std.proofs.Common.{◌≡◌, ℕ, ◌<◌, List}
 use Rattle.std.specs.Prelude.{slice_index}
 use Rattle.mic_words.specs.declared.machine.Machine.TheVariants.{Mic1}
 use Rattle.micro_word.specs.declared.statement.Placed.{Placed}
-use Rattle.micro_word.specs.Coding.{statement_of}
-use Rattle.mal_shipped.specs.Listing.{table1}
-use Rattle.mal_shipped.specs.Shipped.{HasShipped, statement_among, shipped as shipped_at}
+use Rattle.micro_word.specs.Prelude.{statement_of}
+use Rattle.mal_shipped.specs.Prelude.{table1, HasShipped, statement_among}
+use Rattle.mal_shipped.specs.Shipped.{shipped as shipped_at}
 
 -- the statement at an address, with the table in sight of a symbolic run
 abbrev pub shipped : ℕ → Placed

@@ -4,9 +4,9 @@ use Rattle.std.specs.Prelude.{slice_index, nat_lt, bit_or}
 use Rattle.std.proofs.lemmas.Bool.Decides.{nat_tests}
 use Rattle.std.proofs.lemmas.Bool.{cases_lt}
 use Rattle.std.proofs.lemmas.Nat.{or_shifted}
-use Rattle.mic_words.specs.Arithmetic.{wrap, next, signed_byte, signed_pair}
-use Rattle.console_port.specs.World.{fetch_refusal, byte_in}
-use Rattle.ijvm_simulation.specs.Stack.{IsMapEnd}
+use Rattle.mic_words.specs.Prelude.{wrap, next, signed_byte, signed_pair}
+use Rattle.console_port.specs.Prelude.{fetch_refusal, byte_in}
+use Rattle.ijvm_simulation.specs.Prelude.{IsMapEnd}
 
 wrap_small : (x : ℕ) → x < 2 ^ 32 → wrap x ≡ x
 unfolding wrap

@@ -1,18 +1,13 @@
 -- What is on the buses, by the word that was set up.
 use Rattle.std.proofs.Common.{◌≡◌, ℕ, Bool, true, false, if◌then◌else◌, Option, None, refl, sym, ap, subst, ◌∙◌}
 use Rattle.mic_words.specs.declared.machine.Machine.TheVariants as machines
-use Rattle.micro_word.specs.Coding.{statement_of}
-use Rattle.micro_word.specs.Operation.{alu, shifted}
+use Rattle.micro_word.specs.Prelude.{statement_of, alu, shifted}
 use Rattle.micro_word.specs.declared.statement.BusSource.{BusSource}
 use Rattle.micro_word.specs.declared.statement.Placed.{Placed}
-use Rattle.mic_clock.specs.Run.{Buses}
+use Rattle.mic_clock.specs.Prelude.{Buses}
 use Rattle.mic_clock.specs.declared.buses.Drive.{Drive}
 use Rattle.mic_clock.specs.declared.buses.Computed.{Computed}
-use Rattle.mic2_datapath.specs.Micro.{Micro}
-use Rattle.mic2_datapath.specs.Microstep.{is_stalled, result_of, source}
-use Rattle.mic2_datapath.specs.Mic2.{computed, computed_on, driven, flagged, stalled_drive, stalled_value, value_of}
-use Rattle.mic2_datapath.specs.Latches.{HasComputed}
-use Rattle.mic2_datapath.specs.View.{buses_by}
+use Rattle.mic2_datapath.specs.Prelude.{Micro, is_stalled, result_of, source, computed, computed_on, driven, flagged, stalled_drive, stalled_value, value_of, HasComputed, buses_by}
 use Rattle.mic2_datapath.specs.declared.mic2.Past.TheVariants as pasts
 
 module _ (s : Placed) (m : Micro) where

@@ -3,9 +3,7 @@ use Rattle.std.proofs.Common.{◌≡◌, ℕ, ◌+◌, ◌-◌, ◌/◌, ◌≤�
 use Rattle.std.specs.Prelude.{nat_lt}
 use Rattle.std.proofs.lemmas.Bool.Decides.{nat_tests}
 use Rattle.mic_words.specs.declared.machine.Machine.TheVariants.{Mic2}
-use Rattle.micro_word.specs.Words.{Valid, fits_side, is_byte, is_pair, may_be_b}
-use Rattle.micro_word.specs.Coding.{jam_bits, mem_bits, row}
-use Rattle.micro_word.specs.Lines.{bytes_shown, bytes_taken, place_on_bus}
+use Rattle.micro_word.specs.Prelude.{Valid, fits_side, is_byte, is_pair, may_be_b, jam_bits, mem_bits, row, bytes_shown, bytes_taken, place_on_bus}
 use Rattle.micro_word.specs.declared.statement.Mem.{Mem}
 use Rattle.micro_word.specs.declared.statement.Mem.TheVariants as mems
 use Rattle.micro_word.specs.declared.statement.BusSource.{BusSource}
@@ -13,11 +11,10 @@ use Rattle.micro_word.specs.declared.statement.BusSource.TheVariants as sources
 use Rattle.micro_word.specs.declared.statement.PlacedNext.{PlacedNext}
 use Rattle.micro_word.specs.declared.statement.PlacedNext.TheVariants as nexts
 use Rattle.micro_word.specs.declared.statement.Test.TheVariants as tests
-use Rattle.mic_datapath.specs.Next.{next_address}
+use Rattle.mic_datapath.specs.Prelude.{next_address}
 use Rattle.micro_word.specs.declared.statement.Placed.{Placed}
-use Rattle.mic2_datapath.specs.Latches.{access_by}
-use Rattle.mic2_datapath.specs.Microstep.{demand, dispatch_bytes, unit_after, unit_samples}
-use Rattle.mic2_fetch_unit.specs.FetchUnit.{Prefetch, jump}
+use Rattle.mic2_datapath.specs.Prelude.{access_by, demand, dispatch_bytes, unit_after, unit_samples}
+use Rattle.mic2_fetch_unit.specs.Prelude.{Prefetch, jump}
 
 pub not_here : (used : Bool) → IsTrue (used && false) → ⊥
 not_here true h = absurd (cc)

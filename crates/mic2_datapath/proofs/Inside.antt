@@ -1,9 +1,7 @@
 -- A write or a read that needs no source and no sink.
 use Rattle.std.proofs.Common.{◌≡◌, ℕ, List, Option, Some, None, refl}
-use Rattle.console_port.specs.World.{World, Refusal}
-use Rattle.console_port.specs.View.{BusView}
-use Rattle.console_port.specs.Bus.{Shows, IsLed}
-use Rattle.mic_datapath.specs.Memory.{first_refusal}
+use Rattle.console_port.specs.Prelude.{World, Refusal, BusView, Shows, IsLed}
+use Rattle.mic_datapath.specs.Prelude.{first_refusal}
 
 pub first_clear : (a b : Option Refusal) → first_refusal a b ≡ None → a ≡ None
 first_clear (Some why) b h = absurd (cc)

@@ -1,12 +1,10 @@
 -- What stands at the place of a source is what the source puts on its bus, once the front of the queue is shown.
 use Rattle.std.proofs.Common.{◌≡◌, ℕ, ◌≤◌, Bool, true, IsTrue, Option, Some, None, slice_index, refl}
 use Rattle.mic_words.specs.declared.machine.Machine.TheVariants.{Mic2}
-use Rattle.micro_word.specs.Words.{fits_side, is_byte, is_pair, may_be_b}
-use Rattle.micro_word.specs.Lines.{place_on_bus}
+use Rattle.micro_word.specs.Prelude.{fits_side, is_byte, is_pair, may_be_b, place_on_bus}
 use Rattle.micro_word.specs.declared.statement.BusSource.{BusSource}
 use Rattle.micro_word.specs.declared.statement.BusSource.TheVariants as sources
-use Rattle.mic2_datapath.specs.Microstep.{source}
-use Rattle.mic2_datapath.specs.Latches.{AreLatches, HasFront, micro_in}
+use Rattle.mic2_datapath.specs.Prelude.{source, AreLatches, HasFront, micro_in}
 use Rattle.mic2_datapath.specs.declared.latches.Latches.{Latches}
 use Rattle.mic2_datapath.proofs.Demands.{not_here}
 

@@ -1,35 +1,22 @@
 -- What is asked of the bus for a statement, with its accesses, is its microstep or its refusal.
 use Rattle.std.proofs.Common.{◌≡◌, ℕ, Bool, true, false, if◌then◌else◌, List, Option, Some, None, Result, Ok, Err, length, refl, sym, ap, subst, ◌∙◌, arith}
 use Rattle.std.specs.Prelude.{⊤, IfErr, IsErrAnd, OnErr, OnOk}
-use Rattle.console_port.specs.World.{World, Refusal}
-use Rattle.console_port.specs.Bus.{ChangesOnly, IsLed, Shows, refused_by}
-use Rattle.console_port.specs.Console.{HasFaultCause, IsFault, StillTells}
-use Rattle.console_port.specs.Streams.{StreamsGoOn}
-use Rattle.console_port.specs.View.{BusView}
+use Rattle.console_port.specs.Prelude.{World, Refusal, ChangesOnly, IsLed, Shows, refused_by, HasFaultCause, IsFault, StillTells, StreamsGoOn, BusView}
 use Rattle.console_port.specs.declared.fault.BusFault.{BusFault}
 use Rattle.console_port.specs.declared.fault.BusFault.TheVariants as faults
 use Rattle.mic_words.specs.declared.machine.Machine.TheVariants as machines
-use Rattle.micro_word.specs.Coding.{statement_of, mem_of}
-use Rattle.micro_word.specs.Layout.{fields_of}
-use Rattle.micro_word.specs.Lines.{names}
-use Rattle.micro_word.specs.Operation.{shifted}
+use Rattle.micro_word.specs.Prelude.{statement_of, mem_of, fields_of, names, shifted}
 use Rattle.micro_word.specs.declared.statement.Mem.{Mem}
 use Rattle.micro_word.specs.declared.statement.Placed.{Placed}
-use Rattle.mic_clock.specs.Edge.{IsEdge, LetsBytesWait}
-use Rattle.mic_clock.specs.Meaning.{Outcome, Done, refusal_in}
-use Rattle.mic_datapath.specs.Access.{AtConsole, HasAccessed, IsTransfer, LetsBytesWait as LetsWait}
+use Rattle.mic_clock.specs.Prelude.{IsEdge, LetsBytesWait, Outcome, Done, refusal_in}
+use Rattle.mic_datapath.specs.Access.{LetsBytesWait as LetsWait}
+use Rattle.mic_datapath.specs.Prelude.{AtConsole, HasAccessed, IsTransfer, Asks, answered, refused_no_fault, second_clear, first_refusal, memory_refusal, word_under_way, written, sampled, outcome, loaded, ports_given}
 use Rattle.mic_datapath.specs.Edges as edges
-use Rattle.mic_datapath.specs.Edges.{Asks, answered, refused_no_fault, second_clear}
-use Rattle.mic_datapath.specs.Memory.{first_refusal, memory_refusal, word_under_way, written, sampled, outcome}
-use Rattle.mic_datapath.specs.Registers.{loaded, ports_given}
 use Rattle.mic_datapath.specs.declared.ports.Ports.{Ports}
-use Rattle.mic2_fetch_unit.specs.FetchUnit.{Prefetch, edge_refusal, sample_refusal}
+use Rattle.mic2_fetch_unit.specs.Prelude.{Prefetch, edge_refusal, sample_refusal}
 use Rattle.mic2_datapath.proofs.Demands.{same_sample, same_unit}
 use Rattle.mic2_datapath.proofs.Inside.{led_same}
-use Rattle.mic2_datapath.specs.Microstep.{access_refusal, advanced, clock, demand, is_stalled, jumps, microstep, moved_on, refusal, registers_in, result_of, settled, stalled, step_if, unit_after, unit_refusal, unit_samples, world_after}
-use Rattle.mic2_datapath.specs.Latches.{HasComputed}
-use Rattle.mic2_datapath.specs.Mic2.{mic2_meaning, step_of_word}
-use Rattle.mic2_datapath.specs.Micro.{Micro}
+use Rattle.mic2_datapath.specs.Prelude.{access_refusal, advanced, clock, demand, is_stalled, jumps, microstep, moved_on, refusal, registers_in, result_of, settled, stalled, step_if, unit_after, unit_refusal, unit_samples, world_after, HasComputed, mic2_meaning, step_of_word, Micro}
 
 -- what a cycle asks of the bus: an access, and the word that the fetch unit samples
 pub record Asked : Type 0 where

@@ -1,25 +1,18 @@
 -- What the latches of Mic-2 mean: the microstep's state, and what its buses carry between its calls.
 use Rattle.std.specs.Prelude.{◌≡◌, ℕ, ◌*◌, ◌+◌, ◌<◌, ◌≤◌, Bool, true, false, IsTrue, length, slice_index, Option, None, is_some}
-use Rattle.console_port.specs.View.{BusView}
-use Rattle.mic_clock.specs.Edge.{IsEdgeInside}
-use Rattle.mic_words.specs.Arithmetic.{signed_byte, signed_pair}
+use Rattle.console_port.specs.Prelude.{BusView}
+use Rattle.mic_clock.specs.Prelude.{IsEdgeInside}
+use Rattle.mic_words.specs.Prelude.{signed_byte, signed_pair}
 use Rattle.mic_words.specs.declared.machine.Machine.TheVariants.{Mic2}
-use Rattle.micro_word.specs.Coding.{mem_of, statement_of}
-use Rattle.micro_word.specs.Layout.{fields_of}
-use Rattle.micro_word.specs.Lines.{AreLines, names}
-use Rattle.micro_word.specs.Operation.{shifted}
-use Rattle.micro_word.specs.Words.{is_canonical}
+use Rattle.micro_word.specs.Prelude.{mem_of, statement_of, fields_of, AreLines, names, shifted, is_canonical}
 use Rattle.micro_word.specs.declared.lines.Lines.{Lines}
 use Rattle.micro_word.specs.declared.lines.TheConstants.{NOTHING}
 use Rattle.micro_word.specs.declared.statement.Mem.{Mem}
 use Rattle.micro_word.specs.declared.statement.Mem.TheVariants as mems
 use Rattle.micro_word.specs.declared.statement.Placed.{Placed}
-use Rattle.mic_datapath.specs.Access.{IsTransfer, LeadsInside}
-use Rattle.mic_datapath.specs.Memory.{memory_refusal}
-use Rattle.mic_datapath.specs.Places.{registers_at}
-use Rattle.mic_datapath.specs.Registers.{NineRegisters, loaded}
+use Rattle.mic_datapath.specs.Prelude.{IsTransfer, LeadsInside, memory_refusal, registers_at, NineRegisters, loaded}
 use Rattle.mic_datapath.specs.declared.ports.Ports.{Ports}
-use Rattle.mic2_fetch_unit.specs.FetchUnit.{sample_refusal}
+use Rattle.mic2_fetch_unit.specs.Prelude.{sample_refusal}
 use Rattle.mic2_datapath.specs.Mic2.{mic2_meaning}
 use Rattle.mic2_datapath.specs.Micro.{Micro}
 use Rattle.mic2_datapath.specs.Microstep.{demand, is_stalled, result_of, unit_samples}

@@ -4,3 +4,4 @@ pub mod Mic2
 pub mod Latches
 pub mod Spelled
 pub mod View
+pub mod Prelude

@@ -1,6 +1,6 @@
 -- The state of Mic-2 between cycles (chapter 4): its registers, what is under way to them, and its fetch unit.
 use Rattle.std.specs.Prelude.{ℕ, Bool, Option}
-use Rattle.mic2_fetch_unit.specs.FetchUnit.{Prefetch}
+use Rattle.mic2_fetch_unit.specs.Prelude.{Prefetch}
 
 pub record Micro : Type 0 where
   pub mar : ℕ

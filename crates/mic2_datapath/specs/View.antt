@@ -1,11 +1,10 @@
 -- What contracts see of a Mic-2.
 use Rattle.std.specs.Prelude.{ℕ, false}
 use Rattle.mic_words.specs.declared.machine.Machine.TheVariants as machines
-use Rattle.micro_word.specs.Coding.{statement_of}
-use Rattle.mic_clock.specs.Meaning.{Phase}
-use Rattle.mic_clock.specs.Run.{Buses, start_buses}
+use Rattle.micro_word.specs.Prelude.{statement_of}
+use Rattle.mic_clock.specs.Prelude.{Phase, Buses, start_buses}
 use Rattle.mic_clock.specs.declared.buses.Drive.{Drive}
-use Rattle.mic_datapath.specs.Stage.{phase_of}
+use Rattle.mic_datapath.specs.Prelude.{phase_of}
 use Rattle.mic2_datapath.specs.Micro.{Micro}
 use Rattle.mic2_datapath.specs.Latches.{micro_in}
 use Rattle.mic2_datapath.specs.Mic2.{computed_on, stalled_drive}

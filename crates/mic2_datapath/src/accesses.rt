@@ -1,12 +1,9 @@
 //! The accesses of a cycle: their addresses are tested before anything is changed.
 
 ghost use Rattle.std.specs.Prelude.{◌≡◌, None, length, OnOk, true};
-ghost use Rattle.console_port.specs.World.{World};
-ghost use Rattle.console_port.specs.Bus.{FailsAsRefused};
-ghost use Rattle.console_port.specs.Streams.{StreamsGoOn};
-ghost use Rattle.mic_datapath.specs.Memory.{memory_refusal};
-ghost use Rattle.mic_datapath.specs.Access.{HasAccessed, IsTransfer, LetsBytesWait};
-ghost use Rattle.mic2_fetch_unit.specs.FetchUnit.{sample_refusal};
+ghost use Rattle.console_port.specs.Prelude.{World, FailsAsRefused, StreamsGoOn};
+ghost use Rattle.mic_datapath.specs.Prelude.{memory_refusal, HasAccessed, IsTransfer, LetsBytesWait};
+ghost use Rattle.mic2_fetch_unit.specs.Prelude.{sample_refusal};
 ghost use Rattle.mic2_datapath.specs.Microstep.{access_refusal};
 
 use console_port::{Bus, BusFault};

@@ -2,12 +2,8 @@
 
 ghost use Rattle.std.specs.Prelude.{◌≡◌, ◌≢◌, ◌≤◌, ◌<◌, IsTrue, None, slice_index, true, false};
 ghost use Rattle.mic_words.specs.declared.machine.Machine.TheVariants.{Mic2};
-ghost use Rattle.micro_word.specs.Words.{is_canonical};
-ghost use Rattle.micro_word.specs.Coding.{addr_bits, jam_bits, mem_of, statement_of};
-ghost use Rattle.micro_word.specs.Layout.{fields_of};
-ghost use Rattle.micro_word.specs.Lines.{AreLines, AreSlots, names};
-ghost use Rattle.micro_word.specs.Operation.{alu, shifted};
-ghost use Rattle.mic_datapath.specs.Next.{next_address};
+ghost use Rattle.micro_word.specs.Prelude.{is_canonical, addr_bits, jam_bits, mem_of, statement_of, fields_of, AreLines, AreSlots, names, alu, shifted};
+ghost use Rattle.mic_datapath.specs.Prelude.{next_address};
 ghost use Rattle.mic2_datapath.specs.Latches.{IsDecoded, access_by, jam_in};
 ghost use Rattle.mic2_datapath.specs.Mic2.{computed_on, flagged, value_of};
 ghost use Rattle.mic2_datapath.specs.Microstep.{demand};

@@ -1,10 +1,10 @@
 //! A cycle over the latches and what is on the buses.
 
 ghost use Rattle.std.specs.Prelude.{◌≡◌, ◌≤◌, false, length};
-ghost use Rattle.console_port.specs.Streams.{StreamsGoOn};
+ghost use Rattle.console_port.specs.Prelude.{StreamsGoOn};
 ghost use Rattle.mic_words.specs.declared.machine.Machine.TheVariants.{Mic2};
-ghost use Rattle.micro_word.specs.Coding.{statement_of};
-ghost use Rattle.mic_clock.specs.Edge.{IsEdgeOver};
+ghost use Rattle.micro_word.specs.Prelude.{statement_of};
+ghost use Rattle.mic_clock.specs.Prelude.{IsEdgeOver};
 ghost use Rattle.mic2_datapath.specs.Latches.{AreLatches, HasComputed, IsDecoded, IsTried, micro_in};
 ghost use Rattle.mic2_datapath.specs.Mic2.{driven, mic2_meaning};
 ghost use Rattle.mic2_datapath.specs.Microstep.{is_stalled};

@@ -2,9 +2,9 @@
 
 ghost use Rattle.std.specs.Prelude.{◌≡◌, IsTrue, refl};
 ghost use Rattle.mic_words.specs.declared.machine.Machine.TheVariants.{Mic2 as Mic2Machine};
-ghost use Rattle.micro_word.specs.Words.{is_canonical};
-ghost use Rattle.mic_clock.specs.Meaning.{Driven, AtEdge};
-ghost use Rattle.mic_datapath.specs.Stage.{phase_of};
+ghost use Rattle.micro_word.specs.Prelude.{is_canonical};
+ghost use Rattle.mic_clock.specs.Prelude.{Driven, AtEdge};
+ghost use Rattle.mic_datapath.specs.Prelude.{phase_of};
 ghost use Rattle.mic2_datapath.specs.Latches.{AreLatches, HasComputed, micro_in};
 ghost use Rattle.mic2_datapath.specs.Mic2.{driven};
 ghost use Rattle.mic2_datapath.specs.Spelled.{spelled};
@@ -51,7 +51,7 @@ pub struct Mic2 {
 }
 
 impl Mic2 {
-    ghost use Rattle.mic_clock.specs.Meaning.{AtRest};
+    ghost use Rattle.mic_clock.specs.Prelude.{AtRest};
     ghost use Rattle.mic2_datapath.specs.Mic2.{at_zero, initial as initial_of};
     ghost use Rattle.mic2_datapath.specs.View.{micro_of, phase};
 

@@ -4,11 +4,9 @@ use Rattle.std.specs.Prelude.{slice_index, nat_lt, nat_le, if◌then◌else◌}
 use Rattle.std.specs.Option.{option_map}
 use Rattle.std.proofs.lemmas.Bool.{cases_Bool}
 use Rattle.std.proofs.lemmas.Bool.Decides.{nat_tests}
-use Rattle.mic_words.specs.Arithmetic.{wrap, next}
-use Rattle.console_port.specs.World.{byte_in, byte_of, word_refusal}
-use Rattle.mic2_fetch_unit.specs.FetchUnit.{Prefetch, bytes_of_word, without, appended, with_pending, sampled_by, sample_refusal, edge, jump, edge_refusal, jump_refusal}
-use Rattle.mic2_fetch_unit.specs.Units.{bytes_from, unit_at, have_after}
-use Rattle.mic2_fetch_unit.specs.QueueLaw.{IsKept}
+use Rattle.mic_words.specs.Prelude.{wrap, next}
+use Rattle.console_port.specs.Prelude.{byte_in, byte_of, word_refusal}
+use Rattle.mic2_fetch_unit.specs.Prelude.{Prefetch, bytes_of_word, without, appended, with_pending, sampled_by, sample_refusal, edge, jump, edge_refusal, jump_refusal, bytes_from, unit_at, have_after, IsKept}
 
 next_is : (x y : ℕ) → x + 1 ≡ y → y < 2 ^ 32 → next x ≡ y
 unfolding wrap

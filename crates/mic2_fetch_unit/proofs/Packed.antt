@@ -2,9 +2,8 @@
 use Rattle.std.proofs.Common.{◌≡◌, ℕ, zero, suc, ◌+◌, ◌-◌, ◌*◌, ◌/◌, ◌%◌, ◌^◌, ◌<◌, ◌≤◌, List, [], ◌∷◌, ◌++◌, length, drop, get_or, bit_or, refl, sym, ap, subst, ◌∙◌, arith}
 use Rattle.std.proofs.lemmas.Nat.{or_shifted, or_comm, shl_whole, pow-add}
 use Rattle.std.proofs.Math.Nat.{mul-le-mul_right}
-use Rattle.console_port.specs.World.{byte_of}
-use Rattle.mic2_fetch_unit.specs.FetchUnit.{bytes_of_word}
-use Rattle.mic2_fetch_unit.specs.Packed.{bytes_in, turned_word}
+use Rattle.console_port.specs.Prelude.{byte_of}
+use Rattle.mic2_fetch_unit.specs.Prelude.{bytes_of_word, bytes_in, turned_word}
 
 pub length-bytes_in : (n bits : ℕ) → length (bytes_in n bits) ≡ n
 unfolding bytes_in

@@ -5,10 +5,9 @@ use Rattle.std.specs.Option.{option_map}
 use Rattle.std.proofs.lemmas.Bool.{cases_lt}
 use Rattle.std.proofs.lemmas.Bool.Decides.{nat_tests}
 use Rattle.std.proofs.lemmas.List.{length-append, length-drop, get_or-drop, get_or_append_left, get_or-append_right}
-use Rattle.mic_words.specs.Arithmetic.{wrap, next}
-use Rattle.console_port.specs.World.{byte_in, byte_of}
-use Rattle.mic2_fetch_unit.specs.FetchUnit.{Prefetch, IsUnit, appended, bytes_of_word, edge, jump, sampled_at, sampled_by}
-use Rattle.mic2_fetch_unit.specs.Place.{StandsAt, HoldsSame}
+use Rattle.mic_words.specs.Prelude.{wrap, next}
+use Rattle.console_port.specs.Prelude.{byte_in, byte_of}
+use Rattle.mic2_fetch_unit.specs.Prelude.{Prefetch, IsUnit, appended, bytes_of_word, edge, jump, sampled_at, sampled_by, StandsAt, HoldsSame}
 
 abbrev pub unit : List ℕ → ℕ → ℕ → Option ℕ → Prefetch
 unit bytes imar skip pending = record { bytes = bytes; imar = imar; skip = skip; pending = pending }

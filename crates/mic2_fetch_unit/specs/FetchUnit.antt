@@ -1,9 +1,8 @@
 -- The fetch unit of Mic-2 (chapter 4): a queue of instruction bytes in front of memory. When it samples a word is this profile's.
 use Rattle.std.specs.Prelude.{◌≡◌, ℕ, ◌/◌, ◌%◌, ◌<◌, ◌≤◌, Bool, true, nat_le, if◌then◌else◌, List, [], ◌∷◌, ◌++◌, length, drop, slice_index, Option, Some, None, Result, is_some}
 use Rattle.std.specs.Option.{option_map}
-use Rattle.mic_words.specs.Arithmetic.{next}
-use Rattle.console_port.specs.Bus.{IsDoneUnless}
-use Rattle.console_port.specs.World.{Refusal, byte_of, word_refusal}
+use Rattle.mic_words.specs.Prelude.{next}
+use Rattle.console_port.specs.Prelude.{IsDoneUnless, Refusal, byte_of, word_refusal}
 use Rattle.console_port.specs.declared.fault.BusFault.{BusFault}
 
 pub record Prefetch : Type 0 where

@@ -4,3 +4,4 @@ pub mod Packed
 pub mod Units
 pub mod Held
 pub mod QueueLaw
+pub mod Prelude

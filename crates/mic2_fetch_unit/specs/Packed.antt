@@ -1,5 +1,5 @@
 -- The queue of fetched bytes as one number, the first byte lowest, as the fetch unit keeps it.
-use Rattle.console_port.specs.World.{byte_of}
+use Rattle.console_port.specs.Prelude.{byte_of}
 use Rattle.std.specs.Prelude.{ℕ, zero, suc, ◌+◌, ◌*◌, ◌/◌, ◌%◌, List, [], ◌∷◌}
 
 -- this many bytes of a register, from the lowest on

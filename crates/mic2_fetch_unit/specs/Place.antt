@@ -1,6 +1,6 @@
 -- Where a fetch unit stands in memory: a byte address, which the unit itself does not know.
 use Rattle.std.specs.Prelude.{◌≡◌, ℕ, ◌+◌, ◌*◌, ◌/◌, ◌<◌, List, length, slice_index, IsSome, IfSome, ◌≤◌, ◌^◌}
-use Rattle.console_port.specs.World.{byte_in}
+use Rattle.console_port.specs.Prelude.{byte_in}
 use Rattle.mic2_fetch_unit.specs.FetchUnit.{Prefetch, IsUnit, edge}
 
 -- a unit stands at p: its bytes are the memory's from p on, and it goes on after them

@@ -1,6 +1,6 @@
 -- The fetch unit that stands at a place of memory, as one folded value: its edge and its jump lead to another such value.
 use Rattle.std.specs.Prelude.{ℕ, zero, suc, ◌+◌, ◌-◌, ◌/◌, ◌%◌, nat_le, if◌then◌else◌, List, [], ◌∷◌, Some, None, slice_index}
-use Rattle.console_port.specs.World.{byte_in}
+use Rattle.console_port.specs.Prelude.{byte_in}
 use Rattle.mic2_fetch_unit.specs.FetchUnit.{Prefetch}
 
 -- this many bytes from a byte address on

@@ -2,7 +2,7 @@
 
 ghost use Rattle.std.specs.Prelude.{◌≡◌, None, OnOk, length, slice_index};
 ghost use Rattle.std.specs.Option.{option_map};
-ghost use Rattle.console_port.specs.Bus.{FailsAsRefused};
+ghost use Rattle.console_port.specs.Prelude.{FailsAsRefused};
 ghost use Rattle.mic2_fetch_unit.specs.FetchUnit.{jump_refusal, sample_refusal};
 
 use console_port::{Bus, BusFault};

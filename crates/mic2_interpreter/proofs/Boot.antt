@@ -1,25 +1,18 @@
 -- From the reset of a Mic-2 to its first boundary.
 use Rattle.std.proofs.Common.{◌≡◌, ℕ, List, [], ◌∷◌, length, refl, arith, ◌∙◌, ap}
 use Rattle.mic_words.specs.declared.machine.Machine.TheVariants.{Mic2}
-use Rattle.mic_words.specs.Arithmetic.{plus}
-use Rattle.console_port.specs.World.{byte_in}
-use Rattle.mic2_datapath.specs.Micro.{Micro}
-use Rattle.mic2_datapath.specs.Mic2.{mic2_meaning}
-use Rattle.ijvm_meaning.specs.Cost.{timing_of}
-use Rattle.ijvm_meaning.specs.Frames.{start_of}
-use Rattle.mic2_interpreter.specs.Stands.{Stands}
-use Rattle.mic2_interpreter.specs.Stalls.{BootsWithStall}
+use Rattle.mic_words.specs.Prelude.{plus}
+use Rattle.console_port.specs.Prelude.{byte_in}
+use Rattle.mic2_datapath.specs.Prelude.{Micro, mic2_meaning}
+use Rattle.ijvm_meaning.specs.Prelude.{timing_of, start_of}
+use Rattle.mic2_interpreter.specs.Prelude.{Stands, BootsWithStall}
 use Rattle.mic2_interpreter.proofs.Store.{Known}
-use Rattle.mic2_fetch_unit.specs.Held.{Jumped, Waits}
+use Rattle.mic2_fetch_unit.specs.Prelude.{Jumped, Waits}
 use Rattle.mic2_interpreter.proofs.Guided.{Goes, Lacks, Short, moment_of, clocked, Arrives, IsSmooth, pass-clocked}
 use Rattle.mic2_interpreter.proofs.Boundaries.{at_boundary, stands_at}
-use Rattle.ijvm_simulation.specs.Stands.{Origin, IsMemory}
-use Rattle.ijvm_simulation.specs.Stack.{IsMapEnd, StackLaw}
-use Rattle.ijvm_simulation.specs.Passes.{Moment, pass}
-use Rattle.ijvm_simulation.specs.Law.{Boots, reset_moment}
-use Rattle.ijvm_simulation.specs.Verified.{Loads}
+use Rattle.ijvm_simulation.specs.Prelude.{Origin, IsMemory, IsMapEnd, StackLaw, Moment, pass, Boots, reset_moment, Loads}
 use Rattle.ijvm_simulation.proofs.Places.{Place, place_at, place_on}
-use Rattle.verifier_facts.specs.Accepted.{VerifiedView}
+use Rattle.verifier_facts.specs.Prelude.{VerifiedView}
 
 module _ (program : List ℕ) (has : Known program) (o : Origin) (v : VerifiedView) (loads : Loads v o) (law : StackLaw) (input : List ℕ) where
   abbrev start : Moment Micro

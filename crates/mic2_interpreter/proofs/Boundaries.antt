@@ -2,29 +2,19 @@
 use Rattle.std.proofs.Common.{◌≡◌, ℕ, zero, suc, ◌+◌, ◌<◌, ◌≤◌, ◌++◌, Some, None, true, false, List, [], ◌∷◌, length, arith, ◌∙◌, ap, sym, subst}
 use Rattle.std.specs.Prelude.{nat_lt, nat_le, ◌==◌}
 use Rattle.std.proofs.lemmas.Bool.Decides.{nat_tests}
-use Rattle.console_port.specs.World.{World, StackLimit, byte_in}
-use Rattle.mic_words.specs.Arithmetic.{wrap}
-use Rattle.ijvm_meaning.specs.Frames.{State}
-use Rattle.mic_datapath.specs.Memory.{memory_refusal}
-use Rattle.mic2_fetch_unit.specs.Place.{StandsAt}
-use Rattle.mic2_datapath.specs.Micro.{Micro}
-use Rattle.mic2_datapath.specs.Microstep.{demand}
-use Rattle.mic2_datapath.specs.Mic2.{mic2_meaning}
+use Rattle.console_port.specs.Prelude.{World, StackLimit, byte_in}
+use Rattle.mic_words.specs.Prelude.{wrap}
+use Rattle.ijvm_meaning.specs.Prelude.{State, timing_of, cost}
+use Rattle.mic_datapath.specs.Prelude.{memory_refusal}
+use Rattle.mic2_fetch_unit.specs.Prelude.{StandsAt, unit_at, QueueLaw, Held, AtLeast, IsHeld, Bounds, is_enough}
+use Rattle.mic2_datapath.specs.Prelude.{Micro, demand, mic2_meaning}
 use Rattle.mic_words.specs.declared.machine.Machine.TheVariants.{Mic2}
 use Rattle.ijvm_instr.specs.declared.instr.Instr.{Instr}
-use Rattle.ijvm_meaning.specs.Cost.{timing_of, cost}
-use Rattle.verifier_facts.specs.Accepted.{VerifiedView}
-use Rattle.mic2_interpreter.specs.Stands.{Stands}
-use Rattle.mic2_interpreter.specs.Stalls.{MovesWithStalls, OverrunsWithStalls}
+use Rattle.verifier_facts.specs.Prelude.{VerifiedView}
+use Rattle.mic2_interpreter.specs.Prelude.{Stands, MovesWithStalls, OverrunsWithStalls}
 use Rattle.mic2_interpreter.proofs.Store.{shipped, Known}
-use Rattle.mic2_fetch_unit.specs.Units.{unit_at}
-use Rattle.mic2_fetch_unit.specs.QueueLaw.{QueueLaw}
-use Rattle.mic2_fetch_unit.specs.Held.{Held, AtLeast, IsHeld, Bounds, is_enough}
 use Rattle.mic2_interpreter.proofs.Guided.{Turn, Goes, Short, standing, moment_of, settled_by, text_result, clocked, IsSmooth, Arrives, pass-clocked, outcome_is, step-refused}
-use Rattle.ijvm_simulation.specs.Stands.{Origin, RegistersStand}
-use Rattle.ijvm_simulation.specs.Passes.{Moment, is_inside, pass}
-use Rattle.ijvm_simulation.specs.Verified.{Loads, IsNext}
-use Rattle.ijvm_simulation.specs.Law.{ShowsState, HasWord}
+use Rattle.ijvm_simulation.specs.Prelude.{Origin, RegistersStand, Moment, is_inside, pass, Loads, IsNext, ShowsState, HasWord}
 use Rattle.ijvm_simulation.proofs.Stack.{law}
 use Rattle.ijvm_simulation.proofs.Places.{Counts, counts}
 

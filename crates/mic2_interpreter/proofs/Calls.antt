@@ -2,24 +2,19 @@
 use Rattle.std.proofs.Common.{◌≡◌, ℕ, ◌+◌, ◌*◌, Bool, true, false, ◌==◌, ◌%◌, List, [], ◌∷◌, length, refl, arith, sym, ◌∙◌, ap, inl, inr, add-zero}
 use Rattle.std.specs.Prelude.{slice_index, if◌then◌else◌}
 use Rattle.std.proofs.lemmas.Bool.{cases_Bool}
-use Rattle.mic_words.specs.Arithmetic.{plus, next}
-use Rattle.console_port.specs.World.{read_value, byte_in}
+use Rattle.mic_words.specs.Prelude.{plus, next}
+use Rattle.console_port.specs.Prelude.{read_value, byte_in}
 use Rattle.ijvm_instr.specs.declared.instr.Instr.TheVariants.{Ireturn, Invokevirtual}
-use Rattle.ijvm_simulation.specs.Verified.{Loads, IsNext}
+use Rattle.ijvm_simulation.specs.Prelude.{Loads, IsNext, Origin, Moment, Went, Overran, IsCall}
 use Rattle.ijvm_simulation.proofs.Places.{place_at, place_on, pair_after, entry_at}
 use Rattle.ijvm_simulation.proofs.Calling.{returned, named, called, cut_off}
-use Rattle.mic2_fetch_unit.specs.Held.{Waits, WaitsLate, WaitsOn}
+use Rattle.mic2_fetch_unit.specs.Prelude.{Waits, WaitsLate, WaitsOn}
 use Rattle.ijvm_instr.specs.declared.instr.Instr.{Instr}
-use Rattle.ijvm_meaning.specs.Frames.{State}
-use Rattle.verifier_facts.specs.Accepted.{VerifiedView}
-use Rattle.mic2_datapath.specs.Micro.{Micro}
-use Rattle.ijvm_simulation.specs.Stands.{Origin}
-use Rattle.ijvm_simulation.specs.Passes.{Moment}
-use Rattle.ijvm_simulation.specs.Outcomes.{Went, Overran}
-use Rattle.ijvm_simulation.specs.Groups.{IsCall}
+use Rattle.ijvm_meaning.specs.Prelude.{State, timing_of, cost}
+use Rattle.verifier_facts.specs.Prelude.{VerifiedView}
+use Rattle.mic2_datapath.specs.Prelude.{Micro}
 use Rattle.mic_words.specs.declared.machine.Machine.TheVariants.{Mic2}
-use Rattle.ijvm_meaning.specs.Cost.{timing_of, cost}
-use Rattle.mic2_interpreter.specs.Stalls.{MovesWithStalls, OverrunsWithStalls, TakesWithStalls, stalls_of}
+use Rattle.mic2_interpreter.specs.Prelude.{MovesWithStalls, OverrunsWithStalls, TakesWithStalls, stalls_of}
 use Rattle.mic2_interpreter.proofs.Store.{Known}
 use Rattle.mic2_interpreter.proofs.Guided.{Turn, Goes, Lacks}
 use Rattle.mic2_interpreter.proofs.Boundaries.{At, at, arrives, overruns, steps, at_boundary}

@@ -2,16 +2,11 @@
 use Rattle.std.proofs.Common.{ℕ, List, refl, ◌∙◌, inl}
 use Rattle.mic_words.specs.declared.machine.Machine.TheVariants.{Mic2}
 use Rattle.ijvm_instr.specs.declared.instr.Instr.TheVariants.{Err, Halt}
-use Rattle.ijvm_meaning.specs.Frames.{State}
-use Rattle.ijvm_meaning.specs.Cost.{timing_of, cost}
-use Rattle.verifier_facts.specs.Accepted.{VerifiedView}
-use Rattle.mic2_datapath.specs.Micro.{Micro}
-use Rattle.mic2_datapath.specs.Mic2.{mic2_meaning}
-use Rattle.ijvm_simulation.specs.Stands.{Origin}
-use Rattle.ijvm_simulation.specs.Passes.{Moment}
-use Rattle.ijvm_simulation.specs.Verified.{Fine, IsNext}
-use Rattle.ijvm_simulation.specs.Law.{Stops, HaltsAndErrs}
-use Rattle.mic2_interpreter.specs.Stands.{Stands}
+use Rattle.ijvm_meaning.specs.Prelude.{State, timing_of, cost}
+use Rattle.verifier_facts.specs.Prelude.{VerifiedView}
+use Rattle.mic2_datapath.specs.Prelude.{Micro, mic2_meaning}
+use Rattle.ijvm_simulation.specs.Prelude.{Origin, Moment, Fine, IsNext, Stops, HaltsAndErrs}
+use Rattle.mic2_interpreter.specs.Prelude.{Stands}
 
 -- MPC is the opcode, so the run ends at the boundary
 module _ (program : List ℕ) (o : Origin) (v : VerifiedView) where

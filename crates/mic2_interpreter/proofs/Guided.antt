@@ -2,10 +2,9 @@
 use Rattle.std.proofs.Common.{◌≢◌, get_or-set_other, length-set, ap, ap₂, ◌∙◌, ◌≡◌, ℕ, zero, suc, ◌+◌, ◌*◌, ◌<◌, ◌≤◌, Option, Some, None, Bool, true, false, List, [], ◌∷◌, length, arith, refl, sym, subst, add-zero}
 use Rattle.std.specs.Prelude.{slice_set, nat_lt, if◌then◌else◌}
 use Rattle.std.proofs.lemmas.Bool.Decides.{nat_tests}
-use Rattle.mic_words.specs.Arithmetic.{wrap, signed_byte, signed_pair}
-use Rattle.console_port.specs.World.{World, Refusal}
-use Rattle.micro_word.specs.Words.{is_byte, is_pair}
-use Rattle.micro_word.specs.Operation.{alu, shifted}
+use Rattle.mic_words.specs.Prelude.{wrap, signed_byte, signed_pair}
+use Rattle.console_port.specs.Prelude.{World, Refusal}
+use Rattle.micro_word.specs.Prelude.{is_byte, is_pair, alu, shifted}
 use Rattle.micro_word.specs.declared.statement.BusSource.{BusSource}
 use Rattle.micro_word.specs.declared.statement.BusSource.TheVariants as sources
 use Rattle.micro_word.specs.declared.statement.Mem.{Mem}
@@ -14,23 +13,13 @@ use Rattle.micro_word.specs.declared.statement.Part.{Part}
 use Rattle.micro_word.specs.declared.statement.Placed.{Placed}
 use Rattle.micro_word.specs.declared.statement.PlacedNext.{PlacedNext}
 use Rattle.micro_word.specs.declared.statement.PlacedNext.TheVariants.{Dispatch}
-use Rattle.mic_clock.specs.Meaning.{Outcome, Done, Refused}
+use Rattle.mic_clock.specs.Prelude.{Outcome, Done, Refused, number_of}
 use Rattle.mic_datapath.specs.declared.ports.Ports.{Ports}
-use Rattle.mic_datapath.specs.Registers.{NineRegisters, on_bus, loaded, ports_given}
-use Rattle.mic_datapath.specs.Memory.{written, sampled, word_under_way, memory_refusal, first_refusal, outcome}
-use Rattle.mic_datapath.specs.Next.{next_address}
-use Rattle.mic2_fetch_unit.specs.FetchUnit.{Prefetch, edge, edge_refusal}
-use Rattle.mic2_datapath.specs.Micro.{Micro}
-use Rattle.mic2_datapath.specs.Microstep.{operand_bytes, dispatch_bytes, demand, is_stalled, stalled, registers_in, byte_at, fetched, source, result_of, advanced, jumps, unit_after, unit_refusal, is_to_instruction, next_micro, clock, world_after, step_if, microstep}
-use Rattle.mic_clock.specs.Run.{number_of}
-use Rattle.mic2_datapath.specs.Mic2.{mic2_meaning, step_of_word, driven, driven_by, stalled_drive}
-use Rattle.ijvm_simulation.specs.Stands.{IsMemory}
-use Rattle.ijvm_simulation.specs.Passes.{Moment, is_inside, outcome_at, stalls_at, last, onward, pass}
-use Rattle.ijvm_simulation.specs.Guesses.{address_behind, left_of}
+use Rattle.mic_datapath.specs.Prelude.{NineRegisters, on_bus, loaded, ports_given, written, sampled, word_under_way, memory_refusal, first_refusal, outcome, next_address}
+use Rattle.mic2_fetch_unit.specs.Prelude.{Prefetch, edge, edge_refusal, unit_at, have_after, text_from, QueueLaw, Held, Jumped, IsHeld, is_enough, held_after, Lack, IsWait, held_waited}
+use Rattle.mic2_datapath.specs.Prelude.{Micro, operand_bytes, dispatch_bytes, demand, is_stalled, stalled, registers_in, byte_at, fetched, source, result_of, advanced, jumps, unit_after, unit_refusal, is_to_instruction, next_micro, clock, world_after, step_if, microstep, mic2_meaning, step_of_word, driven, driven_by, stalled_drive}
+use Rattle.ijvm_simulation.specs.Prelude.{IsMemory, Moment, is_inside, outcome_at, stalls_at, last, onward, pass, address_behind, left_of}
 use Rattle.mic2_interpreter.proofs.Store.{shipped, Known}
-use Rattle.mic2_fetch_unit.specs.Units.{unit_at, have_after, text_from}
-use Rattle.mic2_fetch_unit.specs.QueueLaw.{QueueLaw}
-use Rattle.mic2_fetch_unit.specs.Held.{Held, Jumped, IsHeld, is_enough, held_after, Lack, IsWait, held_waited}
 
 -- In a step of a plan the word at MPC goes on, or it stalls.
 pub data Turn : Type 0 where

@@ -1,28 +1,23 @@
 -- What each instruction takes of the machine that uses the operands, a local, a constant or the console.
 use Rattle.std.proofs.Common.{ℕ, ◌+◌, List, [], ◌∷◌, refl, arith, sym, ◌∙◌, ap, inl, inr, add-zero, ◌≡◌}
 use Rattle.std.specs.Prelude.{bit_and, bit_or}
-use Rattle.mic_words.specs.Arithmetic.{plus, minus, next, signed_byte}
-use Rattle.console_port.specs.World.{byte_in}
+use Rattle.mic_words.specs.Prelude.{plus, minus, next, signed_byte}
+use Rattle.console_port.specs.Prelude.{byte_in}
 use Rattle.ijvm_instr.specs.declared.instr.Instr.TheVariants.{Nop, Bipush, Pop, Dup, Swap, Iadd, Isub, Iand, Ior}
 use Rattle.ijvm_instr.specs.declared.instr.Instr.TheVariants.{LdcW, Iload, Istore, Iinc, WideIload, WideIstore, WideIinc, In, Out}
-use Rattle.ijvm_simulation.specs.Verified.{Loads, IsNext}
+use Rattle.ijvm_simulation.specs.Prelude.{Loads, IsNext, Origin, Moment, Went, Overran, IsOfOperands, IsOfLocals, IsOfConsole}
 use Rattle.ijvm_simulation.proofs.Leaves.{stays, bipush, dup, popped, operated, swapped, push_full, constant_pushed}
 use Rattle.ijvm_simulation.proofs.Leaves.{local_pushed, constant_full, local_full, stored, changed, taken_pushed, taken_full, gives}
 use Rattle.ijvm_instr.specs.declared.instr.Instr.{Instr}
-use Rattle.ijvm_meaning.specs.Frames.{State}
-use Rattle.verifier_facts.specs.Accepted.{VerifiedView}
-use Rattle.mic2_datapath.specs.Micro.{Micro}
-use Rattle.ijvm_simulation.specs.Stands.{Origin}
-use Rattle.ijvm_simulation.specs.Passes.{Moment}
-use Rattle.ijvm_simulation.specs.Outcomes.{Went, Overran}
-use Rattle.ijvm_simulation.specs.Groups.{IsOfOperands, IsOfLocals, IsOfConsole}
+use Rattle.ijvm_meaning.specs.Prelude.{State, timing_of, cost}
+use Rattle.verifier_facts.specs.Prelude.{VerifiedView}
+use Rattle.mic2_datapath.specs.Prelude.{Micro}
 use Rattle.mic_words.specs.declared.machine.Machine.TheVariants.{Mic2}
-use Rattle.ijvm_meaning.specs.Cost.{timing_of, cost}
-use Rattle.mic2_interpreter.specs.Stalls.{MovesWithStalls, OverrunsWithStalls, TakesWithStalls, stalls_of}
+use Rattle.mic2_interpreter.specs.Prelude.{MovesWithStalls, OverrunsWithStalls, TakesWithStalls, stalls_of}
 use Rattle.mic2_interpreter.proofs.Store.{Known}
 use Rattle.mic2_interpreter.proofs.Guided.{Goes}
 use Rattle.mic2_interpreter.proofs.Boundaries.{At, at, arrives, overruns, steps, at_boundary}
-use Rattle.ijvm_instr.specs.Instructions.{word_of}
+use Rattle.ijvm_instr.specs.Prelude.{word_of}
 use Rattle.ijvm_simulation.proofs.Places.{byte_after, pair_after, wide_after, signed_pair_at}
 
 module _ {program : List ℕ} {o : Origin} {v : VerifiedView} {s : State} {q : Moment Micro} (a : At program o v s q) where

@@ -2,27 +2,20 @@
 use Rattle.std.proofs.Common.{ℕ, ◌+◌, Bool, ◌==◌, List, [], ◌∷◌, length, refl, arith, sym, ◌∙◌, ap, inl, inr, add-zero}
 use Rattle.std.specs.Prelude.{if◌then◌else◌}
 use Rattle.std.proofs.lemmas.Bool.{cases_Bool}
-use Rattle.mic_words.specs.Arithmetic.{minus, before, is_negative}
-use Rattle.console_port.specs.World.{read_value, byte_in}
+use Rattle.mic_words.specs.Prelude.{minus, before, is_negative}
+use Rattle.console_port.specs.Prelude.{read_value, byte_in}
 use Rattle.ijvm_instr.specs.declared.instr.Instr.TheVariants.{Ifeq, Iflt, IfIcmpeq, Goto}
-use Rattle.ijvm_instr.specs.Instructions.{target}
-use Rattle.ijvm_meaning.specs.Step.{moved}
-use Rattle.ijvm_simulation.specs.Stack.{jump}
-use Rattle.ijvm_simulation.specs.Verified.{Loads, Fine, IsNext}
+use Rattle.ijvm_instr.specs.Prelude.{target}
+use Rattle.ijvm_meaning.specs.Prelude.{moved, State, timing_of, cost}
+use Rattle.ijvm_simulation.specs.Prelude.{jump, Loads, Fine, IsNext, Origin, Moment, Went, Overran, IsJump}
 use Rattle.ijvm_simulation.proofs.Stack.{law}
 use Rattle.ijvm_simulation.proofs.Places.{jumps}
 use Rattle.ijvm_simulation.proofs.Leaves.{stays, popped, popped_two, branches_by, branches_equal}
 use Rattle.ijvm_instr.specs.declared.instr.Instr.{Instr}
-use Rattle.ijvm_meaning.specs.Frames.{State}
-use Rattle.verifier_facts.specs.Accepted.{VerifiedView}
-use Rattle.mic2_datapath.specs.Micro.{Micro}
-use Rattle.ijvm_simulation.specs.Stands.{Origin}
-use Rattle.ijvm_simulation.specs.Passes.{Moment}
-use Rattle.ijvm_simulation.specs.Outcomes.{Went, Overran}
-use Rattle.ijvm_simulation.specs.Groups.{IsJump}
+use Rattle.verifier_facts.specs.Prelude.{VerifiedView}
+use Rattle.mic2_datapath.specs.Prelude.{Micro}
 use Rattle.mic_words.specs.declared.machine.Machine.TheVariants.{Mic2}
-use Rattle.ijvm_meaning.specs.Cost.{timing_of, cost}
-use Rattle.mic2_interpreter.specs.Stalls.{MovesWithStalls, OverrunsWithStalls, TakesWithStalls, stalls_of}
+use Rattle.mic2_interpreter.specs.Prelude.{MovesWithStalls, OverrunsWithStalls, TakesWithStalls, stalls_of}
 use Rattle.mic2_interpreter.proofs.Store.{Known}
 use Rattle.mic2_interpreter.proofs.Guided.{Goes}
 use Rattle.mic2_interpreter.proofs.Boundaries.{At, at, arrives, steps, at_boundary}

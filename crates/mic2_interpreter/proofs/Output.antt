@@ -1,21 +1,17 @@
 -- The bytes that a microstep of Mic-2 gives come after those given before.
 use Rattle.std.proofs.Common.{ℕ, Bool, true, false, Some, None, Option, List, [], length, sym}
 use Rattle.std.proofs.lemmas.List.{append-nil}
-use Rattle.console_port.specs.World.{World, Refusal}
+use Rattle.console_port.specs.Prelude.{World, Refusal}
 use Rattle.mic_words.specs.declared.machine.Machine.TheVariants as machines
-use Rattle.micro_word.specs.Coding.{statement_of}
+use Rattle.micro_word.specs.Prelude.{statement_of}
 use Rattle.micro_word.specs.declared.statement.Mem.{Mem}
 use Rattle.micro_word.specs.declared.statement.Mem.TheVariants.{Write}
 use Rattle.micro_word.specs.declared.statement.Placed.{Placed}
-use Rattle.mic_datapath.specs.Registers.{ports_given}
+use Rattle.mic_datapath.specs.Prelude.{ports_given, written, sampled, outcome}
 use Rattle.mic_datapath.specs.declared.ports.Ports.{Ports}
-use Rattle.mic_datapath.specs.Memory.{written, sampled, outcome}
-use Rattle.mic2_fetch_unit.specs.FetchUnit.{edge_refusal}
-use Rattle.mic2_datapath.specs.Micro.{Micro}
-use Rattle.mic2_datapath.specs.Microstep.{settled, clock, world_after, refusal, stalled, is_stalled, step_if}
-use Rattle.mic2_datapath.specs.Mic2.{step_of_word}
-use Rattle.ijvm_simulation.specs.Law.{Grows, OnDone}
-use Rattle.ijvm_simulation.specs.Words.{WordLaw}
+use Rattle.mic2_fetch_unit.specs.Prelude.{edge_refusal}
+use Rattle.mic2_datapath.specs.Prelude.{Micro, settled, clock, world_after, refusal, stalled, is_stalled, step_if, step_of_word}
+use Rattle.ijvm_simulation.specs.Prelude.{Grows, OnDone, WordLaw}
 
 stays : (xs : List ℕ) → Grows xs xs
 stays xs = record { more = []; are = sym (append-nil xs) }

@@ -1,3 +1,4 @@
 pub mod Stands
 pub mod Stalls
 pub mod Interpretation
+pub mod Prelude

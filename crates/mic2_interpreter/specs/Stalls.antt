@@ -1,19 +1,15 @@
 -- What an instruction takes of Mic-2 with its stalls: after the boot only a call stalls.
 use Rattle.std.specs.Prelude.{ℕ, ◌%◌, ◌==◌, if◌then◌else◌, List}
 use Rattle.mic_words.specs.declared.machine.Machine.TheVariants.{Mic2}
-use Rattle.ijvm_image.specs.Image.{ImageView}
+use Rattle.ijvm_image.specs.Prelude.{ImageView}
 use Rattle.ijvm_instr.specs.declared.instr.Instr.{Instr}
 use Rattle.ijvm_instr.specs.declared.instr.Instr.TheVariants.{Invokevirtual}
-use Rattle.ijvm_meaning.specs.Frames.{State}
-use Rattle.ijvm_meaning.specs.Cost.{timing_of, entry_of}
-use Rattle.verifier_facts.specs.Accepted.{VerifiedView}
-use Rattle.mic2_datapath.specs.Micro.{Micro}
-use Rattle.mic2_datapath.specs.Mic2.{mic2_meaning}
-use Rattle.ijvm_simulation.specs.Stands.{Origin}
-use Rattle.ijvm_simulation.specs.Passes.{Moment}
+use Rattle.ijvm_meaning.specs.Prelude.{State, timing_of, entry_of}
+use Rattle.verifier_facts.specs.Prelude.{VerifiedView}
+use Rattle.mic2_datapath.specs.Prelude.{Micro, mic2_meaning}
+use Rattle.ijvm_simulation.specs.Prelude.{Origin, Moment, Loads}
 use Rattle.ijvm_simulation.specs.Stalls as simulation
-use Rattle.ijvm_simulation.specs.Verified.{Loads}
-use Rattle.mal_shipped.specs.Shipped.{HasShipped}
+use Rattle.mal_shipped.specs.Prelude.{HasShipped}
 use Rattle.mic2_interpreter.specs.Stands.{Stands}
 
 -- The stalls of an instruction: one of a call, or two where the method's entry is the last byte of a word.

@@ -1,8 +1,8 @@
 //! Mic-2 as an interpreter of IJVM.
 
 ghost use Rattle.std.specs.Prelude.{◌≡◌, ◌≤◌, ◌^◌, Some, IfOk, OnErr, IsSome};
-ghost use Rattle.console_port.specs.Streams.{SinkGoesOn};
-ghost use Rattle.ijvm_simulation.specs.Answers.{RunsAsDefined, IsCutWhereReadFails, IsCutWhereWriteFails, EndsByCause};
+ghost use Rattle.console_port.specs.Prelude.{SinkGoesOn};
+ghost use Rattle.ijvm_simulation.specs.Prelude.{RunsAsDefined, IsCutWhereReadFails, IsCutWhereWriteFails, EndsByCause};
 ghost use Rattle.mic2_interpreter.specs.Interpretation.{mic2};
 
 use crate::laws::stalls_law;
@@ -24,8 +24,8 @@ pub struct Mic2Interpreter;
 
 impl Interpreter for Mic2Interpreter {
     ghost use Rattle.mic_words.specs.declared.machine.Machine.TheVariants as machines;
-    ghost use Rattle.ijvm_meaning.specs.Cost.{timing_of};
-    ghost use Rattle.mal_shipped.specs.Shipped.{HasShipped};
+    ghost use Rattle.ijvm_meaning.specs.Prelude.{timing_of};
+    ghost use Rattle.mal_shipped.specs.Prelude.{HasShipped};
 
     type Machine = Mic2;
 

@@ -1,6 +1,6 @@
 //! What each instruction takes of Mic-2, with its stalls.
 
-ghost use Rattle.ijvm_simulation.specs.Stalls.{RunsStall, LimitsStall};
+ghost use Rattle.ijvm_simulation.specs.Prelude.{RunsStall, LimitsStall};
 ghost use Rattle.mic2_interpreter.specs.Stalls.{GroupStalls, BootStallsOnce, stalls_of};
 ghost use Rattle.mic2_interpreter.specs.Interpretation.{mic2};
 

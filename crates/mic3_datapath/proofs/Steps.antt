@@ -2,31 +2,22 @@
 use Rattle.std.proofs.Common.{arith, ◌≡◌, ℕ, ◌≤◌, Bool, true, false, if◌then◌else◌, List, Option, Some, None, Result, Ok, Err, length, refl, sym, ap, ap₂, ◌∙◌}
 use Rattle.std.specs.Prelude.{⊤, IsErrAnd, OnErr, nat_lt, ◌||◌}
 use Rattle.std.proofs.lemmas.Bool.Decides.{nat_tests}
-use Rattle.console_port.specs.World.{World, Refusal}
-use Rattle.console_port.specs.Bus.{ChangesOnly, IsLed, refused_by}
-use Rattle.console_port.specs.View.{BusView}
+use Rattle.console_port.specs.Prelude.{World, Refusal, ChangesOnly, IsLed, refused_by, BusView}
 use Rattle.console_port.specs.declared.fault.BusFault.{BusFault}
 use Rattle.mic_clock.specs.declared.buses.Computed.{Computed as Values}
 use Rattle.mic_clock.specs.declared.buses.Drive.{Drive}
 use Rattle.mic_words.specs.declared.machine.Machine.TheVariants as machines
-use Rattle.micro_word.specs.Coding.{statement_of}
+use Rattle.micro_word.specs.Prelude.{statement_of}
 use Rattle.micro_word.specs.declared.statement.Placed.{Placed}
-use Rattle.mic_clock.specs.Edge.{IsEdge, LetsBytesWait}
-use Rattle.mic_clock.specs.Meaning.{Done, refusal_in}
-use Rattle.mic_datapath.specs.Access.{AtConsole, HasAccessed, IsTransfer, LetsBytesWait as LetsWait}
+use Rattle.mic_clock.specs.Prelude.{IsEdge, LetsBytesWait, Done, refusal_in}
+use Rattle.mic_datapath.specs.Access.{LetsBytesWait as LetsWait}
+use Rattle.mic_datapath.specs.Prelude.{AtConsole, HasAccessed, IsTransfer, Asks, answered, second_clear, first_refusal, memory_refusal, word_under_way, written, sampled, outcome, NineRegisters, ports_given}
 use Rattle.mic_datapath.specs.Edges as edges
-use Rattle.mic_datapath.specs.Edges.{Asks, answered, second_clear}
-use Rattle.mic_datapath.specs.Memory.{first_refusal, memory_refusal, word_under_way, written, sampled, outcome}
-use Rattle.mic_datapath.specs.Registers.{NineRegisters, ports_given}
 use Rattle.mic_datapath.specs.declared.ports.Ports.{Ports}
-use Rattle.mic2_fetch_unit.specs.FetchUnit.{sample_refusal}
-use Rattle.mic2_datapath.specs.Microstep.{access_refusal, demand, next_micro, unit_after, unit_refusal, unit_samples}
+use Rattle.mic2_fetch_unit.specs.Prelude.{sample_refusal}
+use Rattle.mic2_datapath.specs.Prelude.{access_refusal, demand, next_micro, unit_after, unit_refusal, unit_samples}
 use Rattle.mic3_datapath.specs.declared.pipeline.Asked.{Asked}
-use Rattle.mic3_datapath.specs.Pipeline.{Pipeline, Issued, Computed}
-use Rattle.mic3_datapath.specs.Cycle.{begins, clock, computed, computed_in, cycle, cycle_with, is_held_up, is_jump_coming, issued, issued_by, issued_in, mem_in, mpc_after, refusal, settled, bytes_leaving, waits, word_after, world_after}
-use Rattle.mic3_datapath.specs.Mic3.{driven, driven_by, mic3_meaning, step_of_word, values_of}
-use Rattle.mic3_datapath.specs.Slots.{HasMoved, IsAsked, edged, word_held}
-use Rattle.mic3_datapath.specs.View.{buses_before, values_by}
+use Rattle.mic3_datapath.specs.Prelude.{Pipeline, Issued, Computed, begins, clock, computed, computed_in, cycle, cycle_with, is_held_up, is_jump_coming, issued, issued_by, issued_in, mem_in, mpc_after, refusal, settled, bytes_leaving, waits, word_after, world_after, driven, driven_by, mic3_meaning, step_of_word, values_of, HasMoved, IsAsked, edged, word_held, buses_before, values_by}
 
 abbrev refusal_on : ℕ → Asked → Option Refusal
 refusal_on n q = access_refusal n q.mem q.ports.mar q.at

@@ -1,8 +1,7 @@
 -- The cycle of Mic-3 (chapter 4; when a statement waits, and the order of events at the clock edge, are this profile's).
 -- A statement issues in one cycle, computes in the next and retires in the third: three statements are under way at a time.
 use Rattle.std.specs.Prelude.{ℕ, ◌||◌, ◌&&◌, Bool, true, false, nat_lt, if◌then◌else◌, length, Option, Some, None, is_some}
-use Rattle.micro_word.specs.Destinations.{loads}
-use Rattle.micro_word.specs.Operation.{alu, shifted}
+use Rattle.micro_word.specs.Prelude.{loads, alu, shifted}
 use Rattle.micro_word.specs.declared.destination.Destination.TheVariants as registers
 use Rattle.micro_word.specs.declared.statement.BusSource.{BusSource}
 use Rattle.micro_word.specs.declared.statement.BusSource.TheVariants as sources
@@ -12,14 +11,11 @@ use Rattle.micro_word.specs.declared.statement.PlacedNext.{PlacedNext}
 use Rattle.micro_word.specs.declared.statement.PlacedNext.TheVariants as nexts
 use Rattle.micro_word.specs.declared.statement.Part.{Part}
 use Rattle.micro_word.specs.declared.statement.Placed.{Placed}
-use Rattle.console_port.specs.World.{World, Refusal}
-use Rattle.mic_clock.specs.Meaning.{Outcome}
-use Rattle.mic_datapath.specs.Access.{is_read}
-use Rattle.mic_datapath.specs.Memory.{written, sampled, word_under_way, memory_refusal, first_refusal, outcome}
-use Rattle.mic_datapath.specs.Next.{next_address}
-use Rattle.mic_datapath.specs.Registers.{NineRegisters, loaded, ports_given}
-use Rattle.mic2_fetch_unit.specs.FetchUnit.{Prefetch}
-use Rattle.mic2_datapath.specs.Microstep.{advanced, byte_at, demand, is_to_instruction, jumps, next_micro, operand_bytes, registers_in, source, unit_after, unit_refusal}
+use Rattle.console_port.specs.Prelude.{World, Refusal}
+use Rattle.mic_clock.specs.Prelude.{Outcome}
+use Rattle.mic_datapath.specs.Prelude.{is_read, written, sampled, word_under_way, memory_refusal, first_refusal, outcome, next_address, NineRegisters, loaded, ports_given}
+use Rattle.mic2_fetch_unit.specs.Prelude.{Prefetch}
+use Rattle.mic2_datapath.specs.Prelude.{advanced, byte_at, demand, is_to_instruction, jumps, next_micro, operand_bytes, registers_in, source, unit_after, unit_refusal}
 use Rattle.mic3_datapath.specs.Pipeline.{Pipeline, Issued, Computed}
 
 -- Hazards: why the statement at MPC waits. They depend on the statements in the operand slot (o) and in the result slot (r).

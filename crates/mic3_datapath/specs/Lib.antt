@@ -3,3 +3,4 @@ pub mod Cycle
 pub mod Mic3
 pub mod Slots
 pub mod View
+pub mod Prelude

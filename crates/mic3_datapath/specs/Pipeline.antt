@@ -2,7 +2,7 @@
 -- bus, each with the statement that filled them.
 use Rattle.std.specs.Prelude.{ℕ, Option}
 use Rattle.micro_word.specs.declared.statement.Placed.{Placed}
-use Rattle.mic2_datapath.specs.Micro.{Micro}
+use Rattle.mic2_datapath.specs.Prelude.{Micro}
 
 -- a statement that was issued, the words on its sides A and B, and the byte that it dispatches to, if it does
 pub record Issued : Type 0 where

@@ -1,10 +1,9 @@
 -- What contracts see of a Mic-3.
 use Rattle.std.specs.Prelude.{ℕ, Bool, Option, Some, None}
 use Rattle.mic_clock.specs.declared.buses.Computed.{Computed as Values}
-use Rattle.mic_clock.specs.Meaning.{Phase}
-use Rattle.mic_clock.specs.Run.{Buses}
-use Rattle.mic_datapath.specs.Stage.{phase_of}
-use Rattle.mic2_datapath.specs.Mic2.{flagged, stalled_value}
+use Rattle.mic_clock.specs.Prelude.{Phase, Buses}
+use Rattle.mic_datapath.specs.Prelude.{phase_of}
+use Rattle.mic2_datapath.specs.Prelude.{flagged, stalled_value}
 use Rattle.mic3_datapath.specs.Mic3.{driven_by}
 use Rattle.mic3_datapath.specs.Pipeline.{Pipeline, Computed}
 use Rattle.mic3_datapath.specs.Slots.{pipeline_in}

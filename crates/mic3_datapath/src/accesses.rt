@@ -1,9 +1,9 @@
 //! The accesses of a cycle: their addresses are tested before anything is changed.
 
 ghost use Rattle.std.specs.Prelude.{◌≡◌, None, IfNone, IfSome, length};
-ghost use Rattle.console_port.specs.Bus.{ChangesOnly};
-ghost use Rattle.mic_datapath.specs.Access.{IsTransfer, LeadsInside};
-ghost use Rattle.mic2_datapath.specs.Microstep.{access_refusal};
+ghost use Rattle.console_port.specs.Prelude.{ChangesOnly};
+ghost use Rattle.mic_datapath.specs.Prelude.{IsTransfer, LeadsInside};
+ghost use Rattle.mic2_datapath.specs.Prelude.{access_refusal};
 
 use console_port::Bus;
 use mic_datapath::{Ports, read_alone, write_alone};

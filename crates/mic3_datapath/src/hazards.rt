@@ -1,8 +1,7 @@
 //! Why a microinstruction is not issued yet: a value that it needs is under way, or a jump is.
 
 ghost use Rattle.std.specs.Prelude.{◌≡◌, ◌<◌};
-ghost use Rattle.mic2_datapath.specs.Microstep.{is_to_instruction, jumps};
-ghost use Rattle.mic2_datapath.specs.Spelled.{spelled};
+ghost use Rattle.mic2_datapath.specs.Prelude.{is_to_instruction, jumps, spelled};
 ghost use Rattle.mic3_datapath.specs.Cycle.{awaits, is_branch, is_destination, is_held_up, is_jump_coming, is_turning, is_word_coming, names_mdr, names_one_of};
 ghost use Rattle.mic3_datapath.specs.Slots.{computing, retiring};
 

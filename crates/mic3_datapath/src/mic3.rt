@@ -1,10 +1,9 @@
 //! The machine: its four calls, which are one cycle of the pipeline.
 
 ghost use Rattle.std.specs.Prelude.{◌≡◌, refl};
-ghost use Rattle.mic_clock.specs.Meaning.{Driven, AtEdge};
-ghost use Rattle.mic_datapath.specs.Stage.{phase_of};
-ghost use Rattle.mic2_datapath.specs.Latches.{AreLatches};
-ghost use Rattle.mic2_datapath.specs.Spelled.{spelled};
+ghost use Rattle.mic_clock.specs.Prelude.{Driven, AtEdge};
+ghost use Rattle.mic_datapath.specs.Prelude.{phase_of};
+ghost use Rattle.mic2_datapath.specs.Prelude.{AreLatches, spelled};
 ghost use Rattle.mic3_datapath.specs.Cycle.{issued};
 ghost use Rattle.mic3_datapath.specs.Slots.{HasComputed, in_operand, pipeline_in};
 
@@ -39,8 +38,8 @@ pub struct Mic3 {
 }
 
 impl Mic3 {
-    ghost use Rattle.mic_clock.specs.Meaning.{AtRest};
-    ghost use Rattle.mic2_datapath.specs.Mic2.{at_zero};
+    ghost use Rattle.mic_clock.specs.Prelude.{AtRest};
+    ghost use Rattle.mic2_datapath.specs.Prelude.{at_zero};
     ghost use Rattle.mic3_datapath.specs.Mic3.{initial as initial_of};
     ghost use Rattle.mic3_datapath.specs.View.{pipeline_of, phase};
 

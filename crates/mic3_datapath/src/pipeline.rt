@@ -1,17 +1,12 @@
 //! What Mic-3 keeps between cycles.
 
 ghost use Rattle.std.specs.Prelude.{◌≡◌, ◌<◌, ◌≤◌, ℕ, OnOk, OnErr, length, slice_index, true, false};
-ghost use Rattle.console_port.specs.Bus.{FailsAsRefused};
-ghost use Rattle.console_port.specs.Streams.{StreamsGoOn};
+ghost use Rattle.console_port.specs.Prelude.{FailsAsRefused, StreamsGoOn};
 ghost use Rattle.mic_words.specs.declared.machine.Machine.TheVariants.{Mic2};
-ghost use Rattle.micro_word.specs.Coding.{statement_of};
-ghost use Rattle.mic_clock.specs.Edge.{IsEdgeInside, IsEdgeOver};
-ghost use Rattle.mic_datapath.specs.Places.{registers_at};
-ghost use Rattle.mic_datapath.specs.Registers.{ports_given};
-ghost use Rattle.mic2_datapath.specs.Latches.{AreLatches};
-ghost use Rattle.mic2_datapath.specs.Mic2.{flagged};
-ghost use Rattle.mic2_datapath.specs.Microstep.{demand, past, unit_after};
-ghost use Rattle.mic2_datapath.specs.Spelled.{spelled};
+ghost use Rattle.micro_word.specs.Prelude.{statement_of};
+ghost use Rattle.mic_clock.specs.Prelude.{IsEdgeInside, IsEdgeOver};
+ghost use Rattle.mic_datapath.specs.Prelude.{registers_at, ports_given};
+ghost use Rattle.mic2_datapath.specs.Prelude.{AreLatches, flagged, demand, past, unit_after, spelled};
 ghost use Rattle.mic3_datapath.specs.Cycle.{begins, bytes_leaving, computed, dispatched_from, from_computed, from_issued, from_retired, is_jump_coming, issued, mem_in, mpc_after, retired, settled, waits};
 ghost use Rattle.mic3_datapath.specs.Mic3.{driven_by, initial as initial_of, mic3_meaning, values_of};
 ghost use Rattle.mic3_datapath.specs.Slots.{HasMoved, IsAsked, edged, in_operand, in_result, pipeline_in, retired_in, retiring, unit_refused, word_held};

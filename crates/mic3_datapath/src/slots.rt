@@ -2,7 +2,7 @@
 
 ghost use Rattle.std.specs.Prelude.{◌≡◌, None};
 ghost use Rattle.mic_words.specs.declared.machine.Machine.TheVariants.{Mic2};
-ghost use Rattle.micro_word.specs.Coding.{statement_of};
+ghost use Rattle.micro_word.specs.Prelude.{statement_of};
 
 use mic2_datapath::Control;
 

@@ -1,23 +1,17 @@
 -- From the reset of a Mic-3 to its first boundary.
 use Rattle.std.proofs.Common.{◌≡◌, ℕ, List, [], ◌∷◌, length, refl, arith, ◌∙◌, ap}
-use Rattle.mic_words.specs.Arithmetic.{plus}
-use Rattle.console_port.specs.World.{byte_in}
-use Rattle.mic3_datapath.specs.Mic3.{mic3_meaning}
-use Rattle.mic3_interpreter.specs.Timing.{mic3_timing}
-use Rattle.mic3_datapath.specs.Pipeline.{Pipeline}
-use Rattle.ijvm_meaning.specs.Frames.{start_of}
-use Rattle.mic3_interpreter.specs.Stands.{Stands}
+use Rattle.mic_words.specs.Prelude.{plus}
+use Rattle.console_port.specs.Prelude.{byte_in}
+use Rattle.mic3_datapath.specs.Prelude.{mic3_meaning, Pipeline}
+use Rattle.mic3_interpreter.specs.Prelude.{mic3_timing, Stands}
+use Rattle.ijvm_meaning.specs.Prelude.{start_of}
 use Rattle.mic3_interpreter.proofs.Store.{Known}
-use Rattle.mic2_fetch_unit.specs.Held.{Jumped, WaitsFirst}
+use Rattle.mic2_fetch_unit.specs.Prelude.{Jumped, WaitsFirst}
 use Rattle.mic3_interpreter.proofs.Guided.{Issues, HeldUp, Lacks, Short, moment_of, clocked, Arrives, IsSmooth, pass-clocked}
 use Rattle.mic3_interpreter.proofs.Boundaries.{at_boundary, stands_at}
-use Rattle.ijvm_simulation.specs.Stands.{Origin, IsMemory}
-use Rattle.ijvm_simulation.specs.Stack.{IsMapEnd, StackLaw}
-use Rattle.ijvm_simulation.specs.Passes.{Moment, pass}
-use Rattle.ijvm_simulation.specs.Law.{Boots, reset_moment}
-use Rattle.ijvm_simulation.specs.Verified.{Loads}
+use Rattle.ijvm_simulation.specs.Prelude.{Origin, IsMemory, IsMapEnd, StackLaw, Moment, pass, Boots, reset_moment, Loads}
 use Rattle.ijvm_simulation.proofs.Places.{Place, place_at, place_on}
-use Rattle.verifier_facts.specs.Accepted.{VerifiedView}
+use Rattle.verifier_facts.specs.Prelude.{VerifiedView}
 
 module _ (program : List ℕ) (has : Known program) (o : Origin) (v : VerifiedView) (loads : Loads v o) (law : StackLaw) (input : List ℕ) where
   abbrev start : Moment Pipeline

@@ -2,31 +2,21 @@
 use Rattle.std.proofs.Common.{◌++◌, ◌≡◌, ℕ, ◌+◌, ◌<◌, ◌≤◌, true, false, Some, None, List, [], ◌∷◌, length, arith, sym, ◌∙◌, ap, subst}
 use Rattle.std.specs.Prelude.{nat_le, nat_lt, ◌==◌}
 use Rattle.std.proofs.lemmas.Bool.Decides.{nat_tests}
-use Rattle.mic_words.specs.Arithmetic.{wrap}
-use Rattle.console_port.specs.World.{World, StackLimit, byte_in}
-use Rattle.ijvm_meaning.specs.Frames.{State}
-use Rattle.mic2_fetch_unit.specs.Place.{StandsAt}
-use Rattle.mic2_datapath.specs.Micro.{Micro}
-use Rattle.mic3_datapath.specs.Pipeline.{Pipeline}
-use Rattle.mic3_datapath.specs.Mic3.{mic3_meaning}
-use Rattle.mic3_interpreter.specs.Stands.{Stands}
+use Rattle.mic_words.specs.Prelude.{wrap}
+use Rattle.console_port.specs.Prelude.{World, StackLimit, byte_in}
+use Rattle.ijvm_meaning.specs.Prelude.{State, cost}
+use Rattle.mic2_fetch_unit.specs.Prelude.{StandsAt, unit_at, QueueLaw, Held, AtLeast, IsHeld, Bounds}
+use Rattle.mic2_datapath.specs.Prelude.{Micro}
+use Rattle.mic3_datapath.specs.Prelude.{Pipeline, mic3_meaning, mem_in, settled}
+use Rattle.mic3_interpreter.specs.Prelude.{Stands, mic3_timing}
 use Rattle.mic3_interpreter.proofs.Store.{shipped, Known}
-use Rattle.mic2_fetch_unit.specs.Units.{unit_at}
-use Rattle.mic2_fetch_unit.specs.QueueLaw.{QueueLaw}
-use Rattle.mic2_fetch_unit.specs.Held.{Held, AtLeast, IsHeld, Bounds}
 use Rattle.mic3_interpreter.proofs.Guided.{Short, Turn, standing, moment_of, issue_of, clocked, IsTurn, IsSmooth, Arrives, pass-clocked, outcome_is, cycle-refused}
-use Rattle.ijvm_simulation.specs.Stands.{Origin, RegistersStand}
-use Rattle.ijvm_simulation.specs.Passes.{Moment, is_inside, pass}
-use Rattle.ijvm_simulation.specs.Verified.{Loads, IsNext}
-use Rattle.ijvm_simulation.specs.Law.{ShowsState, HasWord, Moves, Overruns}
+use Rattle.ijvm_simulation.specs.Prelude.{Origin, RegistersStand, Moment, is_inside, pass, Loads, IsNext, ShowsState, HasWord, Moves, Overruns}
 use Rattle.ijvm_simulation.proofs.Stack.{law}
 use Rattle.ijvm_simulation.proofs.Places.{Counts, counts}
-use Rattle.verifier_facts.specs.Accepted.{VerifiedView}
+use Rattle.verifier_facts.specs.Prelude.{VerifiedView}
 use Rattle.ijvm_instr.specs.declared.instr.Instr.{Instr}
-use Rattle.ijvm_meaning.specs.Cost.{cost}
-use Rattle.mic_datapath.specs.Memory.{memory_refusal}
-use Rattle.mic3_interpreter.specs.Timing.{mic3_timing}
-use Rattle.mic3_datapath.specs.Cycle.{mem_in, settled}
+use Rattle.mic_datapath.specs.Prelude.{memory_refusal}
 
 -- the symbolic state at the first word of this opcode, with empty slots and nothing under way
 abbrev pub at_opcode : ℕ → Micro → World → ℕ → Short

@@ -1,17 +1,11 @@
 -- HALT and ERR.
 use Rattle.std.proofs.Common.{ℕ, List, refl, ◌∙◌, inl}
 use Rattle.ijvm_instr.specs.declared.instr.Instr.TheVariants.{Err, Halt}
-use Rattle.ijvm_meaning.specs.Frames.{State}
-use Rattle.ijvm_meaning.specs.Cost.{cost}
-use Rattle.verifier_facts.specs.Accepted.{VerifiedView}
-use Rattle.mic3_datapath.specs.Mic3.{mic3_meaning}
-use Rattle.mic3_interpreter.specs.Timing.{mic3_timing}
-use Rattle.mic3_datapath.specs.Pipeline.{Pipeline}
-use Rattle.ijvm_simulation.specs.Stands.{Origin}
-use Rattle.ijvm_simulation.specs.Passes.{Moment}
-use Rattle.ijvm_simulation.specs.Verified.{Fine, IsNext}
-use Rattle.ijvm_simulation.specs.Law.{Stops, HaltsAndErrs}
-use Rattle.mic3_interpreter.specs.Stands.{Stands}
+use Rattle.ijvm_meaning.specs.Prelude.{State, cost}
+use Rattle.verifier_facts.specs.Prelude.{VerifiedView}
+use Rattle.mic3_datapath.specs.Prelude.{mic3_meaning, Pipeline}
+use Rattle.mic3_interpreter.specs.Prelude.{mic3_timing, Stands}
+use Rattle.ijvm_simulation.specs.Prelude.{Origin, Moment, Fine, IsNext, Stops, HaltsAndErrs}
 
 -- MPC is the opcode, so the run ends at the boundary
 module _ (program : List ℕ) (o : Origin) (v : VerifiedView) where

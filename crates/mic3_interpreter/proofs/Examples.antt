@@ -1,12 +1,10 @@
 -- The cycle, computed on whole runs of the shipped microprogram.
 use Rattle.std.proofs.Common.{◌≡◌, ℕ, zero, suc, List, [], ◌∷◌, Option, Some, None, Bool, true, refl}
-use Rattle.mic_words.specs.Arithmetic.{wrap, signed_byte, signed_pair}
-use Rattle.console_port.specs.World.{World, write_refusal, read_refusal, word_refusal, read_value, untaken_after, given_after, byte_in}
-use Rattle.mic_clock.specs.Meaning.{Outcome, Done, Refused}
-use Rattle.mic2_fetch_unit.specs.FetchUnit.{edge, jump, edge_refusal}
-use Rattle.mic3_datapath.specs.Pipeline.{Pipeline}
-use Rattle.mic3_datapath.specs.Cycle.{issued, cycle_with}
-use Rattle.mic3_datapath.specs.Mic3.{initial}
+use Rattle.mic_words.specs.Prelude.{wrap, signed_byte, signed_pair}
+use Rattle.console_port.specs.Prelude.{World, write_refusal, read_refusal, word_refusal, read_value, untaken_after, given_after, byte_in}
+use Rattle.mic_clock.specs.Prelude.{Outcome, Done, Refused}
+use Rattle.mic2_fetch_unit.specs.Prelude.{edge, jump, edge_refusal}
+use Rattle.mic3_datapath.specs.Prelude.{Pipeline, issued, cycle_with, initial}
 use Rattle.mic3_interpreter.proofs.Store.{shipped}
 
 record Told : Type 0 where

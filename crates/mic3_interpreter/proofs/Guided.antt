@@ -2,9 +2,9 @@
 use Rattle.std.proofs.Common.{◌≢◌, get_or-set_other, length-set, ap, ap₂, ◌∙◌, ◌≡◌, ℕ, zero, suc, ◌+◌, ◌*◌, ◌<◌, ◌≤◌, Option, Some, None, Bool, true, false, List, [], ◌∷◌, length, arith, refl, sym, subst, add-zero}
 use Rattle.std.specs.Prelude.{slice_set, nat_lt, if◌then◌else◌, ◌||◌}
 use Rattle.std.proofs.lemmas.Bool.Decides.{nat_tests}
-use Rattle.mic_words.specs.Arithmetic.{wrap, signed_byte, signed_pair}
-use Rattle.console_port.specs.World.{World, Refusal}
-use Rattle.micro_word.specs.Words.{is_byte, is_pair}
+use Rattle.mic_words.specs.Prelude.{wrap, signed_byte, signed_pair}
+use Rattle.console_port.specs.Prelude.{World, Refusal}
+use Rattle.micro_word.specs.Prelude.{is_byte, is_pair}
 use Rattle.micro_word.specs.declared.statement.BusSource.{BusSource}
 use Rattle.micro_word.specs.declared.statement.BusSource.TheVariants as sources
 use Rattle.micro_word.specs.declared.statement.Mem.{Mem}
@@ -12,22 +12,14 @@ use Rattle.micro_word.specs.declared.statement.Mem.TheVariants.{Write}
 use Rattle.micro_word.specs.declared.statement.Placed.{Placed}
 use Rattle.micro_word.specs.declared.statement.PlacedNext.{PlacedNext}
 use Rattle.micro_word.specs.declared.statement.PlacedNext.TheVariants.{Dispatch, Branch}
-use Rattle.mic_clock.specs.Meaning.{Done, Refused}
-use Rattle.mic_clock.specs.Run.{number_of}
+use Rattle.mic_clock.specs.Prelude.{Done, Refused, number_of}
 use Rattle.mic_datapath.specs.declared.ports.Ports.{Ports}
-use Rattle.mic_datapath.specs.Registers.{NineRegisters, on_bus, ports_given}
-use Rattle.mic_datapath.specs.Memory.{written, sampled, memory_refusal, first_refusal, outcome}
-use Rattle.mic2_datapath.specs.Micro.{Micro}
-use Rattle.mic2_datapath.specs.Microstep.{operand_bytes, demand, registers_in, byte_at, fetched, source, advanced, unit_after, unit_refusal, next_micro}
-use Rattle.mic3_datapath.specs.Pipeline.{Pipeline, Issued, Computed}
-use Rattle.mic3_datapath.specs.Cycle.{issued_in, computed_in, is_held_up, is_jump_coming, waits, dispatched, issued, issued_by, bytes_leaving, retired, settled, mem_in, word_after, computed, from_retired, from_computed, from_issued, begins, clock, world_after, refusal, cycle_with, cycle}
-use Rattle.mic3_datapath.specs.Mic3.{mic3_meaning, step_of_word, driven, driven_by}
-use Rattle.ijvm_simulation.specs.Stands.{IsMemory}
-use Rattle.ijvm_simulation.specs.Passes.{Moment, is_inside, outcome_at, stalls_at, last, onward, pass}
+use Rattle.mic_datapath.specs.Prelude.{NineRegisters, on_bus, ports_given, written, sampled, memory_refusal, first_refusal, outcome}
+use Rattle.mic2_datapath.specs.Prelude.{Micro, operand_bytes, demand, registers_in, byte_at, fetched, source, advanced, unit_after, unit_refusal, next_micro}
+use Rattle.mic3_datapath.specs.Prelude.{Pipeline, Issued, Computed, issued_in, computed_in, is_held_up, is_jump_coming, waits, dispatched, issued, issued_by, bytes_leaving, retired, settled, mem_in, word_after, computed, from_retired, from_computed, from_issued, begins, clock, world_after, refusal, cycle_with, cycle, mic3_meaning, step_of_word, driven, driven_by}
+use Rattle.ijvm_simulation.specs.Prelude.{IsMemory, Moment, is_inside, outcome_at, stalls_at, last, onward, pass}
 use Rattle.mic3_interpreter.proofs.Store.{shipped, Known}
-use Rattle.mic2_fetch_unit.specs.Units.{unit_at, have_after, text_from}
-use Rattle.mic2_fetch_unit.specs.QueueLaw.{QueueLaw}
-use Rattle.mic2_fetch_unit.specs.Held.{Held, Jumped, IsHeld, is_enough, held_after, Lack, IsWait, held_waited}
+use Rattle.mic2_fetch_unit.specs.Prelude.{unit_at, have_after, text_from, QueueLaw, Held, Jumped, IsHeld, is_enough, held_after, Lack, IsWait, held_waited}
 
 -- A symbolic state: what the machine has except its unit, and what is known of the queue there.
 pub record Short : Type 0 where

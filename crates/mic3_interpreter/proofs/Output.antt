@@ -1,19 +1,15 @@
 -- The bytes that a cycle of Mic-3 gives come after those given before.
 use Rattle.std.proofs.Common.{ℕ, Some, None, Option, List, [], length, sym}
 use Rattle.std.proofs.lemmas.List.{append-nil}
-use Rattle.console_port.specs.World.{World, Refusal}
+use Rattle.console_port.specs.Prelude.{World, Refusal}
 use Rattle.mic_words.specs.declared.machine.Machine.TheVariants as machines
-use Rattle.micro_word.specs.Coding.{statement_of}
+use Rattle.micro_word.specs.Prelude.{statement_of}
 use Rattle.micro_word.specs.declared.statement.Mem.{Mem}
 use Rattle.micro_word.specs.declared.statement.Mem.TheVariants.{Write}
-use Rattle.mic_datapath.specs.Registers.{ports_given}
+use Rattle.mic_datapath.specs.Prelude.{ports_given, written, sampled, outcome}
 use Rattle.mic_datapath.specs.declared.ports.Ports.{Ports}
-use Rattle.mic_datapath.specs.Memory.{written, sampled, outcome}
-use Rattle.mic3_datapath.specs.Pipeline.{Pipeline, Issued}
-use Rattle.mic3_datapath.specs.Cycle.{issued, mem_in, settled, clock, world_after, refusal}
-use Rattle.mic3_datapath.specs.Mic3.{step_of_word}
-use Rattle.ijvm_simulation.specs.Law.{Grows, OnDone}
-use Rattle.ijvm_simulation.specs.Words.{WordLaw}
+use Rattle.mic3_datapath.specs.Prelude.{Pipeline, Issued, issued, mem_in, settled, clock, world_after, refusal, step_of_word}
+use Rattle.ijvm_simulation.specs.Prelude.{Grows, OnDone, WordLaw}
 
 stays : (xs : List ℕ) → Grows xs xs
 stays xs = record { more = []; are = sym (append-nil xs) }

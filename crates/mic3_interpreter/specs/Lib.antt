@@ -1,3 +1,4 @@
 pub mod Timing
 pub mod Stands
 pub mod Interpretation
+pub mod Prelude

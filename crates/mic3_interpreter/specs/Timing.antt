@@ -3,7 +3,7 @@ use Rattle.ijvm_instr.specs.declared.instr.Instr.{Instr}
 use Rattle.ijvm_instr.specs.declared.instr.Instr.TheVariants.{Nop, Bipush, LdcW, Iload, Istore, Pop, Dup, Swap, Iadd, Isub, Iand, Iinc, Ifeq, Iflt, IfIcmpeq, Goto, Ireturn, Ior, Invokevirtual, WideIload, WideIstore, WideIinc, In, Out, Err, Halt}
 use Rattle.ijvm_instr.specs.declared.row.Cost.{Cost}
 use Rattle.ijvm_instr.specs.declared.row.Cost.TheVariants.{Always, IfTaken, ByEntry}
-use Rattle.ijvm_meaning.specs.Cost.{Timing}
+use Rattle.ijvm_meaning.specs.Prelude.{Timing}
 
 abbrev pub mic3_cost : Instr → Cost
 mic3_cost Nop = Always 3

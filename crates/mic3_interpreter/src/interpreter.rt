@@ -1,8 +1,8 @@
 //! Mic-3 as an interpreter of IJVM.
 
 ghost use Rattle.std.specs.Prelude.{◌≡◌, ◌≤◌, ◌^◌, Some, IfOk, OnErr, IsSome};
-ghost use Rattle.console_port.specs.Streams.{SinkGoesOn};
-ghost use Rattle.ijvm_simulation.specs.Answers.{RunsAsDefined, IsCutWhereReadFails, IsCutWhereWriteFails, EndsByCause};
+ghost use Rattle.console_port.specs.Prelude.{SinkGoesOn};
+ghost use Rattle.ijvm_simulation.specs.Prelude.{RunsAsDefined, IsCutWhereReadFails, IsCutWhereWriteFails, EndsByCause};
 ghost use Rattle.mic3_interpreter.specs.Interpretation.{mic3};
 
 use ijvm_simulation::{Interpreter, groups_are_all, run_image, stack_law};
@@ -24,7 +24,7 @@ pub struct Mic3Interpreter;
 impl Interpreter for Mic3Interpreter {
     ghost use Rattle.mic_words.specs.declared.machine.Machine.TheVariants as machines;
     ghost use Rattle.mic3_interpreter.specs.Timing.{mic3_timing};
-    ghost use Rattle.mal_shipped.specs.Shipped.{HasShipped};
+    ghost use Rattle.mal_shipped.specs.Prelude.{HasShipped};
 
     type Machine = Mic3;
 

@@ -2,9 +2,8 @@
 
 ghost use Rattle.std.specs.Prelude.{◌≡◌, ◌<◌, IfOk};
 ghost use Rattle.mic_words.specs.declared.machine.Machine.TheVariants as machines;
-ghost use Rattle.mic3_datapath.specs.Mic3.{mic3_meaning};
-ghost use Rattle.mic3_datapath.specs.View.{pipeline_of};
-ghost use Rattle.mic_image_board.specs.Reset.{IsAtReset};
+ghost use Rattle.mic3_datapath.specs.Prelude.{mic3_meaning, pipeline_of};
+ghost use Rattle.mic_image_board.specs.Prelude.{IsAtReset};
 
 use ijvm_verifier::VerifiedImage;
 use mic_clock::Board;

@@ -7,7 +7,7 @@ use Rattle.std.proofs.lemmas.Fmt.{length-decimal-le}
 use Rattle.std.specs.Char.{digit_char, digit_value}
 use Rattle.std.specs.List.{list_all, position, position_or_len}
 use Rattle.std.proofs.lemmas.Bool.{cases_lt, lt-ltb}
-use Rattle.mic_base.specs.Digits.{value_of, hex_text}
+use Rattle.mic_base.specs.Prelude.{value_of, hex_text}
 
 push_arith : (x power value base digit : ℕ) → x * (power * base) + (value * base + digit) ≡ (x * power + value) * base + digit
 push_arith x power value base digit = grind arith

@@ -7,8 +7,7 @@ use Rattle.std.specs.Ordering.{nat_cmp, is_eq}
 use Rattle.std.specs.Cmp.Lexicographic.{slice_cmp}
 use Rattle.std.specs.FinMap.{find}
 use Rattle.std.specs.declared.alloc.Global.{Global}
-use Rattle.mic_base.specs.Files.{file_in}
-use Rattle.mic_base.specs.Memory.{files_contents}
+use Rattle.mic_base.specs.Prelude.{file_in, files_contents}
 use Rattle.mic_base.specs.declared.memory.files.MemFiles.{MemFiles}
 
 by_entries : (name : List ℕ) (es : List (String Global × Vec ℕ Global)) →

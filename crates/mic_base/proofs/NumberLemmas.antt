@@ -5,8 +5,7 @@ use Rattle.std.proofs.lemmas.Bool.{lt-ltb, le-ltb, ne_eqb}
 use Rattle.std.proofs.lemmas.List.Folds.{list_all-append}
 use Rattle.std.proofs.lemmas.Str.{digit_value-digit_char}
 use Rattle.std.proofs.Math.Nat.{pow-suc, pow-zero}
-use Rattle.mic_base.specs.Digits.{value_of, hex_text}
-use Rattle.mic_base.specs.Number.{number_of, quoted}
+use Rattle.mic_base.specs.Prelude.{value_of, hex_text, number_of, quoted}
 use Rattle.mic_base.proofs.DigitLemmas.{value_of-push, length-hex_text}
 
 one_digit : (d : ℕ) → d < 16 → (is_digit (digit_char d) 16 && true) ≡ true

@@ -1,7 +1,7 @@
 -- What a failed write leaves of the output.
 use Rattle.std.proofs.Common.{◌≡◌, ◌≢◌, ℕ, List, [], ◌++◌, refl, take, drop, Option, Some, None, IfSome, sym, ◌∙◌, ap, subst, append_assoc}
 use Rattle.std.proofs.Math.ListN.{take-append-drop}
-use Rattle.console_port.specs.Console.{IsLost, Given, LosesLast}
+use Rattle.console_port.specs.Prelude.{IsLost, Given, LosesLast}
 
 -- a sink that lost the end of what was kept has a front of what was given
 pub front_lost : (held held' : Option (List ℕ)) (kept kept' given : List ℕ) → IsLost held kept held' kept' → Given held kept given →

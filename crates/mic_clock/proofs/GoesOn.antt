@@ -1,15 +1,13 @@
 -- What calls of a board, one after the other, leave of the board, the source and the sink.
 use Rattle.std.specs.Prelude.{Result, Err, IsOk, OnOk, IfErr}
 use Rattle.std.proofs.Common.{◌≡◌, inl, inr, ℕ, ◌≤◌, List, [], Bool, Option, Some, None, IsSome, refl, sym, ◌∙◌, ap, subst, arith}
-use Rattle.console_port.specs.Console.{HasFaultCause}
-use Rattle.console_port.specs.Streams.{SourceGoesOn, SinkGoesOn}
+use Rattle.console_port.specs.Prelude.{HasFaultCause, SourceGoesOn, SinkGoesOn}
 use Rattle.console_port.specs.declared.fault.BusFault.{BusFault}
 use Rattle.console_port.specs.declared.fault.BusFault.TheVariants as faults
-use Rattle.mic_base.specs.Causes.{Rose}
+use Rattle.mic_base.specs.Prelude.{Rose}
 use Rattle.mic_clock.specs.declared.end.End.{End}
 use Rattle.mic_clock.specs.declared.end.End.TheVariants as ends
-use Rattle.mic_clock.specs.View.{BoardView}
-use Rattle.mic_clock.specs.Board.{HasEndCause, NoFault, GoesOn, IsOnlyFlushed}
+use Rattle.mic_clock.specs.Prelude.{BoardView, HasEndCause, NoFault, GoesOn, IsOnlyFlushed}
 use Rattle.mic_clock.proofs.Reach.{by_done, no_err, fault_cases}
 
 -- causes of one call after another

@@ -3,9 +3,7 @@ use Rattle.std.proofs.Common.{◌≡◌, ◌⊎◌, inl, inr, ℕ, ◌+◌, ◌<
 use Rattle.mic_clock.specs.declared.counts.Counts.{Counts}
 use Rattle.mic_clock.specs.declared.end.End.{End}
 use Rattle.mic_clock.specs.declared.registers.Registers.{Registers}
-use Rattle.mic_clock.specs.Meaning.{Meaning}
-use Rattle.mic_clock.specs.Run.{last_cycles, counts_at, counts_between, counts_after}
-use Rattle.mic_clock.specs.Board.{InTime}
+use Rattle.mic_clock.specs.Prelude.{Meaning, last_cycles, counts_at, counts_between, counts_after, InTime}
 
 -- after a clocked cycle
 clocked : (b : Bool) (c : Counts) (stalled : Bool) (at : ℕ) (r : Registers) (was : Bool) (top bound : ℕ) →

@@ -2,14 +2,11 @@
 use Rattle.std.specs.Prelude.{nat_le}
 use Rattle.std.proofs.Common.{◌≡◌, ◌≤◌, ◌<◌, max, suc, ℕ, ◌+◌, ◌-◌, List, Bool, true, false, if◌then◌else◌, Option, Some, None, refl, sym, ◌∙◌, ap, subst, arith}
 use Rattle.std.proofs.lemmas.Bool.Decides.{nat_tests}
-use Rattle.micro_word.specs.ControlStore.{ControlStore}
+use Rattle.micro_word.specs.Prelude.{ControlStore}
 use Rattle.mic_clock.specs.declared.counts.Counts.{Counts}
 use Rattle.mic_clock.specs.declared.end.End.{End}
 use Rattle.mic_clock.specs.declared.end.End.TheVariants as ends
-use Rattle.mic_clock.specs.Meaning.{Meaning}
-use Rattle.mic_clock.specs.View.{BoardView}
-use Rattle.mic_clock.specs.Run.{MicroRun, word_at, bounded, bounded_by}
-use Rattle.mic_clock.specs.Board.{ShowsRun, ShowsAs, IsReached, InTime, IsTurnedInside, IsRunInside, IsStill, NoFault}
+use Rattle.mic_clock.specs.Prelude.{Meaning, BoardView, MicroRun, word_at, bounded, bounded_by, ShowsRun, ShowsAs, IsReached, InTime, IsTurnedInside, IsRunInside, IsStill, NoFault}
 use Rattle.mic_clock.proofs.InTime.{InTime-step}
 use Rattle.mic_clock.proofs.Rules.{counts_after-rule}
 use Rattle.mic_clock.proofs.Reach.{IsLedTo-map, Leads-turn, IsTurned-bounded}

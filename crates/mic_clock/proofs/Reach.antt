@@ -1,14 +1,11 @@
 -- How a run goes on on a board, and where a fault cuts it.
 use Rattle.std.specs.Prelude.{Result, Ok, Err, IsOk, OnOk, IfErr}
 use Rattle.std.proofs.Common.{◌≡◌, ◌≢◌, ◌⊎◌, inl, inr, zero, suc, ℕ, ◌+◌, List, [], Bool, Option, Some, None, IsSome, refl, sym, ◌∙◌, ap, subst}
-use Rattle.console_port.specs.Console.{IsLost, Untaken}
+use Rattle.console_port.specs.Prelude.{IsLost, Untaken}
 use Rattle.console_port.specs.declared.fault.BusFault.TheVariants as faults
 use Rattle.mic_clock.specs.declared.end.End.{End}
 use Rattle.mic_clock.specs.declared.end.End.TheVariants as ends
-use Rattle.mic_clock.specs.Meaning.{Meaning, ReadsConsole, UsesConsole}
-use Rattle.mic_clock.specs.View.{BoardView}
-use Rattle.mic_clock.specs.Run.{MicroRun, Buses, end_before, word_at, turn, turns, buses, bounded, buses_of}
-use Rattle.mic_clock.specs.Board.{ShowsRun, IsLedTo, IsCut, IsCutByRead, IsCutByWrite, Leads, NoFault, IsReached, IsTurned, ShowsAs, BoundIsCutByWrite, IsCutAt, TurnIsCut, RunIsCutByWrite, is_completed}
+use Rattle.mic_clock.specs.Prelude.{Meaning, ReadsConsole, UsesConsole, BoardView, MicroRun, Buses, end_before, word_at, turn, turns, buses, bounded, buses_of, ShowsRun, IsLedTo, IsCut, IsCutByRead, IsCutByWrite, Leads, NoFault, IsReached, IsTurned, ShowsAs, BoundIsCutByWrite, IsCutAt, TurnIsCut, RunIsCutByWrite, is_completed}
 use Rattle.mic_clock.proofs.Front.{front_lost, last_lost}
 use Rattle.mic_clock.proofs.Turns.{turns-suc, turns-plus, buses-plus, turn_by_ended, bounded-world}
 

@@ -3,16 +3,13 @@ use Rattle.std.proofs.Common.{◌≡◌, ◌≢◌, ℕ, ◌+◌, ◌≤◌, Boo
 use Rattle.std.specs.Prelude.{nat_le}
 use Rattle.std.proofs.lemmas.Bool.{eq-eqb, ne_eqb}
 use Rattle.std.proofs.lemmas.Bool.Decides.{nat_tests}
-use Rattle.console_port.specs.World.{fault_of}
+use Rattle.console_port.specs.Prelude.{fault_of}
 use Rattle.mic_clock.specs.declared.counts.Boundary.{Boundary}
 use Rattle.mic_clock.specs.declared.counts.Counts.{Counts}
 use Rattle.mic_clock.specs.declared.end.End.{End}
 use Rattle.mic_clock.specs.declared.end.End.TheVariants as ends
 use Rattle.mic_clock.specs.declared.end.Tick.TheVariants as ticks
-use Rattle.mic_clock.specs.Board.{tick_of}
-use Rattle.mic_clock.specs.Meaning.{Meaning, Outcome, Done, Refused}
-use Rattle.mic_clock.specs.Run.{MicroRun, number_of, since, completes, end_by, counts_ended, counts_after, counts_at, counts_between, end_before, word_at, after_step, after_end_or_step, turn, turn_by}
-use Rattle.mic_clock.specs.Rule.{EndsBefore, CountsEnd, CountsCycle, EndsAt, StepsTo, IsTurn}
+use Rattle.mic_clock.specs.Prelude.{tick_of, Meaning, Outcome, Done, Refused, MicroRun, number_of, since, completes, end_by, counts_ended, counts_after, counts_at, counts_between, end_before, word_at, after_step, after_end_or_step, turn, turn_by, EndsBefore, CountsEnd, CountsCycle, EndsAt, StepsTo, IsTurn}
 use Rattle.mic_clock.proofs.Turns.{turn_by_ended}
 
 module _ (mpc : ℕ) (c : Counts) where

@@ -1,16 +1,11 @@
 -- Turns of a run.
 use Rattle.std.proofs.Common.{◌≡◌, ◌≢◌, ◌+◌, ◌∙◌, ap, zero, suc, zero-add, suc-add, add-zero, add-suc, add_comm, ℕ, List, Bool, Option, Some, None, IsSome, refl, sym, subst, rules}
 use Rattle.std.specs.Fn.{iterate}
-use Rattle.console_port.specs.World.{World, fault_of}
-use Rattle.console_port.specs.Bus.{Shows, Stands, IsLed}
-use Rattle.console_port.specs.Console.{IsFault, Untaken}
+use Rattle.console_port.specs.Prelude.{World, fault_of, Shows, Stands, IsLed, IsFault, Untaken}
 use Rattle.console_port.specs.declared.fault.BusFault.{BusFault}
 use Rattle.console_port.specs.declared.fault.BusFault.TheVariants as faults
 use Rattle.mic_clock.specs.declared.end.End.{End}
-use Rattle.mic_clock.specs.Meaning.{Meaning, Outcome, Done, Refused, refusal_in}
-use Rattle.mic_clock.specs.Run.{MicroRun, Buses, word_at, end_by, end_before, counts_after, after_step, after_end_or_step, turn, turn_by, turns, buses, buses_of, bounded, bounded_by}
-use Rattle.mic_clock.specs.View.{BoardView}
-use Rattle.mic_clock.specs.Board.{ShowsRun, IsLedTo, NoFault}
+use Rattle.mic_clock.specs.Prelude.{Meaning, Outcome, Done, Refused, refusal_in, MicroRun, Buses, word_at, end_by, end_before, counts_after, after_step, after_end_or_step, turn, turn_by, turns, buses, buses_of, bounded, bounded_by, BoardView, ShowsRun, IsLedTo, NoFault}
 
 -- a refusal ended the board, and no fault did
 pub no_fault : (e : BusFault) → NoFault None (Some (end_by e)) → IsFault e → ⊥

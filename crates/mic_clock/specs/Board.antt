@@ -1,13 +1,9 @@
 -- A board between a source and a sink shows where a run stands; how the run goes on, and where a fault cuts it.
 use Rattle.std.specs.Prelude.{◌≡◌, ◌≢◌, ◌⊎◌, ℕ, suc, ◌+◌, ◌<◌, ◌≤◌, ◌==◌, if◌then◌else◌, Bool, true, false, List, [], ◌++◌, Option, Some, None, IfSome, IsSome, is_some, max}
-use Rattle.console_port.specs.View.{BusView}
-use Rattle.console_port.specs.Bus.{Shows, Stands, ChangesOnly}
-use Rattle.console_port.specs.Console.{Untaken, LosesLast, IsFault}
-use Rattle.console_port.specs.Streams.{SinkGoesOn, SourceGoesOn}
-use Rattle.console_port.specs.World.{World}
+use Rattle.console_port.specs.Prelude.{BusView, Shows, Stands, ChangesOnly, Untaken, LosesLast, IsFault, SinkGoesOn, SourceGoesOn, World}
 use Rattle.console_port.specs.declared.fault.BusFault.{BusFault}
 use Rattle.console_port.specs.declared.fault.BusFault.TheVariants.{ReadFault, WriteFault}
-use Rattle.mic_base.specs.Causes.{Rose}
+use Rattle.mic_base.specs.Prelude.{Rose}
 use Rattle.mic_clock.specs.declared.counts.Counts.{Counts}
 use Rattle.mic_clock.specs.declared.end.End.{End}
 use Rattle.mic_clock.specs.declared.end.End.TheVariants as ends

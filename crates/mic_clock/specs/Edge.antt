@@ -1,9 +1,6 @@
 -- What a clock edge comes to between a source and a sink, by the step of the word that was set up.
 use Rattle.std.specs.Prelude.{◌≡◌, ◌≢◌, ◌⊎◌, ◌<◌, ℕ, ⊤, List, [], length, Option, Some, Result, Ok, Err, OnOk, OnErr, IfErr}
-use Rattle.console_port.specs.View.{BusView}
-use Rattle.console_port.specs.World.{World}
-use Rattle.console_port.specs.Bus.{Shows, Stands, IsLed, ChangesOnly}
-use Rattle.console_port.specs.Console.{IsFault, most_kept}
+use Rattle.console_port.specs.Prelude.{BusView, World, Shows, Stands, IsLed, ChangesOnly, IsFault, most_kept}
 use Rattle.console_port.specs.declared.fault.BusFault.{BusFault}
 use Rattle.console_port.specs.declared.fault.BusFault.TheVariants.{ReadFault, WriteFault}
 use Rattle.mic_clock.specs.Meaning.{Meaning, Done, refusal_in, ReadsConsole, UsesConsole}

@@ -1,7 +1,7 @@
 -- A board in its parts, over which its turns go.
 use Rattle.std.specs.Prelude.{◌≡◌, Bool}
-use Rattle.console_port.specs.View.{BusView}
-use Rattle.micro_word.specs.ControlStore.{ControlStore}
+use Rattle.console_port.specs.Prelude.{BusView}
+use Rattle.micro_word.specs.Prelude.{ControlStore}
 use Rattle.mic_clock.specs.declared.counts.Counts.{Counts}
 use Rattle.mic_clock.specs.declared.running.Running.{Running}
 use Rattle.mic_clock.specs.declared.running.Tally.{Tally}

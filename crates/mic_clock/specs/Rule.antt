@@ -1,6 +1,6 @@
 -- The rule of a turn: how a run ends, and what is counted. By `turn_law` the turns of a run are those that keep it.
 use Rattle.std.specs.Prelude.{◌≡◌, ◌≢◌, ℕ, ◌+◌, ◌≤◌, Bool, true, false, List, Option, Some, None, IsSome, is_some, ◌&&◌}
-use Rattle.console_port.specs.World.{World, Refusal, fault_of}
+use Rattle.console_port.specs.Prelude.{World, Refusal, fault_of}
 use Rattle.mic_clock.specs.declared.counts.Counts.{Counts}
 use Rattle.mic_clock.specs.declared.end.End.{End}
 use Rattle.mic_clock.specs.declared.end.End.TheVariants as ends

@@ -1,7 +1,7 @@
 -- What clauses see of a board.
 use Rattle.std.specs.Prelude.{Option}
-use Rattle.console_port.specs.View.{BusView}
-use Rattle.micro_word.specs.ControlStore.{ControlStore}
+use Rattle.console_port.specs.Prelude.{BusView}
+use Rattle.micro_word.specs.Prelude.{ControlStore}
 use Rattle.mic_clock.specs.declared.counts.Counts.{Counts}
 use Rattle.mic_clock.specs.declared.end.End.{End}
 use Rattle.mic_clock.specs.Run.{Buses}

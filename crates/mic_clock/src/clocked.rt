@@ -1,8 +1,7 @@
 //! What a board asks of a machine.
 
 ghost use Rattle.std.specs.Prelude.{◌≡◌, None, IfNone, IfOk, IfSome, OnOk, OnErr, ◌<◌, ℕ, List, slice_index};
-ghost use Rattle.console_port.specs.Streams.{StreamsGoOn};
-ghost use Rattle.console_port.specs.World.{World};
+ghost use Rattle.console_port.specs.Prelude.{StreamsGoOn, World};
 ghost use Rattle.mic_clock.specs.Edge.{IsEdgeInside, IsEdgeOver};
 ghost use Rattle.mic_clock.specs.Meaning.{Meaning, Phase, AtRest, SetUp, Driven, AtEdge};
 ghost use Rattle.mic_clock.specs.Run.{Buses, buses_of, start_buses, word_at};

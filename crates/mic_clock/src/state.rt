@@ -1,7 +1,7 @@
 //! The state line: the registers of a machine, by their names.
 
 ghost use Rattle.std.specs.Prelude.{◌≡◌, ◌≤◌, ◌<◌, ◌+◌, ◌*◌, ◌++◌, All, codes, length, map};
-ghost use Rattle.mic_base.specs.Digits.{hex_text};
+ghost use Rattle.mic_base.specs.Prelude.{hex_text};
 ghost use Rattle.mic_clock.specs.State.{fetched_rows, first_rows, further_rows, queue_text, rows_text, state_line, word};
 
 use crate::registers::{Registers, Tail};

@@ -2,7 +2,7 @@
 
 ghost use Rattle.std.specs.Prelude.{◌≡◌, ℕ, IfSome, IfNone};
 ghost use Rattle.mic_words.specs.declared.machine.Machine.{Machine};
-ghost use Rattle.micro_word.specs.Words.{IsCanonical};
+ghost use Rattle.micro_word.specs.Prelude.{IsCanonical};
 
 use micro_word::{Word1, Word2, decode1, decode2, encode1, encode2};
 

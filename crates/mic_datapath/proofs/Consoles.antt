@@ -2,11 +2,10 @@
 use Rattle.std.proofs.Common.{◌≡◌, ℕ, ◌%◌, ◌≤◌, true, false, [], ◌∷◌, ◌++◌, drop, arith}
 use Rattle.std.specs.Prelude.{nat_lt}
 use Rattle.std.proofs.lemmas.Bool.Decides.{nat_tests}
-use Rattle.console_port.specs.World.{World, untaken_after, given_after}
+use Rattle.console_port.specs.Prelude.{World, untaken_after, given_after}
 use Rattle.micro_word.specs.declared.statement.Mem.{Mem}
 use Rattle.micro_word.specs.declared.statement.Mem.TheVariants as mems
-use Rattle.mic_datapath.specs.Access.{is_read}
-use Rattle.mic_datapath.specs.Memory.{sampled, written}
+use Rattle.mic_datapath.specs.Prelude.{is_read, sampled, written}
 use Rattle.mic_datapath.specs.declared.ports.Ports.{Ports}
 
 off : (n at : ℕ) → n ≤ at → nat_lt at n ≡ false

@@ -1,10 +1,9 @@
 -- Without an access all stays.
 use Rattle.std.proofs.Common.{◌≡◌, ℕ, Bool, false, None, refl}
-use Rattle.console_port.specs.World.{World}
+use Rattle.console_port.specs.Prelude.{World}
 use Rattle.micro_word.specs.declared.statement.Mem.{Mem}
 use Rattle.micro_word.specs.declared.statement.Mem.TheVariants as mems
-use Rattle.mic_datapath.specs.Memory.{access_refusal}
-use Rattle.mic_datapath.specs.Access.{IsAccess}
+use Rattle.mic_datapath.specs.Prelude.{access_refusal, IsAccess}
 use Rattle.mic_datapath.specs.declared.ports.Ports.{Ports}
 
 pub quiet_clear : (n : ℕ) (mem : Mem) (fetch : Bool) (p : Ports) → mem ≡ mems.None → fetch ≡ false → access_refusal n mem fetch p ≡ None

@@ -3,11 +3,10 @@ use Rattle.std.proofs.Common.{◌≡◌, ◌≢◌, ◌⊎◌, inl, inr, ◌<◌
 use Rattle.std.specs.Prelude.{IsTrue}
 use Rattle.std.proofs.lemmas.Bool.{cases_lt, cases_Bool}
 use Rattle.std.proofs.lemmas.Bool.Decides.{nat_tests}
-use Rattle.console_port.specs.World.{console_at, read_refusal}
+use Rattle.console_port.specs.Prelude.{console_at, read_refusal}
 use Rattle.micro_word.specs.declared.statement.Mem.{Mem}
 use Rattle.micro_word.specs.declared.statement.Mem.TheVariants as mems
-use Rattle.mic_datapath.specs.Memory.{memory_refusal}
-use Rattle.mic_datapath.specs.Access.{LetsBytesWait}
+use Rattle.mic_datapath.specs.Prelude.{memory_refusal, LetsBytesWait}
 
 -- a read that is not refused, and not of the memory, is of the console
 at_console : (n at : ℕ) → read_refusal n at ≡ None → n ≤ at → IsTrue (at == console_at)

@@ -1,9 +1,6 @@
 -- What the accesses of a cycle come to, by what the ports are given.
 use Rattle.std.specs.Prelude.{◌≡◌, ◌≢◌, ◌⊎◌, ◌<◌, ◌≤◌, ◌/◌, ◌%◌, ◌==◌, ◌&&◌, ℕ, Bool, true, false, List, [], ◌∷◌, ◌++◌, length, drop, Option, Some, None, Result, Err, OnOk, IfOk, IfErr, IsErrOf, IsTrue}
-use Rattle.console_port.specs.Bus.{ChangesOnly, IsLed, Stands, refused_by}
-use Rattle.console_port.specs.Console.{IsFault, most_kept}
-use Rattle.console_port.specs.View.{BusView}
-use Rattle.console_port.specs.World.{World, Refusal, console_at}
+use Rattle.console_port.specs.Prelude.{ChangesOnly, IsLed, Stands, refused_by, IsFault, most_kept, BusView, World, Refusal, console_at}
 use Rattle.console_port.specs.declared.fault.BusFault.{BusFault}
 use Rattle.console_port.specs.declared.fault.BusFault.TheVariants.{ReadFault, WriteFault}
 use Rattle.micro_word.specs.declared.statement.Mem.{Mem}

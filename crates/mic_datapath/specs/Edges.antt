@@ -1,15 +1,11 @@
 -- Lemmas on a clock edge, for any machine: what the accesses of a cycle come to is what its edge does.
 use Rattle.std.proofs.Common.{◌≡◌, ℕ, ◌%◌, ◌≤◌, ◌==◌, ◌&&◌, Bool, true, false, IsTrue, List, Option, Some, None, Result, Ok, Err, length, inl, inr, refl, sym, ap, subst, ◌∙◌}
 use Rattle.std.specs.Prelude.{⊤, IfErr, IsErrAnd, OnOk}
-use Rattle.console_port.specs.World.{World, Refusal, StackLimit, OutOfMap, console_at, fault_of}
-use Rattle.console_port.specs.Bus.{ChangesOnly, IsLed, Shows, Stands, refused_by}
-use Rattle.console_port.specs.Console.{IsFault}
-use Rattle.console_port.specs.View.{BusView}
+use Rattle.console_port.specs.Prelude.{World, Refusal, StackLimit, OutOfMap, console_at, fault_of, ChangesOnly, IsLed, Shows, Stands, refused_by, IsFault, BusView}
 use Rattle.console_port.specs.declared.fault.BusFault.{BusFault}
 use Rattle.micro_word.specs.declared.statement.Mem.{Mem}
 use Rattle.micro_word.specs.declared.statement.Mem.TheVariants as mems
-use Rattle.mic_clock.specs.Edge.{IsEdge, IsEdgeOver, LetsBytesWait}
-use Rattle.mic_clock.specs.Meaning.{Meaning, Done, refusal_in, untaken_by, given_by, ReadsConsole, WritesConsole, UsesConsole}
+use Rattle.mic_clock.specs.Prelude.{IsEdge, IsEdgeOver, LetsBytesWait, Meaning, Done, refusal_in, untaken_by, given_by, ReadsConsole, WritesConsole, UsesConsole}
 use Rattle.mic_datapath.specs.Access.{AtConsole, HasAccessed, is_read, is_access, LetsBytesWait as LetsWait}
 use Rattle.mic_datapath.specs.Memory.{first_refusal, outcome, sampled, written}
 use Rattle.mic_datapath.specs.declared.ports.Ports.{Ports}

@@ -7,3 +7,4 @@ pub mod Next
 pub mod Jam
 pub mod Stage
 pub mod Sides
+pub mod Prelude

@@ -1,9 +1,9 @@
 -- What a cycle does in memory, by what the ports are given; the order of a write, a read and a fetch is this profile's.
 use Rattle.std.specs.Prelude.{ℕ, Bool, true, false, Option, Some, None}
-use Rattle.console_port.specs.World.{World, Refusal, after_write, after_read, read_value, byte_in, write_refusal, read_refusal, fetch_refusal}
+use Rattle.console_port.specs.Prelude.{World, Refusal, after_write, after_read, read_value, byte_in, write_refusal, read_refusal, fetch_refusal}
 use Rattle.micro_word.specs.declared.statement.Mem.{Mem}
 use Rattle.micro_word.specs.declared.statement.Mem.TheVariants as mems
-use Rattle.mic_clock.specs.Meaning.{Outcome, Done, unless_refused}
+use Rattle.mic_clock.specs.Prelude.{Outcome, Done, unless_refused}
 use Rattle.mic_datapath.specs.declared.ports.Ports.{Ports}
 
 abbrev pub ports_with : ℕ → ℕ → ℕ → Ports

@@ -1,8 +1,7 @@
 -- Where a statement goes next: x is the result, and `byte` the one that a dispatch takes.
 use Rattle.std.specs.Prelude.{◌≡◌, ℕ, ◌+◌, Bool, if◌then◌else◌, ◌==◌, IsTrue}
-use Rattle.mic_words.specs.Arithmetic.{is_negative}
-use Rattle.micro_word.specs.Words.{is_next}
-use Rattle.micro_word.specs.Coding.{addr_bits, jam_bits}
+use Rattle.mic_words.specs.Prelude.{is_negative}
+use Rattle.micro_word.specs.Prelude.{is_next, addr_bits, jam_bits}
 use Rattle.micro_word.specs.declared.statement.Test.{Test}
 use Rattle.micro_word.specs.declared.statement.Test.TheVariants as tests
 use Rattle.micro_word.specs.declared.statement.PlacedNext.{PlacedNext}

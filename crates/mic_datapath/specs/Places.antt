@@ -1,6 +1,6 @@
 -- The places of a datapath: the nine registers by the places of their bits in the field C, after them the fetched bytes, and one that holds 0.
 use Rattle.std.specs.Prelude.{ℕ, if◌then◌else◌, List, slice_index}
-use Rattle.micro_word.specs.Lines.{names}
+use Rattle.micro_word.specs.Prelude.{names}
 use Rattle.mic_datapath.specs.Registers.{NineRegisters}
 
 abbrev pub registers_at : List ℕ → NineRegisters

@@ -1,6 +1,6 @@
 -- The registers that the C bus loads, which are those of both datapaths: what they put on a bus, and what becomes of them at a clock edge (chapter 4).
 use Rattle.std.specs.Prelude.{ℕ, if◌then◌else◌, Option, Some, None}
-use Rattle.micro_word.specs.Destinations.{loads}
+use Rattle.micro_word.specs.Prelude.{loads}
 use Rattle.micro_word.specs.declared.destination.Destination.TheVariants as registers
 use Rattle.micro_word.specs.declared.statement.BusSource.{BusSource}
 use Rattle.micro_word.specs.declared.statement.BusSource.TheVariants as sources

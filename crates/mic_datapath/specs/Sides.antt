@@ -1,10 +1,9 @@
 -- What an operation finds on the B bus where it does not use it.
 use Rattle.std.specs.Prelude.{◌≡◌, ℕ, ◌/◌, ◌%◌, ◌==◌, Bool, Option, None, IsTrue}
-use Rattle.micro_word.specs.Words.{fits_side}
-use Rattle.micro_word.specs.Coding.{row}
+use Rattle.micro_word.specs.Prelude.{fits_side, row}
 use Rattle.micro_word.specs.declared.statement.AluOp.{AluOp}
 use Rattle.micro_word.specs.declared.statement.BusSource.{BusSource}
-use Rattle.mic1_alu.specs.Gates.{enabled}
+use Rattle.mic1_alu.specs.Prelude.{enabled}
 
 -- an operation finds 0 on the B bus where it does not use it
 abbrev pub PassesSideB : Type 0

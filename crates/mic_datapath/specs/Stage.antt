@@ -1,5 +1,5 @@
 -- The phase in which each of the four calls comes next.
-use Rattle.mic_clock.specs.Meaning.{Phase, AtRest, SetUp, Driven, AtEdge}
+use Rattle.mic_clock.specs.Prelude.{Phase, AtRest, SetUp, Driven, AtEdge}
 use Rattle.mic_datapath.specs.declared.stage.Stage.{Stage}
 use Rattle.mic_datapath.specs.declared.stage.Stage.TheVariants as stages
 

@@ -1,9 +1,7 @@
 //! The accesses of a cycle: their addresses are tested before anything is changed.
 
 ghost use Rattle.std.specs.Prelude.{◌≡◌, None, ℕ, is_some, length, OnOk, IfOk};
-ghost use Rattle.console_port.specs.World.{World};
-ghost use Rattle.console_port.specs.Bus.{FailsAsRefused};
-ghost use Rattle.console_port.specs.Streams.{StreamsGoOn};
+ghost use Rattle.console_port.specs.Prelude.{World, FailsAsRefused, StreamsGoOn};
 ghost use Rattle.mic_datapath.specs.Memory.{memory_refusal, byte_refusal, access_refusal, byte_under_way, ports_with};
 ghost use Rattle.mic_datapath.specs.Access.{HasAccessed, IsAccess, IsTransfer, LetsBytesWait, is_read};
 

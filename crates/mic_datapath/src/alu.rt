@@ -2,10 +2,8 @@
 
 ghost use Rattle.std.specs.Prelude.{◌≡◌, ◌/◌, ◌%◌, ◌==◌};
 ghost use Rattle.micro_word.specs.declared.statement.AluOp.{AluOp};
-ghost use Rattle.micro_word.specs.Coding.{row, shift_of};
-ghost use Rattle.micro_word.specs.Operation.{alu, shifted};
-ghost use Rattle.micro_word.specs.Lines.{on_each_bit};
-ghost use Rattle.mic1_alu.specs.Gates.{enabled};
+ghost use Rattle.micro_word.specs.Prelude.{row, shift_of, alu, shifted, on_each_bit};
+ghost use Rattle.mic1_alu.specs.Prelude.{enabled};
 
 use mic1_alu::{alu_by_lines, each_row_computes, shift};
 use micro_word::{Lines, Shift};

@@ -1,7 +1,7 @@
 //! The clock edge of the registers: the C bus goes to those that a word names, and then a word that was read arrives in MDR.
 
 ghost use Rattle.std.specs.Prelude.{◌≡◌, ◌≢◌, ◌<◌, ◌≤◌, ℕ, slice_index};
-ghost use Rattle.micro_word.specs.Lines.{AreSlots};
+ghost use Rattle.micro_word.specs.Prelude.{AreSlots};
 ghost use Rattle.mic_datapath.specs.Places.{place_loaded, registers_at};
 ghost use Rattle.mic_datapath.specs.Registers.{arrived, loaded};
 

@@ -1,7 +1,7 @@
 //! The address of the next word, by the control bits.
 
 ghost use Rattle.std.specs.Prelude.{◌≡◌, ◌<◌, ◌==◌};
-ghost use Rattle.mic_words.specs.Arithmetic.{is_negative};
+ghost use Rattle.mic_words.specs.Prelude.{is_negative};
 ghost use Rattle.mic_datapath.specs.Next.{GoesTo};
 ghost use Rattle.mic_datapath.specs.Jam.{low_bits, jammed};
 

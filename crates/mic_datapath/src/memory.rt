@@ -2,9 +2,7 @@
 //! console has room. None of them is refused, and no fault stops one.
 
 ghost use Rattle.std.specs.Prelude.{◌≡◌, ◌<◌, ◌/◌, None, is_some, length, true, false};
-ghost use Rattle.console_port.specs.Bus.{ChangesOnly};
-ghost use Rattle.console_port.specs.Console.{most_kept};
-ghost use Rattle.console_port.specs.World.{console_at};
+ghost use Rattle.console_port.specs.Prelude.{ChangesOnly, most_kept, console_at};
 ghost use Rattle.mic_datapath.specs.Memory.{access_refusal, memory_refusal};
 ghost use Rattle.mic_datapath.specs.Access.{AccessesMemory, AreInMemory, IsAccess, LeadsInside, SamplesMemory, TransfersMemory, is_access, is_read};
 

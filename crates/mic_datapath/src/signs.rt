@@ -1,7 +1,7 @@
 //! The sign of a fetched byte, on each higher bit of its word.
 
 ghost use Rattle.std.specs.Prelude.{◌≡◌};
-ghost use Rattle.mic_words.specs.Arithmetic.{signed_byte};
+ghost use Rattle.mic_words.specs.Prelude.{signed_byte};
 
 /// A byte with its sign on each higher bit.
 #[tactic(auto, unfolding(mic_words::specs::Arithmetic::signed_byte))]

@@ -1,35 +1,22 @@
 -- Where a failing sink breaks a line off.
 use Rattle.std.proofs.Common.{◌≡◌, ◌≢◌, ◌⊎◌, inl, inr, zero, suc, ℕ, ◌+◌, ◌<◌, List, ◌++◌, append_assoc, Option, Some, None, IsSome, refl, sym, ◌∙◌, ap, subst, arith, Result, Ok, Err}
 use Rattle.std.specs.Prelude.{OnErr, OnOk, IfErr}
-use Rattle.console_port.specs.Bus.{Stands}
+use Rattle.console_port.specs.Prelude.{Stands}
 use Rattle.console_port.specs.declared.fault.BusFault.{BusFault}
 use Rattle.console_port.specs.declared.fault.BusFault.TheVariants as faults
 use Rattle.mic_clock.specs.declared.counts.Counts.{Counts}
 use Rattle.mic_clock.specs.declared.end.End.{End}
 use Rattle.mic_clock.specs.declared.end.End.TheVariants as ends
-use Rattle.mic_clock.specs.Meaning.{Meaning}
-use Rattle.mic_clock.specs.Run.{MicroRun, bounded, turn, turns, word_at}
-use Rattle.mic_clock.specs.View.{BoardView}
-use Rattle.mic_clock.specs.Board.{ShowsRun, ShowsAs, IsLedTo, IsTurned, TurnIsCut, NoFault, EndsUncounted}
-use Rattle.mic_base.specs.Causes.{HasCause, Rose}
-use Rattle.mic_base.specs.Streams.{Puts}
-use Rattle.cli_outside.specs.Outside.{Got, GotInPart, SinkState}
+use Rattle.mic_clock.specs.Prelude.{Meaning, MicroRun, bounded, turn, turns, word_at, BoardView, ShowsRun, ShowsAs, IsLedTo, IsTurned, TurnIsCut, NoFault, EndsUncounted}
+use Rattle.mic_base.specs.Prelude.{HasCause, Rose, Puts, puts_first, puts_nothing, puts_passed, puts_then}
+use Rattle.cli_outside.specs.Prelude.{Got, GotInPart, SinkState}
 use Rattle.mic_debugger.specs.declared.plan.Plan.{Plan}
 use Rattle.mic_debugger.specs.declared.plan.Plan.TheVariants as plans
 use Rattle.mic_debugger.specs.declared.plan.Shown.{Shown}
 use Rattle.mic_debugger.specs.declared.until.Until.{Until}
-use Rattle.mic_debugger.specs.Book.{Book, IsBookOf}
-use Rattle.mic_debugger.specs.Clocking.{IsTold, after, passed, printed, turn_lines, turn_text}
-use Rattle.mic_debugger.specs.Obeys.{IsBrokenAt, IsCarriedOut, IsPlanBroken, plan_in}
-use Rattle.mic_debugger.specs.Outcome.{IsBrokenOff, SinkFailed, Streams}
-use Rattle.mic_debugger.specs.Plans.{shown_text}
-use Rattle.mic_debugger.specs.Stand.{Carries, IsPart, IsWhole, Rules, Stand, plan_at, rules_of, stand_in}
-use Rattle.cli_session.specs.Fronts.{front_given, front_lost, in_part}
-use Rattle.cli_session.specs.Meaning.{IsFrontOf}
-use Rattle.mic_debugger.specs.Session.{HoldsFront, IsBroken, IsUnderway, StandsAfter, text_between}
-use Rattle.mic_debugger.specs.View.{SessionView}
+use Rattle.mic_debugger.specs.Prelude.{Book, IsBookOf, IsTold, after, passed, printed, turn_lines, turn_text, IsBrokenAt, IsCarriedOut, IsPlanBroken, plan_in, IsBrokenOff, SinkFailed, Streams, shown_text, Carries, IsPart, IsWhole, Rules, Stand, plan_at, rules_of, stand_in, HoldsFront, IsBroken, IsUnderway, StandsAfter, text_between, SessionView}
+use Rattle.cli_session.specs.Prelude.{front_given, front_lost, in_part, IsFrontOf}
 use Rattle.mic_debugger.proofs.Carrying.{led_on, same_plan, same_shown}
-use Rattle.mic_base.specs.Putting.{puts_first, puts_nothing, puts_passed, puts_then}
 use Rattle.mic_debugger.proofs.Uncounted.{uncounted}
 use Rattle.mic_debugger.proofs.Underway.{after-suc, going_more}
 

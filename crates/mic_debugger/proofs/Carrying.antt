@@ -1,26 +1,15 @@
 -- How a plan leads the runs of a session on.
 use Rattle.std.proofs.Common.{◌≡◌, ◌≢◌, ◌⊎◌, ℕ, List, [], Bool, Option, None, Some, refl, sym, ◌∙◌, subst}
-use Rattle.mic_base.specs.Causes.{Rose}
-use Rattle.console_port.specs.Console.{Untaken}
+use Rattle.mic_base.specs.Prelude.{Rose}
+use Rattle.console_port.specs.Prelude.{Untaken}
 use Rattle.mic_clock.specs.declared.end.End.TheVariants as ends
-use Rattle.mic_clock.specs.Meaning.{Meaning}
-use Rattle.mic_clock.specs.Run.{MicroRun}
-use Rattle.mic_clock.specs.View.{BoardView}
-use Rattle.mic_clock.specs.Board.{ShowsRun, ShowsAs, IsCutByRead, IsLedTo}
-use Rattle.cli_outside.specs.Outside.{SinkState}
+use Rattle.mic_clock.specs.Prelude.{Meaning, MicroRun, BoardView, ShowsRun, ShowsAs, IsCutByRead, IsLedTo}
+use Rattle.cli_outside.specs.Prelude.{SinkState}
 use Rattle.mic_debugger.specs.declared.plan.Plan.{Plan}
 use Rattle.mic_debugger.specs.declared.plan.Plan.TheVariants as plans
 use Rattle.mic_debugger.specs.declared.plan.Shown.{Shown}
 use Rattle.mic_debugger.specs.declared.until.Until.{Until}
-use Rattle.mic_debugger.specs.Book.{Book, IsBookOf}
-use Rattle.mic_debugger.specs.Clocking.{after, printed}
-use Rattle.mic_debugger.specs.Commands.{command_of}
-use Rattle.mic_debugger.specs.Obeys.{DoesTo, IsCarriedOut, IsPlanBroken, StopsTo, plan_in}
-use Rattle.mic_debugger.specs.Plans.{breaks_after, plan_of, shown_text, watched_after}
-use Rattle.mic_debugger.specs.Session.{IsBroken}
-use Rattle.mic_debugger.specs.Stand.{Carries, IsWhole, plan_at, rules_of, stand_in}
-use Rattle.mic_debugger.specs.Outcome.{GoesThrough, NoSinkFailed, SinkFailed, Streams}
-use Rattle.mic_debugger.specs.View.{SessionView}
+use Rattle.mic_debugger.specs.Prelude.{Book, IsBookOf, after, printed, command_of, DoesTo, IsCarriedOut, IsPlanBroken, StopsTo, plan_in, breaks_after, plan_of, shown_text, watched_after, IsBroken, Carries, IsWhole, plan_at, rules_of, stand_in, GoesThrough, NoSinkFailed, SinkFailed, Streams, SessionView}
 
 -- a sink that failed after none had
 pub failed_after : (out out' out'' err err' err'' : ℕ) → out' ≡ out → err' ≡ err → Rose out' out'' ⊎ Rose err' err'' → Rose out out'' ⊎ Rose err err''

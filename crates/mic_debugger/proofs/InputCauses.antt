@@ -1,9 +1,9 @@
 -- Why the count of the input rose.
 use Rattle.std.proofs.Common.{◌≡◌, ℕ, Option, None, refl, subst, ◌∙◌}
-use Rattle.mic_base.specs.Causes.{Rose}
-use Rattle.mic_clock.specs.Board.{HasEndCause}
+use Rattle.mic_base.specs.Prelude.{Rose}
+use Rattle.mic_clock.specs.Prelude.{HasEndCause}
 use Rattle.mic_clock.specs.declared.end.End.{End}
-use Rattle.mic_debugger.specs.Session.{HasReadCause}
+use Rattle.mic_debugger.specs.Prelude.{HasReadCause}
 
 -- nothing was read yet
 pub cause_start : (n : ℕ) (end : Option End) → end ≡ None → HasReadCause n n end

@@ -1,9 +1,8 @@
 -- A placement has an address for each statement.
 use Rattle.std.proofs.Common.{◌≡◌, ℕ, List, length, ◌∙◌}
 use Rattle.std.proofs.lemmas.List.{length-map}
-use Rattle.mal_parser.specs.Program.{MalView}
-use Rattle.store_placement.specs.Placement.{Places}
-use Rattle.store_placement.specs.Program.{demands_of}
+use Rattle.mal_parser.specs.Prelude.{MalView}
+use Rattle.store_placement.specs.Prelude.{Places, demands_of}
 
 pub placed_count : (program : MalView) (placement : List ℕ) → Places (demands_of program) placement → length placement ≡ length program.statements
 unfolding demands_of

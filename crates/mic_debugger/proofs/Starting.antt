@@ -1,8 +1,7 @@
 -- At the start of a reached instruction nothing else stands.
 use Rattle.std.proofs.Common.{◌≡◌, ◌≢◌, ℕ, ◌<◌, refl, ap, arith}
-use Rattle.ijvm_image.specs.Image.{ImageView}
-use Rattle.verifier_facts.specs.Facts.{Accepts, Code, Header}
-use Rattle.verifier_facts.specs.Kinds.{IsKind, first}
+use Rattle.ijvm_image.specs.Prelude.{ImageView}
+use Rattle.verifier_facts.specs.Prelude.{Accepts, Code, Header, IsKind, first}
 use Rattle.verifier_facts.specs.declared.kind.Kind.{Kind}
 use Rattle.verifier_facts.specs.declared.kind.Kind.TheVariants as kinds
 use Rattle.verifier_facts.specs.declared.error.VerifyError.TheVariants.{Overlap}

@@ -4,8 +4,7 @@ use Rattle.std.specs.Prelude.{nat_le}
 use Rattle.mic_clock.specs.declared.counts.Counts.{Counts}
 use Rattle.mic_clock.specs.declared.end.End.{End}
 use Rattle.mic_clock.specs.declared.registers.Registers.{Registers}
-use Rattle.mic_clock.specs.Meaning.{Meaning, Outcome, Done, Refused}
-use Rattle.mic_clock.specs.Run.{MicroRun, counts_at, counts_between, bounded, bounded_by, end_before, after_end_or_step, after_step, turn, turn_by, turns, word_at}
+use Rattle.mic_clock.specs.Prelude.{Meaning, Outcome, Done, Refused, MicroRun, counts_at, counts_between, bounded, bounded_by, end_before, after_end_or_step, after_step, turn, turn_by, turns, word_at}
 
 counted_once : (b : Bool) (c : Counts) (stalled : Bool) (at : ℕ) (r : Registers) → (if b then counts_at c stalled at r else counts_between c stalled).cycles ≡ c.cycles + 1
 counted_once true c stalled at r = refl

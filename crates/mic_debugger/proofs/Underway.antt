@@ -2,15 +2,10 @@
 use Rattle.std.proofs.Common.{◌≡◌, ◌⊎◌, inl, inr, zero, suc, ℕ, ◌+◌, ◌<◌, List, [], ◌++◌, Option, Some, None, IsSome, refl, sym, ◌∙◌, ap, subst, arith}
 use Rattle.std.proofs.lemmas.Bool.{cases_lt}
 use Rattle.mic_clock.specs.declared.end.End.TheVariants as ends
-use Rattle.mic_clock.specs.Meaning.{Meaning}
-use Rattle.mic_clock.specs.Run.{MicroRun, word_at, turn, turns, bounded}
-use Rattle.mic_clock.specs.View.{BoardView}
-use Rattle.mic_clock.specs.Board.{ShowsRun, IsLedTo, IsCutByRead, Leads}
+use Rattle.mic_clock.specs.Prelude.{Meaning, MicroRun, word_at, turn, turns, bounded, BoardView, ShowsRun, IsLedTo, IsCutByRead, Leads}
 use Rattle.mic_debugger.specs.declared.plan.Plan.TheVariants as plans
 use Rattle.mic_debugger.specs.declared.until.Until.{Until}
-use Rattle.mic_debugger.specs.Book.{Book}
-use Rattle.mic_debugger.specs.Clocking.{turn_text, counted_turn, after, turn_lines, passed, printed, IsDone, IsGoing}
-use Rattle.mic_debugger.specs.Session.{text_between, IsUnderway, IsStopped}
+use Rattle.mic_debugger.specs.Prelude.{Book, turn_text, counted_turn, after, turn_lines, passed, printed, IsDone, IsGoing, text_between, IsUnderway, IsStopped}
 
 module _ {M State : Type 0} (state : M → State) (m : Meaning State) (book : Book) (words breaks : List ℕ) (bound : ℕ) (u : Until) (times : ℕ) where
   -- one more turn

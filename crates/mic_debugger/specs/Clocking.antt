@@ -5,14 +5,13 @@ use Rattle.mic_clock.specs.declared.counts.Boundary.{Boundary}
 use Rattle.mic_clock.specs.declared.counts.Counts.{Counts}
 use Rattle.mic_clock.specs.declared.end.End.{End}
 use Rattle.mic_clock.specs.declared.registers.Registers.{Registers}
-use Rattle.mic_clock.specs.Meaning.{Meaning}
-use Rattle.mic_clock.specs.Run.{MicroRun, since, number_of, word_at, turns}
-use Rattle.cli_outside.specs.Outside.{Got, GotInPart}
+use Rattle.mic_clock.specs.Prelude.{Meaning, MicroRun, since, number_of, word_at, turns}
+use Rattle.cli_outside.specs.Prelude.{Got, GotInPart}
 use Rattle.mic_debugger.specs.declared.until.Until.{Until}
 use Rattle.mic_debugger.specs.declared.until.Until.TheVariants as until
 use Rattle.mic_debugger.specs.declared.until.Watched.{Watched}
 use Rattle.mic_debugger.specs.Book.{Book}
-use Rattle.cli_session.specs.Texts.{end_line}
+use Rattle.cli_session.specs.Prelude.{end_line}
 use Rattle.mic_debugger.specs.Lines.{clocked_line, registers_line, place_line, next_line}
 
 -- ---- what is waited for

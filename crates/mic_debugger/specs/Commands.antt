@@ -3,8 +3,7 @@ use Rattle.std.specs.Prelude.{ℕ, List, [], ◌∷◌, Option, Result}
 use Rattle.cli_session.specs.declared.reading.Command.{Command}
 use Rattle.cli_session.specs.declared.reading.CommandError.{CommandError}
 use Rattle.cli_session.specs.declared.table.Argument.TheVariants as arguments
-use Rattle.cli_session.specs.Commands.{command_in}
-use Rattle.cli_session.specs.Table.{CommandForm, command_form}
+use Rattle.cli_session.specs.Prelude.{command_in, CommandForm, command_form}
 use Rattle.mic_debugger.specs.declared.table.Verb.{Verb}
 use Rattle.mic_debugger.specs.declared.table.Verb.TheVariants as verbs
 

@@ -9,3 +9,4 @@ pub mod Plans
 pub mod Shown
 pub mod Stand
 pub mod Obeys
+pub mod Prelude

@@ -4,7 +4,7 @@ use Rattle.std.specs.List.{list_any}
 use Rattle.mic_clock.specs.declared.counts.Counts.{Counts}
 use Rattle.mic_clock.specs.declared.end.End.{End}
 use Rattle.mic_clock.specs.declared.registers.Registers.{Registers}
-use Rattle.mic_clock.specs.State.{state_line}
+use Rattle.mic_clock.specs.Prelude.{state_line}
 use Rattle.mic_debugger.specs.Book.{Book}
 use Rattle.mic_debugger.specs.Lines.{stack_text, where_line}
 use Rattle.mic_debugger.specs.declared.table.Verb.{Verb}

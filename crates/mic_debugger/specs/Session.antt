@@ -1,19 +1,14 @@
 -- Where a session leads a board, and what it prints.
 use Rattle.std.specs.Prelude.{◌≡◌, ◌≢◌, ◌⊎◌, ℕ, ◌+◌, ◌<◌, Bool, List, ◌++◌, Option, Some, Result, OnOk, OnErr, IfOk}
-use Rattle.mic_base.specs.Causes.{HasCause, Rose}
-use Rattle.mic_base.specs.Streams.{KeepsFront, Puts}
+use Rattle.mic_base.specs.Prelude.{HasCause, Rose, KeepsFront, Puts}
 use Rattle.mic_clock.specs.declared.counts.Counts.{Counts}
 use Rattle.mic_clock.specs.declared.end.End.{End}
-use Rattle.mic_clock.specs.Meaning.{Meaning}
-use Rattle.mic_clock.specs.Run.{MicroRun, number_of, word_at, turns}
-use Rattle.mic_clock.specs.View.{BoardView}
-use Rattle.mic_clock.specs.Board.{ShowsRun, IsCutByRead}
+use Rattle.mic_clock.specs.Prelude.{Meaning, MicroRun, number_of, word_at, turns, BoardView, ShowsRun, IsCutByRead}
 use Rattle.mic_clock.specs.declared.end.End.TheVariants as ends
-use Rattle.cli_outside.specs.Outside.{Got, GotInPart}
-use Rattle.cli_session.specs.Meaning.{IsFrontOf}
+use Rattle.cli_outside.specs.Prelude.{Got, GotInPart}
+use Rattle.cli_session.specs.Prelude.{IsFrontOf, end_line}
 use Rattle.mic_debugger.specs.declared.until.Until.{Until}
 use Rattle.mic_debugger.specs.Book.{Book, ByBook, IsBookOf}
-use Rattle.cli_session.specs.Texts.{end_line}
 use Rattle.mic_debugger.specs.Clocking.{first_piece, second_piece, turn_text, counted_turn, after, printed, passed, IsGoing, IsTold}
 use Rattle.mic_debugger.specs.View.{ListingView}
 

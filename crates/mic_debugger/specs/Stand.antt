@@ -1,8 +1,6 @@
 -- Where a session stands, and what a line does there: the definition of debugging.
 use Rattle.std.specs.Prelude.{◌≡◌, ℕ, List, Option}
-use Rattle.mic_clock.specs.Meaning.{Meaning}
-use Rattle.mic_clock.specs.Run.{MicroRun}
-use Rattle.mic_clock.specs.Board.{ShowsRun}
+use Rattle.mic_clock.specs.Prelude.{Meaning, MicroRun, ShowsRun}
 use Rattle.mic_debugger.specs.declared.plan.Plan.{Plan}
 use Rattle.mic_debugger.specs.declared.plan.Plan.TheVariants as plans
 use Rattle.mic_debugger.specs.declared.until.Until.{Until}

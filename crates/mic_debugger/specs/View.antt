@@ -1,9 +1,9 @@
 -- What clauses see of a listing and of a session.
 use Rattle.std.specs.Prelude.{ℕ, List, Option}
-use Rattle.ijvm_image.specs.Image.{ImageView}
-use Rattle.mal_parser.specs.Program.{MalView}
-use Rattle.mic_clock.specs.View.{BoardView}
-use Rattle.verifier_facts.specs.Accepted.{VerifiedView}
+use Rattle.ijvm_image.specs.Prelude.{ImageView}
+use Rattle.mal_parser.specs.Prelude.{MalView}
+use Rattle.mic_clock.specs.Prelude.{BoardView}
+use Rattle.verifier_facts.specs.Prelude.{VerifiedView}
 
 pub record ListingView : Type 0 where
   pub program : MalView

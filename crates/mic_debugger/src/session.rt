@@ -1,13 +1,10 @@
 //! A session: a board, what names its words and instructions, and what the student has set.
 
 ghost use Rattle.std.specs.Prelude.{◌≡◌, ◌≤◌, ◌+◌, ◌^◌, ◌++◌, ℕ, [], Some, None, OnOk, OnErr, IfOk, IsErr, min, codes};
-ghost use Rattle.mic_base.specs.Causes.{HasCause};
-ghost use Rattle.mic_base.specs.Streams.{IsFlushed, KeepsFront, Puts};
-ghost use Rattle.store_placement.specs.Placement.{Places};
-ghost use Rattle.store_placement.specs.Program.{demands_of, IsFilled};
-ghost use Rattle.console_port.specs.Streams.{SinkGoesOn};
-ghost use Rattle.console_port.specs.View.{KeepsMemoryAndInput};
-ghost use Rattle.mic_clock.specs.Board.{AreCounts, ShowsAs};
+ghost use Rattle.mic_base.specs.Prelude.{HasCause, IsFlushed, KeepsFront, Puts};
+ghost use Rattle.store_placement.specs.Prelude.{Places, demands_of, IsFilled};
+ghost use Rattle.console_port.specs.Prelude.{SinkGoesOn, KeepsMemoryAndInput};
+ghost use Rattle.mic_clock.specs.Prelude.{AreCounts, ShowsAs};
 ghost use Rattle.mic_debugger.specs.Outcome.{HasSinkCause, KeepFronts, streams};
 ghost use Rattle.mic_debugger.specs.Commands.{command_of};
 ghost use Rattle.mic_debugger.specs.Shown.{PutsShown, registers_text, stack_of};
@@ -45,7 +42,7 @@ pub struct Session<M: Clocked> {
 
 impl<M: Clocked> Model for Session<M> {
     ghost use Rattle.std.specs.Prelude.{◌≤◌, ◌^◌};
-    ghost use Rattle.mic_clock.specs.Board.{InTime};
+    ghost use Rattle.mic_clock.specs.Prelude.{InTime};
     ghost use Rattle.mic_debugger.specs.View.{SessionView};
 
     ghost Value = { SessionView M };

@@ -1,7 +1,7 @@
 -- An image by its parts.
 use Rattle.std.proofs.Common.{◌≡◌, ℕ, List, subst}
-use Rattle.ijvm_image.specs.Image.{IsImage}
-use Rattle.verifier_facts.specs.Accepted.{VerifiedView}
+use Rattle.ijvm_image.specs.Prelude.{IsImage}
+use Rattle.verifier_facts.specs.Prelude.{VerifiedView}
 
 pub image_by_parts : (v : VerifiedView) (text pool : List ℕ) → text ≡ v.image.text → pool ≡ v.image.pool → IsImage (record { text = text; pool = pool }) → IsImage v.image
 image_by_parts v text pool e f h =

@@ -1,14 +1,9 @@
 -- A board at its reset, with a verified image loaded.
 use Rattle.std.specs.Prelude.{◌≡◌, ℕ, ◌+◌, ◌-◌, List, [], replicate, Option, None, false}
-use Rattle.console_port.specs.World.{World}
-use Rattle.console_port.specs.Bus.{Shows}
-use Rattle.console_port.specs.Loading.{HasTextWords, IsLoaded}
-use Rattle.mic_clock.specs.Meaning.{Meaning}
-use Rattle.mic_clock.specs.View.{BoardView}
-use Rattle.mic_clock.specs.Run.{MicroRun, start_run, start_buses, start_counts}
-use Rattle.mic_clock.specs.Board.{ShowsRun}
-use Rattle.ijvm_image.specs.Image.{IsImage}
-use Rattle.verifier_facts.specs.Accepted.{VerifiedView, IsAccepted}
+use Rattle.console_port.specs.Prelude.{World, Shows, HasTextWords, IsLoaded}
+use Rattle.mic_clock.specs.Prelude.{Meaning, BoardView, MicroRun, start_run, start_buses, start_counts, ShowsRun}
+use Rattle.ijvm_image.specs.Prelude.{IsImage}
+use Rattle.verifier_facts.specs.Prelude.{VerifiedView, IsAccepted}
 
 -- the clocked run at its reset: MPC at the entry, and SP before the first operand of main, which has this many locals
 abbrev pub reset_run : {S : Type 0} → Meaning S → ℕ → ℕ → World → MicroRun S

@@ -1,7 +1,7 @@
 //! A board at its reset, over a verified image.
 
 ghost use Rattle.std.specs.Prelude.{◌≡◌, ◌<◌, length, IfOk};
-ghost use Rattle.ijvm_image.specs.Image.{IsWithinLimits, IsImage};
+ghost use Rattle.ijvm_image.specs.Prelude.{IsWithinLimits, IsImage};
 ghost use Rattle.mic_image_board.specs.Reset.{IsAtReset};
 
 use console_port::{Bus, FRAME};

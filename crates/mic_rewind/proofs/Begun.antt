@@ -4,7 +4,7 @@ use Rattle.std.proofs.lemmas.Grind.{common_steps}
 use Rattle.std.specs.List.{slice_get}
 use Rattle.mic_rewind.specs.declared.kept_cycle.KeptCycle.{KeptCycle}
 use Rattle.mic_rewind.specs.declared.moment.Moment.{Moment}
-use Rattle.mic_rewind.specs.States.{Cycle, begun, cycles_from, led_from}
+use Rattle.mic_rewind.specs.Prelude.{Cycle, begun, cycles_from, led_from}
 
 pub begun-length : (m : Moment) (cs : List KeptCycle) → length (cycles_from m cs) ≡ length cs
 begun-length m [] = refl

@@ -4,8 +4,7 @@ use Rattle.std.specs.List.{slice_get}
 use Rattle.circular_buffer.specs.Buffer.{Buffer, buffer, keep_last}
 use Rattle.mic_rewind.specs.declared.kept_cycle.KeptCycle.{KeptCycle}
 use Rattle.mic_rewind.specs.declared.moment.Moment.{Moment}
-use Rattle.mic_rewind.specs.States.{led_from}
-use Rattle.mic_rewind.specs.View.{begun_at, first_in, kept_in, moment_at, spare, view_from}
+use Rattle.mic_rewind.specs.Prelude.{led_from, begun_at, first_in, kept_in, moment_at, spare, view_from}
 use Rattle.mic_rewind.proofs.Begun.{begun-length}
 use Rattle.mic_rewind.proofs.Zipping.{kept-length}
 

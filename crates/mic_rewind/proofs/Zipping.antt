@@ -6,10 +6,9 @@ use Rattle.std.specs.Option.{IsSome}
 use Rattle.std.proofs.Math.Seq.{take-suc, drop-cons}
 use Rattle.std.proofs.lemmas.Option.{get_or_from_slice_get, slice_get_within}
 use Rattle.circular_buffer.specs.Buffer.{Buffer, buffer, keep_last}
-use Rattle.mic_clock.specs.Board.{tick_of}
+use Rattle.mic_clock.specs.Prelude.{tick_of}
 use Rattle.mic_rewind.specs.declared.moment.Moment.{Moment}
-use Rattle.mic_rewind.specs.States.{Cycle, undone, redone, states_before, states_after, Fits, LeadTo, LeadFrom}
-use Rattle.mic_rewind.specs.View.{GoesBack, appended, past, future, view_of, IsHistory}
+use Rattle.mic_rewind.specs.Prelude.{Cycle, undone, redone, states_before, states_after, Fits, LeadTo, LeadFrom, GoesBack, appended, past, future, view_of, IsHistory}
 use Rattle.mic_rewind.proofs.Tracks.{states_before-snoc, states_before-length, states_after-length, states_before-drop, LeadTo-drop, LeadTo-last, LeadTo-front, LeadTo-snoc, back-before, back-after, back-leads}
 
 -- the items around the cycle at a place

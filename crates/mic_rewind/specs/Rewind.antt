@@ -1,12 +1,8 @@
 -- What clauses see of a rewind, and how its calls change that.
 use Rattle.std.specs.Prelude.{◌≡◌, ◌<◌, ℕ, List, [], ◌∷◌, Option, None, IsSome, Result, IfErr}
 use Rattle.console_port.specs.declared.fault.BusFault.{BusFault}
-use Rattle.console_port.specs.Bus.{Stands}
-use Rattle.console_port.specs.View.{BusView}
-use Rattle.mic_clock.specs.Board.{ShowsRun, IsTurned, IsCutByFault, tick_of}
-use Rattle.mic_clock.specs.Meaning.{Meaning}
-use Rattle.mic_clock.specs.Run.{MicroRun}
-use Rattle.mic_clock.specs.View.{BoardView}
+use Rattle.console_port.specs.Prelude.{Stands, BusView}
+use Rattle.mic_clock.specs.Prelude.{ShowsRun, IsTurned, IsCutByFault, tick_of, Meaning, MicroRun, BoardView}
 use Rattle.mic_clock.specs.declared.end.Tick.{Tick}
 use Rattle.mic_rewind.specs.declared.moment.Moment.{Moment}
 use Rattle.mic_rewind.specs.States.{Snapshot}

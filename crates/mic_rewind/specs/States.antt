@@ -1,6 +1,6 @@
 -- The states between kept cycles, by the memory at a cursor between two of them.
 use Rattle.std.specs.Prelude.{◌≡◌, ℕ, List, [], ◌∷◌, Option, Some, None, slice_set}
-use Rattle.mic_clock.specs.Board.{tick_of}
+use Rattle.mic_clock.specs.Prelude.{tick_of}
 use Rattle.mic_clock.specs.declared.end.Tick.{Tick}
 use Rattle.mic_rewind.specs.declared.kept_cycle.KeptCycle.{KeptCycle}
 use Rattle.mic_rewind.specs.declared.moment.Moment.{Moment}

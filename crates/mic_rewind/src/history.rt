@@ -1,7 +1,7 @@
 //! The last cycles of a board, and a cursor among them.
 
 ghost use Rattle.std.specs.Prelude.{◌≡◌, ◌≤◌, ◌<◌, [], ◌∷◌, length, slice_get, true, false, None, IfOk};
-ghost use Rattle.mic_clock.specs.Board.{tick_of};
+ghost use Rattle.mic_clock.specs.Prelude.{tick_of};
 ghost use Rattle.mic_rewind.specs.States.{snapshot_after};
 ghost use Rattle.mic_rewind.specs.View.{GoesBack, appended, history_of, kept_in};
 

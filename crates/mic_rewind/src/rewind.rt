@@ -1,11 +1,9 @@
 //! A board with a cursor at it, or some cycles before it.
 
 ghost use Rattle.std.specs.Prelude.{◌≡◌, ◌≢◌, ◌≤◌, ◌<◌, ◌+◌, ◌^◌, [], Err, IsOk, IfOk, IfErr, OnOk, true, false, length, slice_get};
-ghost use Rattle.mic_base.specs.Streams.{IsFlushed};
-ghost use Rattle.console_port.specs.Console.{HasFaultCause};
-ghost use Rattle.console_port.specs.Streams.{SinkGoesOn};
-ghost use Rattle.console_port.specs.View.{KeepsMemoryAndInput};
-ghost use Rattle.mic_clock.specs.Board.{GoesOn, ShowsAs};
+ghost use Rattle.mic_base.specs.Prelude.{IsFlushed};
+ghost use Rattle.console_port.specs.Prelude.{HasFaultCause, SinkGoesOn, KeepsMemoryAndInput};
+ghost use Rattle.mic_clock.specs.Prelude.{GoesOn, ShowsAs};
 ghost use Rattle.mic_rewind.specs.View.{GoesBack, history_of};
 ghost use Rattle.mic_rewind.specs.Rewind.{ClocksOn, MovesOn, StandsOnErr, moment_of, state_of};
 

@@ -1,11 +1,10 @@
 -- What calls one after the other leave of a board, its source and its sink.
 use Rattle.std.proofs.Common.{◌≡◌, ◌≤◌, ◌∙◌, ℕ, List, [], Bool, Option, Some, None, refl, sym, subst, arith}
-use Rattle.console_port.specs.Streams.{SinkGoesOn, SourceGoesOn}
-use Rattle.mic_base.specs.Causes.{Rose}
+use Rattle.console_port.specs.Prelude.{SinkGoesOn, SourceGoesOn}
+use Rattle.mic_base.specs.Prelude.{Rose}
 use Rattle.mic_clock.specs.declared.end.End.{End}
 use Rattle.mic_clock.specs.declared.end.End.TheVariants as ends
-use Rattle.mic_clock.specs.View.{BoardView}
-use Rattle.mic_clock.specs.Board.{GoesOn, HasEndCause, NoFault}
+use Rattle.mic_clock.specs.Prelude.{BoardView, GoesOn, HasEndCause, NoFault}
 
 -- nothing was called
 cause_start : (a b : ℕ) (end : Option End) → end ≡ None → HasEndCause a a b b end end

@@ -2,17 +2,13 @@
 use Rattle.std.proofs.Common.{◌≡◌, ◌≢◌, ◌≤◌, inl, inr, ℕ, zero, suc, ◌+◌, List, [], ◌∷◌, ◌++◌, Bool, Option, Some, None, IsSome, refl, sym, ◌∙◌, ap, subst, take, drop, append_assoc}
 use Rattle.std.proofs.Math.ListN.{take-append-drop}
 use Rattle.std.specs.Prelude.{IfSome}
-use Rattle.console_port.specs.Console.{IsLost, Given, LosesLast, Untaken}
+use Rattle.console_port.specs.Prelude.{IsLost, Given, LosesLast, Untaken}
 use Rattle.mic_clock.specs.declared.counts.Counts.{Counts}
 use Rattle.mic_clock.specs.declared.end.End.{End}
 use Rattle.mic_clock.specs.declared.end.End.TheVariants as ends
-use Rattle.mic_clock.specs.Meaning.{Meaning}
-use Rattle.mic_clock.specs.View.{BoardView}
-use Rattle.mic_clock.specs.Run.{MicroRun, Buses, last_cycles, word_at, turn, turns, buses, bounded, buses_of}
-use Rattle.mic_clock.specs.Board.{ShowsRun, ShowsAs, IsLedTo, IsCutAt, IsCutByRead, Leads, NoFault, IsTurned, RunIsCutByRead, TurnIsCut, IsCountedTurn}
+use Rattle.mic_clock.specs.Prelude.{Meaning, BoardView, MicroRun, Buses, last_cycles, word_at, turn, turns, buses, bounded, buses_of, ShowsRun, ShowsAs, IsLedTo, IsCutAt, IsCutByRead, Leads, NoFault, IsTurned, RunIsCutByRead, TurnIsCut, IsCountedTurn}
 use Rattle.mic_watched.specs.declared.cycle.Cycle.{Cycle}
-use Rattle.mic_watched.specs.Cycles.{shown_where, cycle_between, shown, cycles_of, boundary_in, boundary_of, cycle_on, shown_on}
-use Rattle.mic_watched.specs.Watched.{LeadsOver, ShowsCycles}
+use Rattle.mic_watched.specs.Prelude.{shown_where, cycle_between, shown, cycles_of, boundary_in, boundary_of, cycle_on, shown_on, LeadsOver, ShowsCycles}
 use Rattle.mic_watched.proofs.Turns.{turns-plus, buses-plus, cycles-plus, cycles-none, boundary-counted}
 
 where_same : (end : Option End) (c d : Cycle) → (end ≡ None → c ≡ d) → shown_where end c ≡ shown_where end d

@@ -9,10 +9,9 @@ use Rattle.mic_clock.specs.declared.counts.Counts.{Counts}
 use Rattle.mic_clock.specs.declared.end.End.{End}
 use Rattle.mic_clock.specs.declared.end.End.TheVariants as ends
 use Rattle.mic_clock.specs.declared.registers.Registers.{Registers}
-use Rattle.mic_clock.specs.Meaning.{Meaning, Outcome, Done, Refused}
-use Rattle.mic_clock.specs.Run.{MicroRun, Buses, last_cycles, word_at, end_before, after_step, after_end_or_step, turn, turn_by, turns, buses, buses_of, bounded, bounded_by, counts_at, counts_between, counts_after}
+use Rattle.mic_clock.specs.Prelude.{Meaning, Outcome, Done, Refused, MicroRun, Buses, last_cycles, word_at, end_before, after_step, after_end_or_step, turn, turn_by, turns, buses, buses_of, bounded, bounded_by, counts_at, counts_between, counts_after}
 use Rattle.mic_watched.specs.declared.cycle.Cycle.{Cycle}
-use Rattle.mic_watched.specs.Cycles.{shown_where, cycle_between, shown, cycles_of, boundary_at, boundary_in}
+use Rattle.mic_watched.specs.Prelude.{shown_where, cycle_between, shown, cycles_of, boundary_at, boundary_in}
 
 iterate-suc : {A : Type 0} (h : A → A) (n : ℕ) (x : A) → iterate h (suc n) x ≡ h (iterate h n x)
 iterate-suc h zero x = refl

@@ -3,9 +3,7 @@ use Rattle.std.specs.Prelude.{ℕ, zero, suc, ◌==◌, if◌then◌else◌, Lis
 use Rattle.mic_clock.specs.declared.counts.Boundary.{Boundary}
 use Rattle.mic_clock.specs.declared.counts.Counts.{Counts}
 use Rattle.mic_clock.specs.declared.end.End.{End}
-use Rattle.mic_clock.specs.Meaning.{Meaning}
-use Rattle.mic_clock.specs.Run.{MicroRun, word_at, turns}
-use Rattle.mic_clock.specs.View.{BoardView}
+use Rattle.mic_clock.specs.Prelude.{Meaning, MicroRun, word_at, turns, BoardView}
 use Rattle.mic_watched.specs.declared.cycle.Cycle.{Cycle}
 
 -- what a turn shows: its cycle, where it does not end the run

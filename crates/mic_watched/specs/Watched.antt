@@ -1,12 +1,9 @@
 -- A run between two boards with the cycles that it shows, and what a watcher makes of them.
 use Rattle.std.specs.Prelude.{◌≡◌, ◌≤◌, ◌+◌, ◌^◌, ℕ, Bool, is_some, List, [], ◌∷◌, ◌++◌, Option, Some, None, Result, Ok, Err}
-use Rattle.mic_base.specs.Streams.{Puts}
+use Rattle.mic_base.specs.Prelude.{Puts}
 use Rattle.mic_clock.specs.declared.end.End.{End}
 use Rattle.mic_clock.specs.declared.end.End.TheVariants as ends
-use Rattle.mic_clock.specs.Meaning.{Meaning}
-use Rattle.mic_clock.specs.Run.{MicroRun, last_cycles}
-use Rattle.mic_clock.specs.View.{BoardView}
-use Rattle.mic_clock.specs.Board.{ShowsRun, IsLedTo, IsCutAt, IsCutByRead, Leads, NoFault}
+use Rattle.mic_clock.specs.Prelude.{Meaning, MicroRun, last_cycles, BoardView, ShowsRun, IsLedTo, IsCutAt, IsCutByRead, Leads, NoFault}
 use Rattle.mic_watched.specs.declared.cycle.Cycle.{Cycle}
 use Rattle.mic_watched.specs.Cycles.{cycles_of}
 

@@ -1,8 +1,8 @@
 //! A board is clocked to its end, and a watcher sees each cycle.
 
 ghost use Rattle.std.specs.Prelude.{◌≡◌, ◌≢◌, ◌≤◌, ◌<◌, ◌+◌, ◌^◌, max, [], None, IsSome, IfOk, OnOk, OnErr};
-ghost use Rattle.mic_base.specs.Causes.{HasCause};
-ghost use Rattle.mic_clock.specs.Board.{GoesOn};
+ghost use Rattle.mic_base.specs.Prelude.{HasCause};
+ghost use Rattle.mic_clock.specs.Prelude.{GoesOn};
 ghost use Rattle.mic_watched.specs.Cycles.{shown_on};
 ghost use Rattle.mic_watched.specs.Watched.{CanRun, IsWatched, Saw, end_in, done};
 

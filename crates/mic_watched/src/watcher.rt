@@ -1,7 +1,7 @@
 //! What sees the cycles of a run.
 
 ghost use Rattle.std.specs.Prelude.{◌≡◌, ◌<◌, ℕ, List, false};
-ghost use Rattle.mic_base.specs.Causes.{HasCause};
+ghost use Rattle.mic_base.specs.Prelude.{HasCause};
 ghost use Rattle.mic_watched.specs.declared.cycle.Cycle.{Cycle};
 ghost use Rattle.mic_watched.specs.Watched.{Ignores, PutsSome};
 

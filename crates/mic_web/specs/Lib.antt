@@ -2,3 +2,4 @@ pub mod Called
 pub mod Given
 pub mod Seen
 pub mod Written
+pub mod Prelude

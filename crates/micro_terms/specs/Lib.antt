@@ -3,3 +3,4 @@ pub mod Meaning
 pub mod Ordered
 pub mod Ranges
 pub mod Value
+pub mod Prelude

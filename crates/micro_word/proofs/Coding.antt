@@ -3,9 +3,7 @@ use Rattle.std.proofs.Common.{◌≡◌, ℕ, ◌<◌, Bool, true, false, not, �
 use Rattle.micro_word.proofs.Conditions.{both, join, below, above}
 use Rattle.micro_word.proofs.Sums.{Fitting, fields-word, fields_fit, word_with-lt, word-fields}
 use Rattle.micro_word.proofs.Parts.{row_back, gates_back, shift_back, shift_bits-shift_of, mem_back, mem_bits-mem_of, fetch_bit-lt, fetch_back, fetch_bit-back, bit_may_fetch, bus_back, bus_side, side-lt, side_fits, bus_code-back, a_back, a_side, a_code-lt, side_a_fits, a_code-back, NextBack, next_back, TargetBack, target_back}
-use Rattle.micro_word.specs.Layout.{word_with, fields_of}
-use Rattle.micro_word.specs.Coding.{row, operation_of_gates, op_of, shift_bits, shift_of, mem_bits, mem_of, fetch_bit, bus_code, source_of, a_code, a_of, codes, named, microword_of, statement_of}
-use Rattle.micro_word.specs.Words.{has_operation, may_be_a, may_be_b, fits_side, is_mixed, is_valid, IsCanonical, is_row, is_side, is_side_a, are_apart, is_target, is_one_at_most, are_canonical, word_end, is_canonical, decoded_as, SpellsWord}
+use Rattle.micro_word.specs.Prelude.{word_with, fields_of, row, operation_of_gates, op_of, shift_bits, shift_of, mem_bits, mem_of, fetch_bit, bus_code, source_of, a_code, a_of, codes, named, microword_of, statement_of, has_operation, may_be_a, may_be_b, fits_side, is_mixed, is_valid, IsCanonical, is_row, is_side, is_side_a, are_apart, is_target, is_one_at_most, are_canonical, word_end, is_canonical, decoded_as, SpellsWord}
 pub use Rattle.micro_word.specs.Words.{Valid}
 use Rattle.mic_words.specs.declared.machine.Machine.{Machine}
 use Rattle.mic_words.specs.declared.machine.Machine.TheVariants.{Mic1, Mic2}

@@ -3,10 +3,7 @@ use Rattle.std.proofs.Common.{◌≡◌, ℕ, ◌<◌, IsTrue, List, length, rep
 use Rattle.std.proofs.lemmas.List.{get_or-replicate}
 use Rattle.std.proofs.lemmas.Bool.{cases_eq}
 use Rattle.mic_words.specs.declared.machine.Machine.{Machine}
-use Rattle.micro_word.specs.Layout.{fields_of}
-use Rattle.micro_word.specs.Lines.{AreLines}
-use Rattle.micro_word.specs.ControlStore.{AreCanonical, AreDecoded}
-use Rattle.micro_word.specs.Words.{is_canonical}
+use Rattle.micro_word.specs.Prelude.{fields_of, AreLines, AreCanonical, AreDecoded, is_canonical}
 use Rattle.micro_word.specs.declared.lines.Lines.{Lines}
 
 both : (machine : Machine) (w v : ℕ) (l k : Lines) → w ≡ v → l ≡ k → AreLines machine (fields_of machine v) k → AreLines machine (fields_of machine w) l

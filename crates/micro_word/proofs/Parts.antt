@@ -3,8 +3,7 @@ use Rattle.std.proofs.Common.{◌≡◌, ℕ, zero, suc, ◌<◌, Bool, true, fa
 use Rattle.std.proofs.lemmas.Bool.Decides.{nat_tests}
 use Rattle.micro_word.proofs.Conditions.{both, equal, below, above, found}
 use Rattle.micro_word.proofs.Sums.{fetch_end, a_end}
-use Rattle.micro_word.specs.Coding.{row, operation_of_gates, op_of, operations, shift_bits, shift_of, mem_bits, mem_of, fetch_bit, source_code, sources, is_code, bus_code, source_of, idle_code, a_code, a_of, jam_bits, addr_bits, decoded_next}
-use Rattle.micro_word.specs.Words.{is_h, may_be_a, may_be_b, fits_side, may_fetch, is_next, is_side, is_side_a, is_target, is_one_at_most}
+use Rattle.micro_word.specs.Prelude.{row, operation_of_gates, op_of, operations, shift_bits, shift_of, mem_bits, mem_of, fetch_bit, source_code, sources, is_code, bus_code, source_of, idle_code, a_code, a_of, jam_bits, addr_bits, decoded_next, is_h, may_be_a, may_be_b, fits_side, may_fetch, is_next, is_side, is_side_a, is_target, is_one_at_most}
 use Rattle.mic_words.specs.declared.machine.Machine.{Machine}
 use Rattle.mic_words.specs.declared.machine.Machine.TheVariants.{Mic1, Mic2}
 use Rattle.micro_word.specs.declared.statement.AluOp.{AluOp}

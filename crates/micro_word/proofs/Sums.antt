@@ -1,7 +1,6 @@
 -- The fields of a sum of fields.
-use Rattle.micro_word.specs.Words.{word_end}
+use Rattle.micro_word.specs.Prelude.{word_end, word_with, fields_of}
 use Rattle.std.proofs.Common.{◌≡◌, ℕ, ◌/◌, ◌%◌, ◌^◌, ◌<◌, arith}
-use Rattle.micro_word.specs.Layout.{word_with, fields_of}
 use Rattle.mic_words.specs.declared.machine.Machine.{Machine}
 use Rattle.mic_words.specs.declared.machine.Machine.TheVariants.{Mic1, Mic2}
 use Rattle.micro_word.specs.declared.layout.Fields.{Fields}

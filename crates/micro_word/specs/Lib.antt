@@ -5,3 +5,4 @@ pub mod Coding
 pub mod Words
 pub mod Lines
 pub mod ControlStore
+pub mod Prelude

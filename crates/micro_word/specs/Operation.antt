@@ -1,6 +1,6 @@
 -- The sixteen operations and three shifts of chapter 4 as arithmetic of 32-bit words.
 use Rattle.std.specs.Prelude.{ℕ, ◌+◌, ◌*◌, bit_and, bit_or}
-use Rattle.mic_words.specs.Arithmetic.{wrap, plus, minus, next, before, negation, complement, half}
+use Rattle.mic_words.specs.Prelude.{wrap, plus, minus, next, before, negation, complement, half}
 use Rattle.micro_word.specs.declared.statement.AluOp.{AluOp}
 use Rattle.micro_word.specs.declared.statement.AluOp.TheVariants as ops
 use Rattle.micro_word.specs.declared.statement.Shift.{Shift}

@@ -2,11 +2,11 @@
 
 ghost use Rattle.std.specs.Prelude.{◌≡◌, ◌<◌, IfOk};
 ghost use Rattle.mic_words.specs.declared.machine.Machine.TheVariants as machines;
-ghost use Rattle.mic1_datapath.specs.Mic1.{mic1_meaning};
+ghost use Rattle.mic1_datapath.specs.Prelude.{mic1_meaning};
 ghost use Rattle.mic1_datapath.specs.View.{micro_of as micro_of1};
-ghost use Rattle.mic2_datapath.specs.Mic2.{mic2_meaning};
+ghost use Rattle.mic2_datapath.specs.Prelude.{mic2_meaning};
 ghost use Rattle.mic2_datapath.specs.View.{micro_of as micro_of2};
-ghost use Rattle.mic_image_board.specs.Reset.{IsAtReset};
+ghost use Rattle.mic_image_board.specs.Prelude.{IsAtReset};
 
 use ijvm_verifier::VerifiedImage;
 use mic_clock::Board;

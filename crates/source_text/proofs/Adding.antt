@@ -7,7 +7,7 @@ use Rattle.std.specs.Cmp.Lexicographic.{slice_cmp, texts_ties}
 use Rattle.std.specs.BTreeMap.{BTreeMap, get, is_at}
 use Rattle.std.proofs.lemmas.Slice.Eq.{bytes_eq-Decides}
 use Rattle.std.proofs.lemmas.List.{length_push}
-use Rattle.source_text.specs.Places.{ArePlaces, place_of_name}
+use Rattle.source_text.specs.Prelude.{ArePlaces, place_of_name}
 
 -- a name that is not in a list is neither its first name nor one after it
 absent : (b : Bool) (o : Option ℕ) → cond b (Some 0) (option_map (λ i. i + 1) o) ≡ None → (b ≡ false) × (o ≡ None)

@@ -5,7 +5,7 @@ use Rattle.std.specs.List.{prefix_len, onto_first}
 use Rattle.std.specs.Str.Lines.{lines, lines_of_parts, strip_carriage_return}
 use Rattle.std.proofs.lemmas.List.{take_rest}
 use Rattle.std.proofs.lemmas.Bool.Decides.{nat_tests}
-use Rattle.source_text.specs.Parts.{before_more, parts}
+use Rattle.source_text.specs.Prelude.{before_more, parts}
 
 -- how many bytes stand before the first newline
 abbrev pub len : List ℕ → ℕ

@@ -4,10 +4,7 @@ use Rattle.std.specs.Prelude.{option_map, option_and_then, ◌&&◌}
 use Rattle.std.specs.List.{list_all}
 use Rattle.std.proofs.lemmas.List.{append-nil, take-append-drop}
 use Rattle.std.proofs.Math.Seq.{take-append_seam, drop-append_seam}
-use Rattle.source_text.specs.Table.{Table, extent, front_of, token_of}
-use Rattle.source_text.specs.Tokens.{AreBlank, EndsLexeme, IsLexeme, Spells, is_blank}
-use Rattle.source_text.specs.Reading.{lex}
-use Rattle.source_text.specs.Lexed.{cut_at, lex_blank, lex_token}
+use Rattle.source_text.specs.Prelude.{Table, extent, front_of, token_of, AreBlank, EndsLexeme, IsLexeme, Spells, is_blank, lex, cut_at, lex_blank, lex_token}
 use Rattle.source_text.proofs.Shapes.{may_end, reaches, spells}
 
 -- the tokens that were read before, and those still read

@@ -1,13 +1,10 @@
 -- A token reaches as far as its first byte says, and what reaches so far has the shape of a token.
 use Rattle.std.proofs.Common.{◌≡◌, ℕ, ◌≤◌, Bool, true, false, inl, inr, List, [], ◌∷◌, ◌++◌, Some, drop, take, length, refl, arith, cond}
 use Rattle.std.specs.Prelude.{◌⊎◌}
-use Rattle.mic_base.specs.Name.{is_name_byte}
+use Rattle.mic_base.specs.Prelude.{is_name_byte}
 use Rattle.source_text.specs.declared.table.Front.{Front}
 use Rattle.source_text.specs.declared.table.Front.TheVariants as fronts
-use Rattle.source_text.specs.Fronts.{run_all, run_passes, run_stops}
-use Rattle.source_text.specs.Runs.{quote_len}
-use Rattle.source_text.specs.Table.{GoesOn, MayEnd, Table, extent, front_of, is_pair, reach, token_of}
-use Rattle.source_text.specs.Tokens.{IsLexeme, is_blank}
+use Rattle.source_text.specs.Prelude.{run_all, run_passes, run_stops, quote_len, GoesOn, MayEnd, Table, extent, front_of, is_pair, reach, token_of, IsLexeme, is_blank}
 
 -- ---- after a single quote
 

@@ -2,7 +2,7 @@
 use Rattle.std.proofs.Common.{◌≡◌, ℕ, ◌+◌, List, [], ◌∷◌, ◌++◌, length, refl, sym, ap, subst, ◌∙◌, arith, append_assoc, length-append}
 use Rattle.std.specs.Prelude.{Ok, Err}
 use Rattle.std.proofs.lemmas.List.{append-nil}
-use Rattle.source_text.specs.Walk.{Step, go_on, walk, Leads, FirstRefused, StopsAt}
+use Rattle.source_text.specs.Prelude.{Step, go_on, walk, Leads, FirstRefused, StopsAt}
 
 module _ {S E : Type 0} (step : Step S E) where
   pub leads_walk : (ls : List (List ℕ)) (k : ℕ) (s t : S) → Leads step k s ls t → walk step k s ls ≡ Ok t

@@ -13,3 +13,4 @@ pub mod Spelled
 pub mod Fronts
 pub mod Places
 pub mod Below
+pub mod Prelude

@@ -1,7 +1,7 @@
 -- Runs that pass a test, such as the bytes of a name.
 use Rattle.std.specs.Prelude.{ℕ, Bool, false, List, [], ◌∷◌}
 use Rattle.std.specs.List.{prefix_len}
-use Rattle.mic_base.specs.Name.{is_name_byte}
+use Rattle.mic_base.specs.Prelude.{is_name_byte}
 
 abbrev pub begins_with : {X : Type 0} → (X → Bool) → List X → Bool
 begins_with passes [] = false

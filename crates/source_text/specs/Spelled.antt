@@ -3,7 +3,7 @@ use Rattle.std.proofs.Common.{◌≡◌, ℕ, Bool, true, false, inl, inr, List,
 use Rattle.std.specs.Prelude.{◌⊎◌, not, ◌==◌, ◌&&◌, nat_le}
 use Rattle.std.specs.List.{list_all}
 use Rattle.std.proofs.lemmas.Bool.{and_parts, eqb-true, not-true}
-use Rattle.mic_base.specs.Name.{begins_digit, is_name, is_name_byte}
+use Rattle.mic_base.specs.Prelude.{begins_digit, is_name, is_name_byte}
 use Rattle.source_text.specs.Runs.{begins_with}
 use Rattle.source_text.specs.Options.{chosen}
 use Rattle.source_text.specs.Table.{Table, begins_number, sign_or_name, token_of}

@@ -2,7 +2,7 @@
 use Rattle.std.specs.Prelude.{◌≡◌, ◌⊎◌, ℕ, suc, ◌≤◌, ◌==◌, ◌&&◌, ◌||◌, Bool, true, false, List, [], ◌∷◌, length, Option, Some, None, is_some, if◌then◌else◌}
 use Rattle.std.specs.Char.{is_ascii_digit}
 use Rattle.std.specs.List.{list_all, prefix_len}
-use Rattle.mic_base.specs.Name.{is_name, is_name_byte}
+use Rattle.mic_base.specs.Prelude.{is_name, is_name_byte}
 use Rattle.source_text.specs.declared.table.Front.{Front}
 use Rattle.source_text.specs.declared.table.Front.TheVariants as fronts
 use Rattle.source_text.specs.Runs.{begins_with, name_len, quote_len}

@@ -1,7 +1,7 @@
 //! Runs of letters, digits and `_`.
 
 ghost use Rattle.std.specs.Prelude.{◌≡◌, ◌≤◌, length};
-ghost use Rattle.mic_base.specs.Name.{is_name_byte};
+ghost use Rattle.mic_base.specs.Prelude.{is_name_byte};
 ghost use Rattle.source_text.specs.Runs.{name_len};
 
 /// Whether the byte is a letter, a digit or `_`.

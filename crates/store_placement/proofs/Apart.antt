@@ -5,7 +5,7 @@ use Rattle.std.specs.List.{IsDistinct, AllByRecursion, filter_map, cons_option, 
 use Rattle.std.specs.Set.{is_member}
 use Rattle.std.proofs.lemmas.Bool.{ne_eqb, eq-eqb, eqb-true}
 use Rattle.std.proofs.lemmas.Map.Made.{length-le_from_is_member}
-use Rattle.store_placement.specs.First.{below}
+use Rattle.store_placement.specs.Prelude.{below}
 use Rattle.store_placement.proofs.Among.{Among, any_at, from_any, among-filter, among-filter_map, among-map, among_map, among-take, among-range}
 
 -- R holds of each element and each later one

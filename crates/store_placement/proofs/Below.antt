@@ -4,7 +4,7 @@ use Rattle.std.specs.List.{filter_map, cons_option, range_with_len}
 use Rattle.std.proofs.lemmas.List.{append-nil, map-id, map-append, length-map}
 use Rattle.std.proofs.lemmas.List.FromFn.{map-range_with_len_more, length-range_with_len}
 use Rattle.std.proofs.lemmas.List.Elements.{filter-append, filter_map-append}
-use Rattle.store_placement.specs.First.{below}
+use Rattle.store_placement.specs.Prelude.{below}
 
 pub below_none : below 0 ≡ []
 unfolding below

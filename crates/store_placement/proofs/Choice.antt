@@ -6,12 +6,7 @@ use Rattle.std.specs.List.{list_any, All, filter, count_by}
 use Rattle.std.proofs.lemmas.Bool.{eq-eqb, or_left, or_right}
 use Rattle.std.proofs.lemmas.List.FromFn.{get_or-map-range_with_len, fill_by_all}
 use Rattle.store_placement.specs.declared.pair.Pair.{Pair}
-use Rattle.store_placement.specs.Demands.{Demands, AreWithin, fixed_at}
-use Rattle.store_placement.specs.First.{below, Never, NeverTwo}
-use Rattle.store_placement.specs.Forced.{forced, all_forced}
-use Rattle.store_placement.specs.Refusals.{stands_in, clashes, in_wrong_half, collide}
-use Rattle.store_placement.specs.Chosen.{is_free_low, free_lows, free_addresses, open_pairs, is_single, singles, before_singles, IsChosen, IsChosenList}
-use Rattle.store_placement.specs.Reading.{pair_address, with_pairs, with_free}
+use Rattle.store_placement.specs.Prelude.{Demands, AreWithin, fixed_at, below, Never, NeverTwo, forced, all_forced, stands_in, clashes, in_wrong_half, collide, is_free_low, free_lows, free_addresses, open_pairs, is_single, singles, before_singles, IsChosen, IsChosenList, pair_address, with_pairs, with_free}
 use Rattle.store_placement.proofs.Among.{Among, All-among, All-from_among, none_of, among-below, among_below, among-filter, among_filter}
 use Rattle.store_placement.proofs.Below.{length-map_below}
 use Rattle.store_placement.proofs.ForcedLemmas.{length-all_forced, at_all_forced}

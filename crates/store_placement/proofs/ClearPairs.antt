@@ -2,9 +2,7 @@
 use Rattle.std.proofs.Common.{◌≡◌, ℕ, ◌<◌, ◌≤◌, true, false, cond, not, ◌&&◌, ◌⊎◌, List, Option, Some, length, eqb, refl, sym, ap, ◌∙◌, inl, inr, arith}
 use Rattle.std.proofs.lemmas.Bool.{eqb-true, eq-eqb, cases_lt, lt-ltb, le-ltb, and_from, and_parts, not-false, or_cases, or_left, or_parts, or_right}
 use Rattle.store_placement.specs.declared.pair.Pair.{Pair}
-use Rattle.store_placement.specs.Demands.{AreWithin, IsOfStatements, fixed_at, same_pair}
-use Rattle.store_placement.specs.First.{Never}
-use Rattle.store_placement.specs.Refusals.{stands_in, stands_beside, stands_twice, clashes, in_wrong_half, is_wrong, is_true_target, is_false_target}
+use Rattle.store_placement.specs.Prelude.{AreWithin, IsOfStatements, fixed_at, same_pair, Never, stands_in, stands_beside, stands_twice, clashes, in_wrong_half, is_wrong, is_true_target, is_false_target}
 use Rattle.store_placement.proofs.Among.{Among, All-among, any_at, none_of, right_false}
 
 -- the pairs are of statements, and no statement clashes

@@ -4,9 +4,7 @@ use Rattle.std.specs.Option.{option_or, option_map}
 use Rattle.std.proofs.lemmas.Bool.{eqb-true, eq-eqb, ne_eqb, or_left, or_right}
 use Rattle.std.proofs.lemmas.Option.{same_Some}
 use Rattle.store_placement.specs.declared.pair.Pair.{Pair}
-use Rattle.store_placement.specs.Demands.{fixed_at}
-use Rattle.store_placement.specs.Refusals.{stands_in}
-use Rattle.store_placement.specs.Forced.{given_by, given, forced}
+use Rattle.store_placement.specs.Prelude.{fixed_at, stands_in, given_by, given, forced}
 use Rattle.store_placement.proofs.Among.{Among}
 use Rattle.store_placement.proofs.ClearPairs.{AreClear, stands_cases, one_pair, one_role}
 

@@ -5,13 +5,7 @@ use Rattle.std.specs.List.{list_any, list_all}
 use Rattle.std.proofs.lemmas.Bool.{eqb-true, eq-eqb, ltb-true, cases_lt, and_parts, not-true}
 use Rattle.std.proofs.lemmas.List.{ext_get_or}
 use Rattle.store_placement.specs.declared.pair.Pair.{Pair}
-use Rattle.store_placement.specs.Demands.{Demands, AreWithin}
-use Rattle.store_placement.specs.First.{below, Never}
-use Rattle.store_placement.specs.Forced.{forced}
-use Rattle.store_placement.specs.Refusals.{clashes}
-use Rattle.store_placement.specs.Placement.{IsPlacement}
-use Rattle.store_placement.specs.Chosen.{open_pairs, IsChosenList}
-use Rattle.store_placement.specs.Listed.{are_different, is_kept, IsListed}
+use Rattle.store_placement.specs.Prelude.{Demands, AreWithin, below, Never, forced, clashes, IsPlacement, open_pairs, IsChosenList, are_different, is_kept, IsListed}
 use Rattle.store_placement.proofs.Among.{Among, All-from_among, among_at, among_below, none_of}
 use Rattle.store_placement.proofs.ForcedBy.{forced_own}
 use Rattle.store_placement.proofs.OpenPairs.{open_from}

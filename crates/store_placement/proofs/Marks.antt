@@ -5,12 +5,7 @@ use Rattle.std.proofs.lemmas.Bool.{cases_eq, ltb-true, not-false, or_parts}
 use Rattle.std.proofs.lemmas.List.{get_or-replicate, get_or-take, length-take-le}
 use Rattle.std.proofs.lemmas.List.Folds.{list_any_more, list_any_none}
 use Rattle.store_placement.specs.declared.pair.Pair.{Pair}
-use Rattle.store_placement.specs.Chosen.{is_taken}
-use Rattle.store_placement.specs.Demands.{fixed_at}
-use Rattle.store_placement.specs.First.{NeverTwo}
-use Rattle.store_placement.specs.Forced.{all_forced, forced, same_address}
-use Rattle.store_placement.specs.Refusals.{are_split, collide, is_pair_of, split_apart}
-use Rattle.store_placement.specs.Taken.{AreTaken, has_split, is_marked, may_collide, share_address}
+use Rattle.store_placement.specs.Prelude.{is_taken, fixed_at, NeverTwo, all_forced, forced, same_address, are_split, collide, is_pair_of, split_apart, AreTaken, has_split, is_marked, may_collide, share_address}
 use Rattle.store_placement.proofs.Among.{All-from_among, among_at, none_of}
 use Rattle.store_placement.proofs.ForcedLemmas.{at_all_forced, length-all_forced}
 

@@ -5,12 +5,7 @@ use Rattle.std.proofs.lemmas.List.{length-map}
 use Rattle.store_placement.specs.declared.pair.Pair.{Pair}
 use Rattle.store_placement.specs.declared.refusal.PlaceError.{PlaceError}
 use Rattle.store_placement.specs.declared.refusal.PlaceError.TheVariants as errors
-use Rattle.store_placement.specs.Demands.{Demands, AreWithin, fixed_at, same_pair}
-use Rattle.store_placement.specs.First.{below}
-use Rattle.store_placement.specs.Forced.{forced, all_forced, same_address}
-use Rattle.store_placement.specs.Refusals.{stands_in, stands_beside, stands_twice, clashes, in_wrong_half, is_wrong, is_true_target, is_false_target, is_pair_of, are_split, split_apart, collide, Refuses}
-use Rattle.store_placement.specs.Chosen.{is_taken, is_free_low, free_lows, open_pairs}
-use Rattle.store_placement.specs.Placement.{IsPlacement, HasPlacement}
+use Rattle.store_placement.specs.Prelude.{Demands, AreWithin, fixed_at, same_pair, below, forced, all_forced, same_address, stands_in, stands_beside, stands_twice, clashes, in_wrong_half, is_wrong, is_true_target, is_false_target, is_pair_of, are_split, split_apart, collide, Refuses, is_taken, is_free_low, free_lows, open_pairs, IsPlacement, HasPlacement}
 use Rattle.store_placement.proofs.Among.{Among, All-among, from_any, among-map, among-below, among_below, among_filter}
 use Rattle.store_placement.proofs.Apart.{Apart, Apart-map, length-le_from_among}
 use Rattle.store_placement.proofs.ClearPairs.{AreClear, of_statements, stands_cases, stands_yes, stands_no, pair_is}

@@ -9,10 +9,9 @@ use Rattle.std.proofs.lemmas.Option.{slice_get_within, get_or_from_slice_get}
 use Rattle.mal_line.specs.declared.next.Next.{Next}
 use Rattle.mal_line.specs.declared.next.Next.TheVariants as nexts
 use Rattle.mal_parser.specs.declared.statement.Statement.{Statement}
-use Rattle.mal_parser.specs.Program.{MalView, IsMalProgram, IsFallback, IsLabelled, HasTargets}
+use Rattle.mal_parser.specs.Prelude.{MalView, IsMalProgram, IsFallback, IsLabelled, HasTargets}
 use Rattle.store_placement.specs.declared.pair.Pair.{Pair}
-use Rattle.store_placement.specs.Demands.{IsOfStatements}
-use Rattle.store_placement.specs.Program.{pair_of}
+use Rattle.store_placement.specs.Prelude.{IsOfStatements, pair_of}
 
 -- a list up to the next element
 pub take_next : {X : Type 0} (xs : List X) (s : ℕ) (x : X) → slice_get xs s ≡ Some x → take (s + 1) xs ≡ take s xs ++ x ∷ []

@@ -7,10 +7,7 @@ use Rattle.std.proofs.lemmas.List.{map-append, take_more, length_push}
 use Rattle.std.proofs.lemmas.List.Filters.{length-filter_both}
 use Rattle.std.proofs.lemmas.List.Recursion.{is_count_by}
 use Rattle.store_placement.specs.declared.pair.Pair.{Pair}
-use Rattle.store_placement.specs.First.{below}
-use Rattle.store_placement.specs.Forced.{same_address}
-use Rattle.store_placement.specs.Chosen.{is_taken, is_free, free_addresses}
-use Rattle.store_placement.specs.Reading.{pair_address, with_free}
+use Rattle.store_placement.specs.Prelude.{below, same_address, is_taken, is_free, free_addresses, pair_address, with_free}
 use Rattle.store_placement.proofs.Among.{Among, from_any, among-filter, among_filter_map}
 use Rattle.store_placement.proofs.Apart.{Apart, Apart-below, Apart-weaker, Apart-filter, length-le_from_among}
 use Rattle.store_placement.proofs.Below.{length-below, below_none, filter-below_kept, filter-below_dropped}

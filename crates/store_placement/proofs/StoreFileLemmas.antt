@@ -9,10 +9,8 @@ use Rattle.std.specs.Cmp.Lexicographic.{same_text}
 use Rattle.std.proofs.lemmas.List.FromFn.{length-map-range_with_len, get_or-map-range_with_len}
 use Rattle.mic_words.specs.declared.machine.Machine.{Machine}
 use Rattle.mic_words.specs.declared.machine.Machine.TheVariants.{Mic1, Mic2}
-use Rattle.micro_word.specs.Words.{is_canonical}
-use Rattle.micro_word.specs.ControlStore.{ControlStore, IsStore}
-use Rattle.store_placement.specs.First.{IsFirst}
-use Rattle.store_placement.specs.StoreFile.{magic, word_bytes, store_file, machine_of, number_at, word_at, is_bad, IsReadFrom}
+use Rattle.micro_word.specs.Prelude.{is_canonical, ControlStore, IsStore}
+use Rattle.store_placement.specs.Prelude.{IsFirst, magic, word_bytes, store_file, machine_of, number_at, word_at, is_bad, IsReadFrom}
 
 -- the bytes from k on are five and the rest
 five_more : (bytes : List ℕ) (k : ℕ) → k + 5 ≤ length bytes →

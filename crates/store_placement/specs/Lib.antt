@@ -9,3 +9,4 @@ pub mod Reading
 pub mod Refusals
 pub mod StoreFile
 pub mod Taken
+pub mod Prelude

@@ -6,12 +6,11 @@ use Rattle.mic_words.specs.declared.machine.Machine.{Machine}
 use Rattle.micro_word.specs.declared.statement.Placed.{Placed}
 use Rattle.micro_word.specs.declared.statement.PlacedNext.{PlacedNext}
 use Rattle.micro_word.specs.declared.statement.PlacedNext.TheVariants as placed
-use Rattle.micro_word.specs.Coding.{idle, microword_of}
-use Rattle.micro_word.specs.Words.{is_valid}
+use Rattle.micro_word.specs.Prelude.{idle, microword_of, is_valid}
 use Rattle.mal_line.specs.declared.next.Next.{Next}
 use Rattle.mal_line.specs.declared.next.Next.TheVariants as nexts
 use Rattle.mal_parser.specs.declared.statement.Statement.{Statement}
-use Rattle.mal_parser.specs.Program.{MalView}
+use Rattle.mal_parser.specs.Prelude.{MalView}
 use Rattle.store_placement.specs.declared.pair.Pair.{Pair}
 use Rattle.store_placement.specs.Demands.{Demands}
 

@@ -4,9 +4,7 @@ use Rattle.std.specs.List.{flat_map, starts_with}
 use Rattle.mic_words.specs.declared.machine.Machine.{Machine}
 use Rattle.mic_words.specs.declared.machine.Machine.TheVariants.{Mic1, Mic2}
 use Rattle.micro_word.specs.declared.statement.Placed.{Placed}
-use Rattle.micro_word.specs.Coding.{microword_of}
-use Rattle.micro_word.specs.Words.{is_canonical, is_valid}
-use Rattle.micro_word.specs.ControlStore.{ControlStore, IsStore}
+use Rattle.micro_word.specs.Prelude.{microword_of, is_canonical, is_valid, ControlStore, IsStore}
 use Rattle.store_placement.specs.declared.store_error.StoreError.{StoreError}
 use Rattle.store_placement.specs.declared.store_error.StoreError.TheVariants as errors
 use Rattle.store_placement.specs.First.{Never, IsFirst}

@@ -2,7 +2,7 @@
 ghost use Rattle.std.specs.Prelude.{◌≡◌, ◌++◌, ◌+◌, ◌<◌, ◌≤◌, [], length, map};
 ghost use Rattle.std.specs.List.{filter_map};
 ghost use Rattle.std.specs.Option.{ForSome, option_to_list};
-ghost use Rattle.mal_parser.specs.Program.{IsMalProgram};
+ghost use Rattle.mal_parser.specs.Prelude.{IsMalProgram};
 ghost use Rattle.store_placement.specs.Demands.{IsOfStatements};
 ghost use Rattle.store_placement.specs.Program.{demands_of, pair_of, statement_pair};
 

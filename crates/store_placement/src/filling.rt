@@ -1,8 +1,8 @@
 //! The control store of a placed program.
 ghost use Rattle.std.specs.Prelude.{◌≡◌, ◌<◌, length, slice_index, IsTrue, MatchOption};
 ghost use Rattle.mic_words.specs.declared.machine.Machine.{Machine};
-ghost use Rattle.micro_word.specs.Words.{is_valid};
-ghost use Rattle.mal_parser.specs.Program.{IsMalProgram};
+ghost use Rattle.micro_word.specs.Prelude.{is_valid};
+ghost use Rattle.mal_parser.specs.Prelude.{IsMalProgram};
 ghost use Rattle.store_placement.specs.Placement.{Places};
 ghost use Rattle.store_placement.specs.Program.{demands_of, placed_next, LeadsInside, IsPlacedAs, goto_end, placed_default, IsFilled, IsAtNone, IsOnlyAt};
 

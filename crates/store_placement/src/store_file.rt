@@ -1,6 +1,6 @@
 //! The store file, written and read.
 ghost use Rattle.std.specs.Prelude.{◌≡◌, ◌+◌, ◌≤◌, ◌<◌, ◌⊎◌, false, length, IfOk, IfErr, MatchOption, MatchResult};
-ghost use Rattle.micro_word.specs.Words.{is_canonical};
+ghost use Rattle.micro_word.specs.Prelude.{is_canonical};
 ghost use Rattle.store_placement.specs.declared.store_error.StoreError.{StoreError};
 ghost use Rattle.store_placement.specs.First.{IsFirst};
 ghost use Rattle.store_placement.specs.StoreFile.{magic, word_bytes, store_file, machine_of, number_at, word_at, is_bad, DecodesCanonical, IfFileOf, IsErrUnlessShort, IsReadFrom, IsShortage, RefusesFile};

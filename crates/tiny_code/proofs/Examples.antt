@@ -1,14 +1,12 @@
 -- The code and the pool of worked programs.
 use Rattle.std.proofs.Common.{◌≡◌, refl, ℕ, List, [], ◌∷◌, map}
 use Rattle.std.specs.List.{flat_map}
-use Rattle.ijvm_instr.specs.Instructions.{spelling}
+use Rattle.ijvm_instr.specs.Prelude.{spelling}
 use Rattle.tiny_tree.specs.declared.tree.Operator.{Operator}
 use Rattle.tiny_tree.specs.declared.tree.Operator.TheVariants.{Plus, Minus}
-use Rattle.tiny_tree.specs.Tree.{Term, Number, Variable, Called, Expr, Sum, no_steps, step, Different, Less, Statement, Var, Assign, If, While, Return, Put, else_block, Function, Program, arguments_of, statements_of}
-use Rattle.ijvm_text.specs.Bytes.{code_bytes}
-use Rattle.ijvm_text.specs.Layout.{pool_of}
-use Rattle.tiny_code.specs.Code.{main_code, method_code, numbers, places_of}
-use Rattle.tiny_code.specs.Image.{layout_of}
+use Rattle.tiny_tree.specs.Prelude.{Term, Number, Variable, Called, Expr, Sum, no_steps, step, Different, Less, Statement, Var, Assign, If, While, Return, Put, else_block, Function, Program, arguments_of, statements_of}
+use Rattle.ijvm_text.specs.Prelude.{code_bytes, pool_of}
+use Rattle.tiny_code.specs.Prelude.{main_code, method_code, numbers, places_of, layout_of}
 
 abbrev alone : Term → Expr
 alone t = Sum t no_steps

@@ -6,11 +6,9 @@ use Rattle.std.proofs.lemmas.Option.{same_Some}
 use Rattle.std.proofs.lemmas.Bool.{eq-eqb}
 use Rattle.std.proofs.lemmas.Bool.Decides.{eqb_tells}
 use Rattle.std.proofs.lemmas.List.Elements.{All-nil, All-cons, All-contains, Contains-append_right}
-use Rattle.ijvm_image.specs.Image.{ImageView}
-use Rattle.tiny_tree.specs.Tree.{Function, Program}
-use Rattle.tiny_code.specs.Code.{Places, code_size, main_code, method_size, methods, function_numbers}
-use Rattle.tiny_code.specs.Laid.{IsMethodAt, AreMethodsAt, IsLaidOut, Holds}
-use Rattle.tiny_code.specs.Standing.{all_back, all_front}
+use Rattle.ijvm_image.specs.Prelude.{ImageView}
+use Rattle.tiny_tree.specs.Prelude.{Function, Program}
+use Rattle.tiny_code.specs.Prelude.{Places, code_size, main_code, method_size, methods, function_numbers, IsMethodAt, AreMethodsAt, IsLaidOut, Holds, all_back, all_front}
 
 -- ---- the functions but main
 

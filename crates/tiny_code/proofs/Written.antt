@@ -3,10 +3,9 @@ use Rattle.std.proofs.Common.{◌≡◌, ◌≤◌, ℕ, ◌+◌, List, [], ◌�
 use Rattle.std.specs.Prelude.{All}
 use Rattle.std.proofs.lemmas.List.Elements.{All-head, All-tail}
 use Rattle.ijvm_instr.specs.declared.instr.Instr.{Instr}
-use Rattle.ijvm_instr.specs.Instructions.{IsInstr, spelling, instr_at, row_of, size_of}
-use Rattle.ijvm_text.specs.Bytes.{code_bytes}
-use Rattle.tiny_code.specs.Code.{code_size}
-use Rattle.tiny_code.specs.Laid.{CodeAt}
+use Rattle.ijvm_instr.specs.Prelude.{IsInstr, spelling, instr_at, row_of, size_of}
+use Rattle.ijvm_text.specs.Prelude.{code_bytes}
+use Rattle.tiny_code.specs.Prelude.{code_size, CodeAt}
 
 module _ (written : (before after : List ℕ) (i : Instr) → IsInstr i → instr_at (before ++ (spelling i ++ after)) (length before) ≡ Some i) where
   pub stands : (code : List Instr) (before after : List ℕ) → All IsInstr code → length before + code_size code ≤ 65536 →

@@ -1,13 +1,10 @@
 -- The image of a program's code: its parts are main's code and the other functions, each after its header, and its pool is 0, the
 -- functions' addresses, and the numbers.
 use Rattle.std.specs.Prelude.{◌≡◌, ℕ, ◌+◌, List, [], ◌∷◌, ◌++◌, map, slice_get, Some}
-use Rattle.ijvm_instr.specs.Jumps.{jumps_of}
-use Rattle.ijvm_image.specs.Header.{header}
-use Rattle.ijvm_image.specs.Image.{ImageView}
-use Rattle.ijvm_text.specs.Bytes.{code_bytes}
-use Rattle.ijvm_text.specs.Layout.{IsImageOf, Layout, Part}
-use Rattle.tiny_tree.specs.Named.{IsNamed, vars_of}
-use Rattle.tiny_tree.specs.Tree.{Cond, Equal, Different, Less, Statement, If, While, Else, no_else, else_block, Statements, no_statements, statement, Function, Program}
+use Rattle.ijvm_instr.specs.Prelude.{jumps_of}
+use Rattle.ijvm_image.specs.Prelude.{header, ImageView}
+use Rattle.ijvm_text.specs.Prelude.{code_bytes, IsImageOf, Layout, Part}
+use Rattle.tiny_tree.specs.Prelude.{IsNamed, vars_of, Cond, Equal, Different, Less, Statement, If, While, Else, no_else, else_block, Statements, no_statements, statement, Function, Program}
 use Rattle.tiny_code.specs.Code.{Places, main_code, method_code, methods, numbers, places_of}
 
 -- ---- the lines of the jumps, in the order of their addresses: each has that of its `if` or `while`

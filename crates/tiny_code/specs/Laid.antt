@@ -2,10 +2,9 @@
 use Rattle.std.specs.Prelude.{◌≡◌, ◌≢◌, ◌<◌, ◌≤◌, ℕ, ◌+◌, List, [], ◌∷◌, length, slice_get, Some, All}
 use Rattle.std.specs.List.{flat_map}
 use Rattle.ijvm_instr.specs.declared.instr.Instr.{Instr}
-use Rattle.ijvm_instr.specs.Instructions.{row_of, size_of, instr_at}
-use Rattle.ijvm_image.specs.Image.{ImageView, params, others}
-use Rattle.tiny_tree.specs.Tree.{Function, Program}
-use Rattle.tiny_tree.specs.Named.{vars_of}
+use Rattle.ijvm_instr.specs.Prelude.{row_of, size_of, instr_at}
+use Rattle.ijvm_image.specs.Prelude.{ImageView, params, others}
+use Rattle.tiny_tree.specs.Prelude.{Function, Program, vars_of}
 use Rattle.tiny_code.specs.Code.{Places, code_size, main_code, method_code, method_size, methods, function_numbers}
 
 -- the instructions stand at this address, one after the other

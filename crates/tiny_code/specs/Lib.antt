@@ -5,3 +5,4 @@ pub mod Others
 pub mod Laws
 pub mod Image
 pub mod Lined
+pub mod Prelude

@@ -5,13 +5,10 @@ use Rattle.std.proofs.lemmas.Grind.{flat_map-append}
 use Rattle.ijvm_instr.specs.declared.instr.Instr.{Instr}
 use Rattle.ijvm_instr.specs.declared.instr.Instr.TheVariants.{Bipush, LdcW, Istore, Pop, Isub, Iflt}
 use Rattle.ijvm_instr.specs.declared.instr.Instr.TheVariants.{IfIcmpeq, Goto, Ireturn, Invokevirtual, Out, Halt as HaltCode}
-use Rattle.ijvm_instr.specs.Instructions.{row_of}
-use Rattle.ijvm_instr.specs.Jumps.{HasLines, distance_in, distances}
+use Rattle.ijvm_instr.specs.Prelude.{row_of, HasLines, distance_in, distances}
 use Rattle.tiny_tree.specs.declared.tree.Operator.{Operator}
 use Rattle.tiny_tree.specs.declared.tree.Operator.TheVariants.{Plus}
-use Rattle.tiny_tree.specs.Tree.{Term, Number, Variable, Called, Get, Group, Expr, Sum, Steps, no_steps, step, Arguments}
-use Rattle.tiny_tree.specs.Tree.{no_arguments, argument, Cond, Equal, Different, Less, Statement, Var, Assign, Calls, If, While}
-use Rattle.tiny_tree.specs.Tree.{Return, Put, Halt, Else, no_else, else_block, Statements, no_statements, statement, Function}
+use Rattle.tiny_tree.specs.Prelude.{Term, Number, Variable, Called, Get, Group, Expr, Sum, Steps, no_steps, step, Arguments, no_arguments, argument, Cond, Equal, Different, Less, Statement, Var, Assign, Calls, If, While, Return, Put, Halt, Else, no_else, else_block, Statements, no_statements, statement, Function}
 use Rattle.tiny_code.specs.Code.{Places, arguments_code, choice, code_size, else_code, expr_code, if_code, leave_code, loop}
 use Rattle.tiny_code.specs.Code.{main_code, method_code, number_code, operator_code, statement_code, statements_code, steps_code, term_code, test_code}
 use Rattle.tiny_code.specs.Image.{else_lines, if_lines, leave_lines, statement_lines, statements_lines, while_lines}

@@ -4,7 +4,7 @@ use Rattle.std.specs.Prelude.{not, ◌==◌, nat_lt, cond, if◌then◌else◌}
 use Rattle.std.specs.List.{filter, enumerate_from}
 use Rattle.std.proofs.lemmas.Bool.{lt-ltb, le-ltb}
 use Rattle.std.proofs.lemmas.Bool.Decides.{eqb_tells}
-use Rattle.tiny_tree.specs.Tree.{Function}
+use Rattle.tiny_tree.specs.Prelude.{Function}
 
 pub apart : (n x y : ℕ) → n ≢ x → y ≡ n → not (y == x) ≡ true
 apart n x y other e = ⊎_elim (λ t. absurd (other (sym e ∙ t.1))) (λ t. ap not t.0) (eqb_tells y x)

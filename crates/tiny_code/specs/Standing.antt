@@ -2,10 +2,10 @@
 use Rattle.std.proofs.Common.{◌≡◌, ◌≤◌, ℕ, zero, suc, ◌+◌, ◌-◌, ◌%◌, List, [], ◌∷◌, ◌++◌, length, refl, ap, ◌∙◌, subst, arith, length-append}
 use Rattle.std.specs.Prelude.{pos, neg_ℤ, All}
 use Rattle.std.proofs.lemmas.List.Elements.{All-nil, All-cons, All-head, All-tail}
-use Rattle.mic_words.specs.Arithmetic.{wrap}
+use Rattle.mic_words.specs.Prelude.{wrap}
 use Rattle.ijvm_instr.specs.declared.instr.Instr.{Instr}
-use Rattle.ijvm_instr.specs.Instructions.{row_of, size_of, spelling, target}
-use Rattle.ijvm_text.specs.Bytes.{code_bytes}
+use Rattle.ijvm_instr.specs.Prelude.{row_of, size_of, spelling, target}
+use Rattle.ijvm_text.specs.Prelude.{code_bytes}
 use Rattle.tiny_code.specs.Code.{code_size}
 use Rattle.tiny_code.specs.Laid.{CodeAt}
 

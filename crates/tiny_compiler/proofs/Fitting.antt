@@ -10,13 +10,11 @@ use Rattle.ijvm_instr.specs.declared.instr.Instr.{Instr}
 use Rattle.ijvm_instr.specs.declared.instr.Instr.TheVariants.{Bipush, LdcW, Iload, Istore, Pop, Isub, Iflt, IfIcmpeq, Goto, Ireturn, Invokevirtual, In, Out, Halt as HaltCode}
 use Rattle.ijvm_instr.specs.declared.row.Operands.{Operands}
 use Rattle.ijvm_instr.specs.declared.row.Operands.TheVariants.{Offset}
-use Rattle.ijvm_instr.specs.Instructions.{AreInRange, IsInstr, row_of}
-use Rattle.ijvm_instr.specs.Jumps.{HasLines, Jump, distance_in, distances, first_far, is_far, jumps_of}
+use Rattle.ijvm_instr.specs.Prelude.{AreInRange, IsInstr, row_of, HasLines, Jump, distance_in, distances, first_far, is_far, jumps_of}
 use Rattle.tiny_tree.specs.declared.tree.Operator.{Operator}
 use Rattle.tiny_tree.specs.declared.tree.Operator.TheVariants.{Plus}
-use Rattle.tiny_tree.specs.Tree.{Term, Number, Variable, Called, Get, Group, Expr, Sum, Steps, no_steps, step, Arguments, no_arguments, argument, Cond, Equal, Different, Less, Statement, Var, Assign, Calls, If, While, Return, Put, Halt, Else, no_else, else_block, Statements, no_statements, statement, Function, Program}
-use Rattle.tiny_tree.specs.Named.{Seen, seen_after, IsCallable, IsNamedTerm, IsNamedExpr, AreNamedSteps, AreNamedArguments, IsNamedCond, IsNamedStatement, AreNamed, IsNamedElse, arguments_count}
-use Rattle.tiny_code.specs.Code.{Places, code_size, choice, loop, operator_code, number_code, term_code, expr_code, steps_code, arguments_code, test_code, if_code, leave_code, statement_code, statements_code, else_code}
+use Rattle.tiny_tree.specs.Prelude.{Term, Number, Variable, Called, Get, Group, Expr, Sum, Steps, no_steps, step, Arguments, no_arguments, argument, Cond, Equal, Different, Less, Statement, Var, Assign, Calls, If, While, Return, Put, Halt, Else, no_else, else_block, Statements, no_statements, statement, Function, Program, Seen, seen_after, IsCallable, IsNamedTerm, IsNamedExpr, AreNamedSteps, AreNamedArguments, IsNamedCond, IsNamedStatement, AreNamed, IsNamedElse, arguments_count}
+use Rattle.tiny_code.specs.Prelude.{Places, code_size, choice, loop, operator_code, number_code, term_code, expr_code, steps_code, arguments_code, test_code, if_code, leave_code, statement_code, statements_code, else_code}
 
 -- ---- distances
 

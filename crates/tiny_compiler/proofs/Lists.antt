@@ -5,8 +5,7 @@ use Rattle.std.specs.List.{All, filter, position_or_len}
 use Rattle.std.proofs.lemmas.Bool.{eq-eqb}
 use Rattle.std.proofs.lemmas.Bool.Decides.{eqb_tells}
 use Rattle.std.proofs.lemmas.List.Elements.{All-nil, All-cons, All-head, All-tail}
-use Rattle.tiny_code.specs.Code.{once}
-use Rattle.tiny_code.specs.Others.{apart}
+use Rattle.tiny_code.specs.Prelude.{once, apart}
 
 -- ---- each number once
 

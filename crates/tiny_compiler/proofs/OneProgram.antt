@@ -2,19 +2,16 @@
 use Rattle.std.proofs.Common.{◌≡◌, ◌∙◌, ℕ, List, Some, sym, ap, subst, arith}
 use Rattle.std.specs.Prelude.{slice_get}
 use Rattle.std.proofs.lemmas.Option.{none-some, same_Some}
-use Rattle.ijvm_instr.specs.Jumps.{Jump}
-use Rattle.ijvm_image.specs.Image.{ImageView}
-use Rattle.ijvm_text.specs.Layout.{IsImageOf, Layout, pool_of, text_of}
-use Rattle.verifier_facts.specs.Accepted.{VerifiedView}
-use Rattle.verifier_facts.specs.Facts.{IsMainCount}
-use Rattle.verifier_facts.specs.MainCount.{one_count}
-use Rattle.tiny_tree.specs.Tree.{Function, Program}
-use Rattle.tiny_parser.specs.Texts.{IsRefused, Spells}
+use Rattle.ijvm_instr.specs.Prelude.{Jump}
+use Rattle.ijvm_image.specs.Prelude.{ImageView}
+use Rattle.ijvm_text.specs.Prelude.{IsImageOf, Layout, pool_of, text_of}
+use Rattle.verifier_facts.specs.Prelude.{VerifiedView, IsMainCount, one_count}
+use Rattle.tiny_tree.specs.Prelude.{Function, Program}
+use Rattle.tiny_parser.specs.Prelude.{IsRefused, Spells}
 use Rattle.tiny_parser.specs.declared.error.TinyError.{TinyError}
 use Rattle.tiny_parser.specs.declared.error.TinyError.TheVariants.{JumpTooFar, PoolTooLong, TextTooLong}
-use Rattle.tiny_compiler.specs.Compiled.{HasNoCode, IsCompiled, NoProgram, TooLarge}
-use Rattle.tiny_code.specs.Image.{IsCodeOf, layout_of}
-use Rattle.tiny_compiler.specs.Image.{ExceedsBy, IsTooLarge}
+use Rattle.tiny_compiler.specs.Prelude.{HasNoCode, IsCompiled, NoProgram, TooLarge, ExceedsBy, IsTooLarge}
+use Rattle.tiny_code.specs.Prelude.{IsCodeOf, layout_of}
 
 -- ---- images and limits
 

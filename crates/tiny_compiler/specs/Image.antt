@@ -1,12 +1,11 @@
 -- The first limit that a program's code exceeds.
 use Rattle.std.specs.Prelude.{◌≡◌, ◌≤◌, length, slice_get, Some}
 use Rattle.ijvm_text.specs.declared.text.Text.{Text}
-use Rattle.ijvm_text.specs.Adds.{IsText}
-use Rattle.ijvm_text.specs.Layout.{ExceedsJump, ExceedsPool, ExceedsText, Layout, jumps_of, pool_of, text_of}
-use Rattle.tiny_tree.specs.Tree.{Function, Program}
+use Rattle.ijvm_text.specs.Prelude.{IsText, ExceedsJump, ExceedsPool, ExceedsText, Layout, jumps_of, pool_of, text_of}
+use Rattle.tiny_tree.specs.Prelude.{Function, Program}
 use Rattle.tiny_parser.specs.declared.error.TinyError.{TinyError}
 use Rattle.tiny_parser.specs.declared.error.TinyError.TheVariants.{JumpTooFar, PoolTooLong, TextTooLong}
-use Rattle.tiny_code.specs.Image.{layout_of}
+use Rattle.tiny_code.specs.Prelude.{layout_of}
 
 -- the first limit that is exceeded, and by what
 abbrev pub ExceedsBy : Layout → TinyError → Type 0

@@ -1,7 +1,7 @@
 //! From a text to the verified image of its code.
 
 ghost use Rattle.std.specs.Prelude.{◌≡◌, ◌<◌, ◌^◌, IfErr, IfOk, false, length};
-ghost use Rattle.tiny_parser.specs.Errors.{is_memory};
+ghost use Rattle.tiny_parser.specs.Prelude.{is_memory};
 ghost use Rattle.tiny_compiler.specs.Compiled.{HasNoCode, IsCompiled, IsImageOf};
 
 use crate::code_image::code_image;

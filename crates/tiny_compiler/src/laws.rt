@@ -2,17 +2,13 @@
 
 ghost use Rattle.std.specs.Prelude.{◌≡◌, ℕ, List};
 ghost use Rattle.mic_words.specs.declared.machine.Machine.{Machine};
-ghost use Rattle.ijvm_image.specs.Image.{ImageView};
-ghost use Rattle.console_port.specs.Map.{IsMap};
-ghost use Rattle.verifier_facts.specs.Accepted.{VerifiedView};
-ghost use Rattle.verifier_facts.specs.Facts.{Accepts};
-ghost use Rattle.tiny_code.specs.Code.{places_of};
-ghost use Rattle.tiny_code.specs.Laid.{IsLaidOut};
-ghost use Rattle.tiny_tree.specs.Named.{IsNamed};
-ghost use Rattle.tiny_tree.specs.Tree.{Program};
+ghost use Rattle.ijvm_image.specs.Prelude.{ImageView};
+ghost use Rattle.console_port.specs.Prelude.{IsMap};
+ghost use Rattle.verifier_facts.specs.Prelude.{VerifiedView, Accepts};
+ghost use Rattle.tiny_code.specs.Prelude.{places_of, IsLaidOut, IsCodeOf, IsCoded};
+ghost use Rattle.tiny_tree.specs.Prelude.{IsNamed, Program};
 ghost use Rattle.tiny_parser.specs.declared.error.TinyError.{TinyError};
 ghost use Rattle.tiny_compiler.specs.Compiled.{HasNoCode, IsCompiled, RunsAsSpelled};
-ghost use Rattle.tiny_code.specs.Image.{IsCodeOf, IsCoded};
 
 use tiny_code::{methods_are_the_others, written_code_stands};
 use tiny_notes::laid_out_programs_are_accepted;

@@ -2,8 +2,8 @@
 
 ghost use Rattle.std.specs.Prelude.{◌≡◌, IfOk};
 ghost use Rattle.console_port.specs.declared.map.TheConstants.MemoryMap.{STANDARD};
-ghost use Rattle.verifier_facts.specs.Accepted.{IsAccepted};
-ghost use Rattle.tiny_code.specs.Image.{IsCoded};
+ghost use Rattle.verifier_facts.specs.Prelude.{IsAccepted};
+ghost use Rattle.tiny_code.specs.Prelude.{IsCoded};
 
 use crate::laws::coded_programs_are_accepted;
 use console_port::MemoryMap;

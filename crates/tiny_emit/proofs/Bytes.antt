@@ -7,12 +7,9 @@ use Rattle.tiny_tree.specs.declared.tree.Operator.{Operator}
 use Rattle.tiny_tree.specs.declared.tree.Expr.{Expr, out-Expr}
 use Rattle.tiny_tree.specs.declared.tree.Step.{Step, out-Step}
 use Rattle.tiny_tree.specs.Tree as tree
-use Rattle.tiny_tree.specs.Tree.{arguments_of, steps_of}
-use Rattle.tiny_tree.specs.View.{expr_tree, step_tree, term_tree}
-use Rattle.tiny_tree.specs.Outs.{drop_item, expr_tree_out, step_tree_out}
-use Rattle.ijvm_text.specs.Adding.{joined, none}
-use Rattle.ijvm_text.specs.Bytes.{code_bytes}
-use Rattle.tiny_code.specs.Code.{Places, arguments_code, expr_code, operator_code, steps_code, term_code}
+use Rattle.tiny_tree.specs.Prelude.{arguments_of, steps_of, expr_tree, step_tree, term_tree, drop_item, expr_tree_out, step_tree_out}
+use Rattle.ijvm_text.specs.Prelude.{joined, none, code_bytes}
+use Rattle.tiny_code.specs.Prelude.{Places, arguments_code, expr_code, operator_code, steps_code, term_code}
 
 pub then_bytes : (old mid new : List ℕ) (a b : List Instr) → mid ≡ old ++ code_bytes a → new ≡ mid ++ code_bytes b →
     new ≡ old ++ code_bytes (a ++ b)

@@ -3,15 +3,10 @@ use Rattle.std.proofs.Common.{◌≡◌, ◌<◌, ◌≤◌, ℕ, ◌+◌, List,
 use Rattle.std.proofs.lemmas.List.{drop_all}
 use Rattle.tiny_tree.specs.declared.tree.Statement.{Statement}
 use Rattle.tiny_tree.specs.Tree as tree
-use Rattle.tiny_tree.specs.Tree.{statements_of}
-use Rattle.tiny_tree.specs.View.{statement_tree}
-use Rattle.tiny_code.specs.Code.{Places, statement_code, statements_code}
-use Rattle.tiny_code.specs.Image.{statement_lines, statements_lines}
-use Rattle.tiny_code.specs.Lined.{statement_lined}
+use Rattle.tiny_tree.specs.Prelude.{statements_of, statement_tree, drop_item}
+use Rattle.tiny_code.specs.Prelude.{Places, statement_code, statements_code, statement_lines, statements_lines, statement_lined}
 use Rattle.ijvm_text.specs.declared.text.Text.{Text}
-use Rattle.ijvm_text.specs.Adds.{AddsCode}
-use Rattle.tiny_tree.specs.Outs.{drop_item}
-use Rattle.ijvm_text.specs.Adding.{no_code}
+use Rattle.ijvm_text.specs.Prelude.{AddsCode, no_code}
 use Rattle.tiny_emit.proofs.Sides.{then_code}
 
 module _ (p : Places) (local : ℕ) where

@@ -8,23 +8,15 @@ use Rattle.std.proofs.lemmas.Option.{same_Some, slice_get-map, slice_get_read}
 use Rattle.std.proofs.lemmas.Bool.Decides.{eqb_tells}
 use Rattle.ijvm_instr.specs.declared.instr.Instr.{Instr}
 use Rattle.ijvm_instr.specs.declared.instr.Instr.TheVariants.{Bipush, Ireturn, Halt}
-use Rattle.ijvm_image.specs.Header.{header}
-use Rattle.ijvm_instr.specs.Jumps.{HasLines}
+use Rattle.ijvm_image.specs.Prelude.{header}
+use Rattle.ijvm_instr.specs.Prelude.{HasLines}
 use Rattle.tiny_tree.specs.declared.tree.Function as declared
-use Rattle.tiny_tree.specs.Named.{vars_of}
-use Rattle.tiny_tree.specs.Tree.{Function, Program}
-use Rattle.tiny_tree.specs.View.{function_tree}
-use Rattle.tiny_code.specs.Code.{Places, main_code, method_code, methods, places_of, statements_code}
-use Rattle.tiny_code.specs.Image.{layout_of, method_part, statements_lines}
-use Rattle.tiny_code.specs.Lined.{statements_lined}
+use Rattle.tiny_tree.specs.Prelude.{vars_of, Function, Program, function_tree, drop_item}
+use Rattle.tiny_code.specs.Prelude.{Places, main_code, method_code, methods, places_of, statements_code, layout_of, method_part, statements_lines, statements_lined}
 use Rattle.ijvm_text.specs.declared.text.Text.{Text}
 use Rattle.ijvm_text.specs.declared.units.Units.{Units}
-use Rattle.ijvm_text.specs.Adds.{Adds, AddsCode}
-use Rattle.ijvm_text.specs.Adding.{then}
-use Rattle.ijvm_text.specs.Bytes.{code_bytes}
-use Rattle.ijvm_text.specs.Parts.{AreUnits, whole}
-use Rattle.tiny_emit.specs.Emitted.{AddsMain, AddsMethod, AddsMethods, program_of}
-use Rattle.tiny_tree.specs.Outs.{drop_item}
+use Rattle.ijvm_text.specs.Prelude.{Adds, AddsCode, then, code_bytes, AreUnits, whole}
+use Rattle.tiny_emit.specs.Prelude.{AddsMain, AddsMethod, AddsMethods, program_of}
 use Rattle.tiny_emit.proofs.Sides.{then_code}
 
 -- with no jump at the end

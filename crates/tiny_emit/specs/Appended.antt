@@ -3,10 +3,10 @@ use Rattle.std.specs.Prelude.{ℕ, ◌+◌, List, [], ◌∷◌, ◌++◌, map, 
 use Rattle.std.specs.Option.{option_map}
 use Rattle.ijvm_instr.specs.declared.instr.Instr.{Instr}
 use Rattle.ijvm_instr.specs.declared.instr.Instr.TheVariants.{Istore, Pop, Isub}
-use Rattle.ijvm_instr.specs.Jumps.{HasLines}
+use Rattle.ijvm_instr.specs.Prelude.{HasLines}
 use Rattle.ijvm_program.specs.declared.line.Jump.{Jump}
 use Rattle.ijvm_program.specs.declared.line.Jump.TheVariants.{Iflt, IfIcmpeq}
-use Rattle.ijvm_program.specs.Layout.{jump_by}
+use Rattle.ijvm_program.specs.Prelude.{jump_by}
 use Rattle.tiny_tree.specs.declared.tree.Block.{Block}
 use Rattle.tiny_tree.specs.declared.tree.Cond.{Cond}
 use Rattle.tiny_tree.specs.declared.tree.Expr.{Expr}
@@ -14,14 +14,12 @@ use Rattle.tiny_tree.specs.declared.tree.Statement.{Statement}
 use Rattle.tiny_tree.specs.declared.tree.Step.{Step}
 use Rattle.tiny_tree.specs.declared.tree.Term.{Term}
 use Rattle.tiny_tree.specs.Tree as tree
-use Rattle.tiny_tree.specs.Tree.{Called, arguments_of, else_of, statements_of, steps_of}
-use Rattle.tiny_tree.specs.View.{block_tree, cond_tree, expr_tree, statement_tree, step_tree, term_tree}
-use Rattle.tiny_code.specs.Code.{Places, arguments_code, choice, code_size, else_code, expr_code, if_code, leave_code, loop, statement_code, statements_code, steps_code, term_code, test_code}
-use Rattle.tiny_code.specs.Image.{else_lines, if_lines, leave_lines, statement_lines, statements_lines, while_lines}
+use Rattle.tiny_tree.specs.Prelude.{Called, arguments_of, else_of, statements_of, steps_of, block_tree, cond_tree, expr_tree, statement_tree, step_tree, term_tree}
+use Rattle.tiny_code.specs.Prelude.{Places, arguments_code, choice, code_size, else_code, expr_code, if_code, leave_code, loop, statement_code, statements_code, steps_code, term_code, test_code, else_lines, if_lines, leave_lines, statement_lines, statements_lines, while_lines}
 use Rattle.tiny_pool.specs.declared.table.Table.{Table}
-use Rattle.tiny_pool.specs.Places.{places_in}
+use Rattle.tiny_pool.specs.Prelude.{places_in}
 use Rattle.ijvm_text.specs.declared.text.Text.{Text}
-use Rattle.ijvm_text.specs.Adds.{AddsCode, IsCode}
+use Rattle.ijvm_text.specs.Prelude.{AddsCode, IsCode}
 
 -- the jump of a test: where it holds, and for != where its sides are equal
 abbrev pub jump_of : tree.Cond → Jump

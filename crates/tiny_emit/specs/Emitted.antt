@@ -1,16 +1,12 @@
 -- What is emitted of a program.
 use Rattle.std.specs.Prelude.{◌≡◌, ℕ, ◌+◌, List, map, slice_get, Some}
-use Rattle.ijvm_image.specs.Header.{header}
+use Rattle.ijvm_image.specs.Prelude.{header}
 use Rattle.ijvm_text.specs.declared.text.Text.{Text}
 use Rattle.ijvm_text.specs.declared.units.Units.{Units}
-use Rattle.ijvm_text.specs.Adds.{Adds, AddsCode}
-use Rattle.ijvm_text.specs.Parts.{AddsParts, AreUnits}
+use Rattle.ijvm_text.specs.Prelude.{Adds, AddsCode, AddsParts, AreUnits}
 use Rattle.tiny_tree.specs.declared.tree.Function as declared
-use Rattle.tiny_tree.specs.Tree.{Function, Program}
-use Rattle.tiny_tree.specs.Named.{vars_of}
-use Rattle.tiny_tree.specs.View.{block_tree, function_tree}
-use Rattle.tiny_code.specs.Code.{Places, main_code}
-use Rattle.tiny_code.specs.Image.{layout_of, method_part, statements_lines}
+use Rattle.tiny_tree.specs.Prelude.{Function, Program, vars_of, block_tree, function_tree}
+use Rattle.tiny_code.specs.Prelude.{Places, main_code, layout_of, method_part, statements_lines}
 
 abbrev pub program_of : List declared.Function → ℕ → Program
 program_of functions main = record { functions = map function_tree functions; main = main }

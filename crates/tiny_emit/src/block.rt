@@ -1,7 +1,7 @@
 //! The code of statements and blocks.
 
 ghost use Rattle.std.specs.Prelude.{◌∷◌, ◌++◌, [], IfOk, OnOk};
-ghost use Rattle.ijvm_text.specs.Adds.{AddsCode, Puts};
+ghost use Rattle.ijvm_text.specs.Prelude.{AddsCode, Puts};
 ghost use Rattle.tiny_emit.specs.Appended.{AddsBlock, AddsStatement, AddsStatements, IsBlock, IsElse, code_of_call_alone, code_of_expr, code_of_store};
 
 use crate::choice::{add_if, add_while};

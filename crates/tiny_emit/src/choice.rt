@@ -1,10 +1,10 @@
 //! The code of tests, and of what is chosen by them.
 
 ghost use Rattle.std.specs.Prelude.{◌≡◌, ◌<◌, ◌^◌, [], ℕ, OnOk};
-ghost use Rattle.tiny_code.specs.Code.{Places};
-ghost use Rattle.ijvm_text.specs.Adds.{AddsCode, Puts};
+ghost use Rattle.tiny_code.specs.Prelude.{Places};
+ghost use Rattle.ijvm_text.specs.Prelude.{AddsCode, Puts};
 ghost use Rattle.tiny_emit.specs.Appended.{AddsChoice, AddsIf, AddsLeave, AddsWhile, code_of_difference, code_of_sides, code_of_test, jump_of};
-ghost use Rattle.tiny_tree.specs.View.{cond_tree};
+ghost use Rattle.tiny_tree.specs.Prelude.{cond_tree};
 
 use crate::expr::put_expr;
 use crate::jump::{add_backward_jump, add_forward_jump};

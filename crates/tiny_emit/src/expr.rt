@@ -1,8 +1,8 @@
 //! Appends the code of an expression, which leaves one word on the stack.
 
 ghost use Rattle.std.specs.Prelude.{◌≡◌, ◌+◌, OnOk, IfOk};
-ghost use Rattle.tiny_code.specs.Code.{operator_code};
-ghost use Rattle.ijvm_text.specs.Adds.{Puts};
+ghost use Rattle.tiny_code.specs.Prelude.{operator_code};
+ghost use Rattle.ijvm_text.specs.Prelude.{Puts};
 ghost use Rattle.tiny_emit.specs.Appended.{code_of_arguments, code_of_call, code_of_expr, code_of_steps, code_of_term};
 
 use ijvm_instr::Instr;

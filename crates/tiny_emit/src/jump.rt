@@ -2,7 +2,7 @@
 
 ghost use Rattle.std.specs.Prelude.{◌<◌, ◌^◌, pos, neg_ℤ, OnOk};
 ghost use Rattle.ijvm_program.specs.declared.line.Jump.TheVariants.{Goto};
-ghost use Rattle.ijvm_text.specs.Adds.{AddsJump};
+ghost use Rattle.ijvm_text.specs.Prelude.{AddsJump};
 
 use ijvm_program::Jump;
 use ijvm_text::Text;

@@ -1,14 +1,12 @@
 //! The code of a program.
 
 ghost use Rattle.std.specs.Prelude.{◌≡◌, ◌<◌, ◌+◌, ◌++◌, [], IfOk, OnOk, length};
-ghost use Rattle.ijvm_image.specs.Header.{header};
-ghost use Rattle.tiny_code.specs.Code.{methods, places_of};
-ghost use Rattle.tiny_code.specs.Image.{method_part};
-ghost use Rattle.ijvm_text.specs.Adds.{Adds};
-ghost use Rattle.ijvm_text.specs.Parts.{AddsPart};
+ghost use Rattle.ijvm_image.specs.Prelude.{header};
+ghost use Rattle.tiny_code.specs.Prelude.{methods, places_of, method_part};
+ghost use Rattle.ijvm_text.specs.Prelude.{Adds, AddsPart};
 ghost use Rattle.tiny_emit.specs.Emitted.{AddsMain, AddsMethod, AddsMethods, AreUnitsOf, header_of, program_of};
-ghost use Rattle.tiny_pool.specs.Places.{places_in};
-ghost use Rattle.tiny_tree.specs.View.{function_tree};
+ghost use Rattle.tiny_pool.specs.Prelude.{places_in};
+ghost use Rattle.tiny_tree.specs.Prelude.{function_tree};
 
 use crate::block::add_block;
 use crate::vars::{sum, vars_of};

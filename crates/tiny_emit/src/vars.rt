@@ -1,9 +1,7 @@
 //! How many variables a block declares.
 
 ghost use Rattle.std.specs.Prelude.{◌≡◌, ◌+◌, IfOk, map};
-ghost use Rattle.tiny_tree.specs.Named.{vars_in, vars_of};
-ghost use Rattle.tiny_tree.specs.Tree.{statements_of};
-ghost use Rattle.tiny_tree.specs.View.{block_tree, statement_tree};
+ghost use Rattle.tiny_tree.specs.Prelude.{vars_in, vars_of, statements_of, block_tree, statement_tree};
 
 use std::alloc::AllocError;
 use tiny_tree::{Block, Statement};

@@ -4,7 +4,7 @@ use Rattle.std.specs.Prelude.{None, [], ◌∷◌}
 use Rattle.tiny_draft.specs.declared.token.Kind.{Kind}
 use Rattle.tiny_draft.specs.declared.token.Kind.TheVariants as kinds
 use Rattle.tiny_draft.specs.declared.token.Sign.TheVariants as signs
-use Rattle.tiny_grammar.specs.Machine.{MoreArguments, Steps, before, begins_arguments, begins_block, begins_call, begins_else, begins_functions, begins_more, begins_more_parameters, begins_statement, begins_term, is_name, is_number, is_sign}
+use Rattle.tiny_grammar.specs.Prelude.{MoreArguments, Steps, before, begins_arguments, begins_block, begins_call, begins_else, begins_functions, begins_more, begins_more_parameters, begins_statement, begins_term, is_name, is_number, is_sign}
 
 pub more_none : (k : Kind) → is_sign signs.Comma k ≡ None → is_sign signs.Close k ≡ None → begins_more k ≡ None
 more_none (kinds.Of signs.Comma) a b = absurd (cc)

@@ -7,8 +7,8 @@ use Rattle.tiny_draft.specs.declared.token.Sign.TheVariants as signs
 use Rattle.tiny_draft.specs.declared.token.Token.{Token}
 use Rattle.tiny_draft.specs.declared.tree.Comparison.TheVariants as comparisons
 use Rattle.tiny_draft.specs.declared.tree.Word.{Word}
-use Rattle.tiny_draft.specs.Tree.{Function, Expr, Variable, Number, Called, Sum, no_steps, step, argument, no_arguments, Compare, While, Put, Return, statement, no_statements}
-use Rattle.tiny_grammar.specs.Grammar.{SpellsProgram}
+use Rattle.tiny_draft.specs.Prelude.{Function, Expr, Variable, Number, Called, Sum, no_steps, step, argument, no_arguments, Compare, While, Put, Return, statement, no_statements}
+use Rattle.tiny_grammar.specs.Prelude.{SpellsProgram}
 
 abbrev of : Sign → ℕ → Token
 of s line = record { kind = kinds.Of s; line = line }

@@ -10,19 +10,14 @@ use Rattle.tiny_draft.specs.declared.tree.Expr.{Expr}
 use Rattle.tiny_draft.specs.declared.tree.Step.{Step}
 use Rattle.tiny_draft.specs.declared.tree.Term.{Term}
 use Rattle.tiny_draft.specs.declared.tree.Word.{Word}
-use Rattle.tiny_draft.specs.Tree.{arguments_of, steps_of}
+use Rattle.tiny_draft.specs.Prelude.{arguments_of, steps_of, expr_tree, step_tree, term_tree}
 use Rattle.tiny_draft.specs.Tree as tree
-use Rattle.tiny_draft.specs.View.{expr_tree, step_tree, term_tree}
 use Rattle.tiny_draft.specs.declared.token.Kind.{Kind}
 use Rattle.tiny_draft.specs.declared.token.Kind.TheVariants as kinds
 use Rattle.tiny_draft.specs.declared.token.Sign.TheVariants as signs
 use Rattle.tiny_draft.specs.declared.token.Token.{Token}
 use Rattle.tiny_grammar.specs.declared.refusal.Refusal.{Refusal}
-use Rattle.tiny_grammar.specs.Tokens.{first_kind}
-use Rattle.tiny_grammar.specs.Grammar.{bare, comparison, end, kept_line, operator, sign, word, spell_arguments, spell_cond, spell_expr, spell_steps, spell_term}
-use Rattle.tiny_grammar.specs.Refusals.{Stays, turn}
-use Rattle.tiny_grammar.specs.Machine.{ACond, AnExpr, ATerm, Arguments, Compare, MoreArguments, Part, Steps, Want, begins, comparison_of, fault, is_sign, operator_of, value}
-use Rattle.tiny_grammar.specs.Reads.{ComparisonAt, Moves, NameAt, NumberAt, OperatorAt, Reads, ReadsAll, Sees, Stops}
+use Rattle.tiny_grammar.specs.Prelude.{first_kind, bare, comparison, end, kept_line, operator, sign, word, spell_arguments, spell_cond, spell_expr, spell_steps, spell_term, Stays, turn, ACond, AnExpr, ATerm, Arguments, Compare, MoreArguments, Part, Steps, Want, begins, comparison_of, fault, is_sign, operator_of, value, ComparisonAt, Moves, NameAt, NumberAt, OperatorAt, Reads, ReadsAll, Sees, Stops}
 use Rattle.tiny_grammar.proofs.Lists.{arguments_end, commas_more, steps_more, with_commas}
 use Rattle.tiny_grammar.proofs.Beginnings.{arguments_not_closed, more_none}
 use Rattle.tiny_grammar.proofs.Moving.{back, closes_at, frame, frame_stops, kept_as, opens_at, regroup, stays_at, stop_at, stops_as, text_as, then, then_stops}

@@ -3,18 +3,15 @@ use Rattle.std.proofs.Common.{◌≡◌, ℕ, Bool, true, false, List, [], ◌�
 use Rattle.std.specs.Prelude.{Option, Some, None, Err, ◌==◌, ◌≢◌}
 use Rattle.std.proofs.lemmas.List.{append-nil}
 use Rattle.std.proofs.lemmas.Bool.{eqb-true}
-use Rattle.tiny_draft.specs.Tree.{Function}
+use Rattle.tiny_draft.specs.Prelude.{Function}
 use Rattle.tiny_draft.specs.declared.token.Kind.{Kind}
 use Rattle.tiny_draft.specs.declared.token.Kind.TheVariants as kinds
 use Rattle.tiny_draft.specs.declared.token.Sign.TheVariants as signs
 use Rattle.tiny_draft.specs.declared.token.Token.{Token}
 use Rattle.tiny_grammar.specs.declared.refusal.Refusal.{Refusal}
 use Rattle.tiny_grammar.specs.declared.refusal.Refusal.TheVariants as refusals
-use Rattle.tiny_grammar.specs.Tokens.{first_kind}
-use Rattle.tiny_grammar.specs.Grammar.{SpellsProgram, kept}
+use Rattle.tiny_grammar.specs.Prelude.{first_kind, SpellsProgram, kept, Part, begins, fault, fault_by, follow, is_optional, is_sign, or_skip, spent, walk, Begins, IsCutShort, IsReason, IsRefused, IsRefusedAt, IsShallow, left, turn, Opens}
 use Rattle.tiny_grammar.specs.Machine as m
-use Rattle.tiny_grammar.specs.Machine.{Part, begins, fault, fault_by, follow, is_optional, is_sign, or_skip, spent, walk}
-use Rattle.tiny_grammar.specs.Refusals.{Begins, IsCutShort, IsReason, IsRefused, IsRefusedAt, IsShallow, left, turn, Opens}
 use Rattle.tiny_grammar.proofs.Beginnings.{functions_none}
 use Rattle.tiny_grammar.proofs.Runs.{Stuck, Why, astray, at_end, at_token, deep, done, one_step, steps, steps_front, steps_kept, steps_more, walk_along, walk_stuck}
 use Rattle.tiny_grammar.proofs.Taken.{take_program}

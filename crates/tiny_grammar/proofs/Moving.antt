@@ -6,11 +6,7 @@ use Rattle.tiny_draft.specs.declared.token.Kind.{Kind}
 use Rattle.tiny_draft.specs.declared.token.Token.{Token}
 use Rattle.tiny_grammar.specs.declared.refusal.Refusal.{Refusal}
 use Rattle.tiny_grammar.specs.declared.refusal.Refusal.TheVariants as refusals
-use Rattle.tiny_grammar.specs.Tokens.{first_kind}
-use Rattle.tiny_grammar.specs.Grammar.{kept, kept_line}
-use Rattle.tiny_grammar.specs.Machine.{Part, before, begins, is_optional, follow, or_skip, fault, take_on, walk, Outcome}
-use Rattle.tiny_grammar.specs.Refusals.{Stays, Opens, Closes, turn}
-use Rattle.tiny_grammar.specs.Reads.{Moves, Skips, Stops}
+use Rattle.tiny_grammar.specs.Prelude.{first_kind, kept, kept_line, Part, before, begins, is_optional, follow, or_skip, fault, take_on, walk, Outcome, Stays, Opens, Closes, turn, Moves, Skips, Stops}
 
 -- ---- one token
 

@@ -4,7 +4,7 @@ use Rattle.std.specs.Prelude.{◌==◌, if◌then◌else◌}
 use Rattle.std.proofs.lemmas.Bool.{eqb-true}
 use Rattle.tiny_draft.specs.declared.token.Sign.{Sign}
 use Rattle.tiny_draft.specs.declared.token.Sign.TheVariants as signs
-use Rattle.tiny_grammar.specs.Tokens.{rank}
+use Rattle.tiny_grammar.specs.Prelude.{rank}
 
 low : ℕ → Sign
 low n = if n == 0 then signs.Open else (if n == 1 then signs.Close else (if n == 2 then signs.Begin else (if n == 3 then signs.End

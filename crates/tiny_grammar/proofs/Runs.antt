@@ -5,9 +5,7 @@ use Rattle.std.proofs.lemmas.Bool.{eqb-true, eqb-false, ne_eqb}
 use Rattle.tiny_draft.specs.declared.token.Token.{Token}
 use Rattle.tiny_grammar.specs.declared.refusal.Refusal.{Refusal}
 use Rattle.tiny_grammar.specs.declared.refusal.Refusal.TheVariants as refusals
-use Rattle.tiny_grammar.specs.Grammar.{kept}
-use Rattle.tiny_grammar.specs.Refusals.{Closes, IsShallow, MayTurn, Opens, Stays, Turn, left, left_by, turn}
-use Rattle.tiny_grammar.specs.Machine.{Outcome, Part, fault_by, follow, go_on, spent, take_on, walk}
+use Rattle.tiny_grammar.specs.Prelude.{kept, Closes, IsShallow, MayTurn, Opens, Stays, Turn, left, left_by, turn, Outcome, Part, fault_by, follow, go_on, spent, take_on, walk}
 
 abbrev pub steps : List Part → List Token → Option (List Part)
 steps ps [] = Some ps

@@ -12,10 +12,7 @@ use Rattle.tiny_draft.specs.declared.token.Kind.TheVariants as kinds
 use Rattle.tiny_draft.specs.declared.token.Sign.{Sign}
 use Rattle.tiny_draft.specs.declared.token.Sign.TheVariants as signs
 use Rattle.tiny_draft.specs.declared.token.Token.{Token}
-use Rattle.tiny_grammar.specs.Tokens.{rank}
-use Rattle.tiny_grammar.specs.Grammar.{comparison, end, kept, kept_line, operator, sign, sign_at, word, spell_arguments, spell_block, spell_cond, spell_else, spell_expr, spell_functions, spell_more, spell_more_parameters, spell_parameters, spell_statement, spell_statements, spell_steps, spell_term}
-use Rattle.tiny_grammar.specs.Machine.{ABlock, ACond, AfterName, AName, AnExpr, Arguments, AStatement, ATerm, Compare, Functions, MaybeCall, MaybeElse, MoreArguments, MoreParameters, Parameters, Part, Statements, Steps, Want, before, begins, begins_after_name, begins_arguments, begins_block, begins_call, begins_compare, begins_else, begins_functions, begins_more, begins_more_parameters, begins_parameters, begins_statement, begins_steps, begins_term, comparison_of, follow, is_optional, is_sign, operator_of, or_skip, spent, value}
-use Rattle.tiny_grammar.specs.Refusals.{Begins}
+use Rattle.tiny_grammar.specs.Prelude.{rank, comparison, end, kept, kept_line, operator, sign, sign_at, word, spell_arguments, spell_block, spell_cond, spell_else, spell_expr, spell_functions, spell_more, spell_more_parameters, spell_parameters, spell_statement, spell_statements, spell_steps, spell_term, ABlock, ACond, AfterName, AName, AnExpr, Arguments, AStatement, ATerm, Compare, Functions, MaybeCall, MaybeElse, MoreArguments, MoreParameters, Parameters, Part, Statements, Steps, Want, before, begins, begins_after_name, begins_arguments, begins_block, begins_call, begins_compare, begins_else, begins_functions, begins_more, begins_more_parameters, begins_parameters, begins_statement, begins_steps, begins_term, comparison_of, follow, is_optional, is_sign, operator_of, or_skip, spent, value, Begins}
 use Rattle.tiny_grammar.proofs.Exprs.{comparison_kept, operator_kept}
 use Rattle.tiny_grammar.proofs.Ranks.{same_sign}
 use Rattle.tiny_grammar.proofs.Runs.{steps}

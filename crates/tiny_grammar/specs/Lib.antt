@@ -4,3 +4,4 @@ pub mod Refusals
 pub mod Machine
 pub mod Reads
 pub mod Parts
+pub mod Prelude

@@ -8,8 +8,7 @@ use Rattle.tiny_draft.specs.declared.tree.Expr.{Expr}
 use Rattle.tiny_draft.specs.declared.tree.Statement.{Statement}
 use Rattle.tiny_draft.specs.declared.tree.Term.{Term}
 use Rattle.tiny_draft.specs.Tree as tree
-use Rattle.tiny_draft.specs.Tree.{arguments_of}
-use Rattle.tiny_draft.specs.View.{expr_tree, statement_tree, term_tree}
+use Rattle.tiny_draft.specs.Prelude.{arguments_of, expr_tree, statement_tree, term_tree}
 use Rattle.tiny_grammar.specs.Grammar.{SpellsProgram, end, sign, spell_arguments, spell_expr, spell_statement, spell_term}
 use Rattle.tiny_grammar.specs.Machine.{Part, Arguments, AStatement, ATerm, MaybeCall, Want, is_sign, value}
 use Rattle.tiny_grammar.specs.Reads.{Moves, Reads}

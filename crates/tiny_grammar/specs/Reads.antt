@@ -6,7 +6,7 @@ use Rattle.tiny_draft.specs.declared.token.Kind.TheVariants as kinds
 use Rattle.tiny_draft.specs.declared.token.Sign.TheVariants as signs
 use Rattle.tiny_draft.specs.declared.tree.Statement.{Statement}
 use Rattle.tiny_draft.specs.declared.tree.Word.{Word}
-use Rattle.tiny_draft.specs.View.{statement_tree}
+use Rattle.tiny_draft.specs.Prelude.{statement_tree}
 use Rattle.tiny_grammar.specs.Tokens.{first_kind}
 use Rattle.tiny_grammar.specs.declared.refusal.Refusal.{Refusal}
 use Rattle.tiny_grammar.specs.declared.refusal.Refusal.TheVariants as refusals

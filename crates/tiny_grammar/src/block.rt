@@ -1,8 +1,7 @@
 //! Reads the statement and the block at the front of the tokens, by the grammar of Tiny.
 
 ghost use Rattle.std.specs.Prelude.{◌∷◌, [], IfOk, IfErr};
-ghost use Rattle.tiny_draft.specs.Branches.{else_tree};
-ghost use Rattle.tiny_draft.specs.View.{block_tree};
+ghost use Rattle.tiny_draft.specs.Prelude.{else_tree, block_tree};
 ghost use Rattle.tiny_draft.specs.declared.token.Sign.TheVariants.{If, While};
 ghost use Rattle.tiny_grammar.specs.Grammar.{spell_block, spell_else};
 ghost use Rattle.tiny_grammar.specs.Machine.{ABlock, AfterName, AStatement, MaybeElse};

@@ -1,7 +1,7 @@
 //! Reads the expression and the condition at the front of the tokens.
 
 ghost use Rattle.std.specs.Prelude.{[], ◌∷◌, ◌++◌, IfOk, IfErr};
-ghost use Rattle.tiny_draft.specs.View.{cond_tree, expr_tree};
+ghost use Rattle.tiny_draft.specs.Prelude.{cond_tree, expr_tree};
 ghost use Rattle.tiny_draft.specs.declared.token.Sign.TheVariants.{Open};
 ghost use Rattle.tiny_grammar.specs.Grammar.{end, spell_cond, spell_expr};
 ghost use Rattle.tiny_grammar.specs.Machine.{ACond, AnExpr, Arguments, ATerm, MaybeCall, value};

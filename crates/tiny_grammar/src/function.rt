@@ -1,7 +1,7 @@
 //! Reads the function at the front of the tokens: its parameters and its block.
 
 ghost use Rattle.std.specs.Prelude.{◌≡◌, ◌+◌, ◌∷◌, [], ℕ, IfOk, IfErr};
-ghost use Rattle.tiny_draft.specs.View.{function_tree};
+ghost use Rattle.tiny_draft.specs.Prelude.{function_tree};
 ghost use Rattle.tiny_grammar.specs.Grammar.{spell_parameters, spell_signature};
 ghost use Rattle.tiny_grammar.specs.Machine.{Parameters, signature};
 ghost use Rattle.tiny_grammar.specs.Reads.{Moves, ReadsAll, StopsBy};

@@ -2,7 +2,7 @@
 
 ghost use Rattle.std.specs.Prelude.{◌≡◌, ℕ, List, IfOk, IfErr, OnOk, false, map};
 ghost use Rattle.tiny_draft.specs.Tree as tree;
-ghost use Rattle.tiny_draft.specs.View.{function_tree};
+ghost use Rattle.tiny_draft.specs.Prelude.{function_tree};
 ghost use Rattle.tiny_draft.specs.declared.token.Token.{Token};
 ghost use Rattle.tiny_grammar.specs.declared.refusal.Refusal.{Refusal};
 ghost use Rattle.tiny_grammar.specs.Grammar.{SpellsProgram};

@@ -1,16 +1,12 @@
 -- Every line has tokens.
 use Rattle.std.proofs.Common.{◌≡◌, ℕ, zero, suc, ◌-◌, Bool, true, false, List, [], ◌∷◌, Option, Some, None, take, refl}
-use Rattle.mic_base.specs.Name.{is_name}
-use Rattle.mic_base.specs.Number.{number_of}
+use Rattle.mic_base.specs.Prelude.{is_name, number_of}
 use Rattle.source_text.specs.Reading as reading
-use Rattle.source_text.specs.Reading.{lex}
-use Rattle.source_text.specs.Table.{begins_number, extent, token_of}
-use Rattle.source_text.specs.Tokens.{is_blank}
+use Rattle.source_text.specs.Prelude.{lex, begins_number, extent, token_of, is_blank}
 use Rattle.tiny_draft.specs.declared.token.Sign.{Sign}
 use Rattle.tiny_lexemes.specs.declared.lexeme.Lexeme.{Lexeme}
 use Rattle.tiny_lexemes.specs.declared.lexeme.Lexeme.TheVariants as lexemes
-use Rattle.tiny_lexemes.specs.Signs.{find_sign}
-use Rattle.tiny_lexemes.specs.Lexemes.{number_lexeme, read, tiny, value_by}
+use Rattle.tiny_lexemes.specs.Prelude.{find_sign, number_lexeme, read, tiny, value_by}
 
 some_token : (text : List ℕ) → (t : Lexeme) × (token_of tiny text ≡ Some t)
 some_token text = go (begins_number tiny text) (find_sign text) (is_name text) refl refl refl

@@ -1,10 +1,10 @@
 -- Which tokens a line spells. Every byte that is no blank belongs to one: what begins no token, and a number that cannot
 -- be read, are tokens of kinds of their own.
 use Rattle.std.specs.Prelude.{ℕ, ℤ, pos, true, false, List, Option, Some, None, Result, Ok, if◌then◌else◌, nat_le, option_map}
-use Rattle.mic_base.specs.Number.{number_of}
+use Rattle.mic_base.specs.Prelude.{number_of}
 use Rattle.mic_base.specs.declared.number.NumberError.{NumberError}
 use Rattle.source_text.specs.Reading as reading
-use Rattle.source_text.specs.Table.{Table}
+use Rattle.source_text.specs.Prelude.{Table}
 use Rattle.source_text.specs.Tokens as source
 use Rattle.tiny_lexemes.specs.declared.lexeme.Lexeme.{Lexeme}
 use Rattle.tiny_lexemes.specs.declared.lexeme.Lexeme.TheVariants as lexemes

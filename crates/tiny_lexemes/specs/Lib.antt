@@ -1,3 +1,4 @@
 pub mod Signs
 pub mod Lexemes
 pub mod Spelled
+pub mod Prelude

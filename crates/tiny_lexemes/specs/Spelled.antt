@@ -1,8 +1,7 @@
 -- A number that is read has its value from its text.
 use Rattle.std.proofs.Common.{◌≡◌, ℕ, inl, inr, List, [], ◌∷◌, Option, Some, None}
-use Rattle.mic_base.specs.Number.{number_of}
-use Rattle.source_text.specs.Options.{mapped}
-use Rattle.source_text.specs.Spelled.{ByTable, by_table}
+use Rattle.mic_base.specs.Prelude.{number_of}
+use Rattle.source_text.specs.Prelude.{mapped, ByTable, by_table}
 use Rattle.tiny_lexemes.specs.declared.lexeme.Lexeme.TheVariants as lexemes
 use Rattle.tiny_lexemes.specs.Signs.{find_sign}
 use Rattle.tiny_lexemes.specs.Lexemes.{IsLexeme, number_lexeme, tiny, value_by}

@@ -1,7 +1,7 @@
 //! The tokens of a line, by the table of Tiny.
 
 ghost use Rattle.std.specs.Prelude.{◌≡◌, ◌↔◌, Some, List, ℕ};
-ghost use Rattle.mic_base.specs.Number.{number_of};
+ghost use Rattle.mic_base.specs.Prelude.{number_of};
 ghost use Rattle.tiny_lexemes.specs.declared.lexeme.Lexeme.{Lexeme};
 ghost use Rattle.tiny_lexemes.specs.Lexemes.{SpellsLexemes, number_lexeme, read, value_by};
 

@@ -3,15 +3,14 @@ use Rattle.std.proofs.Common.{◌≡◌, ℕ, ◌+◌, ◌<◌, [], ◌∷◌, �
 use Rattle.std.specs.Prelude.{Option, Some, None}
 use Rattle.tiny_draft.specs.declared.tree.Expr.{Expr}
 use Rattle.tiny_draft.specs.declared.tree.Step.{Step, out-Step}
-use Rattle.tiny_draft.specs.Tree.{arguments_of, steps_of}
+use Rattle.tiny_draft.specs.Prelude.{arguments_of, steps_of, call_level, expr_level, expr_tree, step_level, step_tree, sum_level, term_level, term_tree}
 use Rattle.tiny_draft.specs.declared.tree.Expr.TheFolds.{fold_out-Step}
 use Rattle.tiny_tree.specs.declared.tree.Operator.{Operator}
-use Rattle.tiny_tree.specs.Outs.{drop_item}
+use Rattle.tiny_tree.specs.Prelude.{drop_item}
 use Rattle.tiny_draft.specs.Tree as tree
-use Rattle.tiny_draft.specs.View.{call_level, expr_level, expr_tree, step_level, step_tree, sum_level, term_level, term_tree}
 use Rattle.tiny_names.specs.declared.fault.Fault.{Fault}
 use Rattle.tiny_names.specs.declared.functions.Signature.{Signature}
-use Rattle.tiny_names.specs.Faults.{count, first, step_faults, term_faults}
+use Rattle.tiny_names.specs.Prelude.{count, first, step_faults, term_faults}
 
 pub first_some : (a b : List Fault) (f : Fault) → Some f ≡ first a → Some f ≡ first (a ++ b)
 first_some [] b f h = absurd (cc)

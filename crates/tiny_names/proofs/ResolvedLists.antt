@@ -7,10 +7,10 @@ use Rattle.tiny_draft.specs.declared.tree.Block.{Block, out-Block}
 use Rattle.tiny_draft.specs.declared.tree.Statement.{Statement}
 use Rattle.tiny_draft.specs.declared.tree.Statement.TheFolds.{fold_out-Block}
 use Rattle.tiny_draft.specs.Tree as draft
-use Rattle.tiny_draft.specs.View.{block_level, block_tree, branches_level, statement_level, statement_tree}
+use Rattle.tiny_draft.specs.Prelude.{block_level, block_tree, branches_level, statement_level, statement_tree}
 use Rattle.tiny_tree.specs.Tree as tree
 use Rattle.tiny_names.specs.declared.functions.Signature.{Signature}
-use Rattle.tiny_names.specs.Resolved.{arguments, expr, statement, statements, steps, term}
+use Rattle.tiny_names.specs.Prelude.{arguments, expr, statement, statements, steps, term}
 
 module _ (known : ℕ → Option Signature) (names : List ℕ) where
   abbrev pub step_of : Operator × draft.Term → Operator × tree.Term

@@ -5,18 +5,15 @@ use Rattle.std.proofs.lemmas.List.{drop_all, take_all}
 use mathlib.Core.Path.{fun_ext}
 use Rattle.tiny_draft.specs.declared.tree.Function.{Function}
 use Rattle.tiny_draft.specs.Tree as draft
-use Rattle.tiny_draft.specs.View.{function_tree}
+use Rattle.tiny_draft.specs.Prelude.{function_tree}
 use Rattle.tiny_tree.specs.Tree as tree
-use Rattle.tiny_tree.specs.Outs.{drop_item}
+use Rattle.tiny_tree.specs.Prelude.{drop_item}
 use Rattle.tiny_names.specs.declared.fault.Fault.{Fault}
 use Rattle.tiny_names.specs.declared.fault.Fault.TheVariants as faults
 use Rattle.tiny_names.specs.declared.fault.Unresolved.{Unresolved}
 use Rattle.tiny_names.specs.declared.fault.Unresolved.TheVariants as unresolved
 use Rattle.tiny_names.specs.declared.functions.Signature.{Signature}
-use Rattle.tiny_names.specs.Faults.{all_faults, faults_from, first, function_faults, main_faults}
-use Rattle.tiny_names.specs.Names.{called, lookup}
-use Rattle.tiny_names.specs.Resolved.{function_of, function_place, resolved}
-use Rattle.tiny_names.specs.Unresolved.{IsFirst}
+use Rattle.tiny_names.specs.Prelude.{all_faults, faults_from, first, function_faults, main_faults, called, lookup, function_of, function_place, resolved, IsFirst}
 use Rattle.tiny_names.proofs.Firsts.{first_none}
 
 first_whole : (a b : List Fault) (f : Fault) → first a ≡ Some f → first (a ++ b) ≡ Some f

@@ -2,7 +2,7 @@
 -- each name is declared once in a function, and at most 255 are.
 use Rattle.std.specs.Prelude.{ℕ, ◌+◌, ◌==◌, Bool, List, [], ◌∷◌, ◌++◌, length, map, Option, Some, None, if◌then◌else◌, nat_le}
 use Rattle.tiny_draft.specs.declared.tree.Word.{Word}
-use Rattle.tiny_draft.specs.Tree.{Function, Term, Number, Variable, Called, Get, Group, Expr, Sum, Steps, no_steps, step, Arguments, no_arguments, argument, Cond, Compare, Statement, Var, Assign, Calls, If, While, Return, Put, Halt, Else, no_else, else_block, Statements, no_statements, statement}
+use Rattle.tiny_draft.specs.Prelude.{Function, Term, Number, Variable, Called, Get, Group, Expr, Sum, Steps, no_steps, step, Arguments, no_arguments, argument, Cond, Compare, Statement, Var, Assign, Calls, If, While, Return, Put, Halt, Else, no_else, else_block, Statements, no_statements, statement}
 use Rattle.tiny_names.specs.declared.fault.Fault.{Fault}
 use Rattle.tiny_names.specs.declared.fault.Fault.TheVariants as faults
 use Rattle.tiny_names.specs.declared.functions.Signature.{Signature}

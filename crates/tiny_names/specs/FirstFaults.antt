@@ -9,9 +9,7 @@ use Rattle.tiny_draft.specs.declared.tree.Function.{Function}
 use Rattle.tiny_draft.specs.declared.tree.Statement.{Statement}
 use Rattle.tiny_draft.specs.declared.tree.Sum.{Sum}
 use Rattle.tiny_draft.specs.declared.tree.Term.{Term}
-use Rattle.tiny_draft.specs.Branches.{branches_tree, else_tree}
-use Rattle.tiny_draft.specs.Tree.{arguments_of}
-use Rattle.tiny_draft.specs.View.{at, block_tree, cond_tree, expr_tree, function_tree, statement_tree, sum_tree, term_tree}
+use Rattle.tiny_draft.specs.Prelude.{branches_tree, else_tree, arguments_of, at, block_tree, cond_tree, expr_tree, function_tree, statement_tree, sum_tree, term_tree}
 use Rattle.tiny_names.specs.declared.fault.Fault.{Fault}
 use Rattle.tiny_names.specs.declared.functions.Signature.{Signature}
 use Rattle.tiny_names.specs.Faults.{argument_faults, block_faults, body_faults, call_faults, cond_faults, count, declare_faults, else_faults, expr_faults, first, function_faults, own_faults, parameter_faults, return_faults, statement_faults, term_faults, use_faults}

@@ -5,3 +5,4 @@ pub mod Resolved
 pub mod ResolvedParts
 pub mod Unresolved
 pub mod View
+pub mod Prelude

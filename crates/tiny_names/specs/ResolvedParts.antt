@@ -9,9 +9,7 @@ use Rattle.tiny_draft.specs.declared.tree.Statement.{Statement}
 use Rattle.tiny_draft.specs.declared.tree.Step.{Step}
 use Rattle.tiny_draft.specs.declared.tree.Sum.{Sum}
 use Rattle.tiny_draft.specs.declared.tree.Term.{Term}
-use Rattle.tiny_draft.specs.Branches.{branches_tree, else_tree}
-use Rattle.tiny_draft.specs.Tree.{arguments_of, steps_of}
-use Rattle.tiny_draft.specs.View.{block_tree, cond_tree, expr_tree, function_tree, statement_tree, step_tree, sum_tree, term_tree}
+use Rattle.tiny_draft.specs.Prelude.{branches_tree, else_tree, arguments_of, steps_of, block_tree, cond_tree, expr_tree, function_tree, statement_tree, step_tree, sum_tree, term_tree}
 use Rattle.tiny_tree.specs.Tree as tree
 use Rattle.tiny_names.specs.declared.functions.Signature.{Signature}
 use Rattle.tiny_names.specs.Names.{lookup}

@@ -1,7 +1,7 @@
 //! The first wrong name of an expression: a variable that is not seen, a function that is missing, or one with another number of parameters.
 
 ghost use Rattle.std.specs.Prelude.{◌≡◌};
-ghost use Rattle.tiny_draft.specs.View.{at};
+ghost use Rattle.tiny_draft.specs.Prelude.{at};
 ghost use Rattle.tiny_names.specs.Faults.{first, use_faults};
 ghost use Rattle.tiny_names.specs.FirstFaults.{argument_fault, call_fault, cond_fault, expr_fault, name_fault, sum_fault, term_fault};
 ghost use Rattle.tiny_names.specs.Names.{has};

@@ -1,7 +1,7 @@
 //! What the functions of a program are called.
 
 ghost use Rattle.std.specs.Prelude.{◌≡◌, ℕ, IfOk, OnOk, map};
-ghost use Rattle.tiny_draft.specs.View.{function_tree};
+ghost use Rattle.tiny_draft.specs.Prelude.{function_tree};
 ghost use Rattle.tiny_names.specs.Names.{PutsAt, called, lookup};
 
 use std::alloc::{AllocError, Global};

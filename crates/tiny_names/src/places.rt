@@ -1,8 +1,7 @@
 //! Trees in which names are positions.
 
 ghost use Rattle.std.specs.Prelude.{◌≡◌, ◌==◌, ◌<◌, ◌≤◌, IfOk, IfSome, length, map, option_map, position};
-ghost use Rattle.tiny_tree.specs.Tree.{arguments_of, else_of, steps_of};
-ghost use Rattle.tiny_tree.specs.View.{block_tree, cond_tree, expr_tree, statement_tree, step_tree, term_tree};
+ghost use Rattle.tiny_tree.specs.Prelude.{arguments_of, else_of, steps_of, block_tree, cond_tree, expr_tree, statement_tree, step_tree, term_tree};
 ghost use Rattle.tiny_names.specs.Names.{lookup};
 ghost use Rattle.tiny_names.specs.Resolved.{function_place, place_in};
 ghost use Rattle.tiny_names.specs.ResolvedParts.{resolved_arguments, resolved_block, resolved_call, resolved_cond, resolved_else, resolved_expr, resolved_if, resolved_statement, resolved_steps, resolved_sum, resolved_term, resolved_while};

@@ -2,7 +2,7 @@
 
 ghost use Rattle.std.specs.Prelude.{◌≡◌, ◌≤◌, ◌++◌, [], IfOk, IfErr, OnOk, Ok, None, length, map};
 ghost use Rattle.tiny_draft.specs.View as draft_view;
-ghost use Rattle.tiny_tree.specs.View.{function_tree};
+ghost use Rattle.tiny_tree.specs.Prelude.{function_tree};
 ghost use Rattle.tiny_names.specs.Faults.{all_faults, first, parameter_faults};
 ghost use Rattle.tiny_names.specs.FirstFaults.{faults_of, inner_fault, own_fault};
 ghost use Rattle.tiny_names.specs.Names.{name_of};

@@ -1,7 +1,7 @@
 //! The first wrong name of a block: which names are seen at each statement, and which are declared twice.
 
 ghost use Rattle.std.specs.Prelude.{◌≡◌, ◌≤◌, ◌++◌, ◌∷◌, [], IfOk, Ok, None, length};
-ghost use Rattle.tiny_draft.specs.View.{at, block_tree, statement_tree};
+ghost use Rattle.tiny_draft.specs.Prelude.{at, block_tree, statement_tree};
 ghost use Rattle.tiny_names.specs.Faults.{declare_faults, first};
 ghost use Rattle.tiny_names.specs.FirstFaults.{assign_fault, block_fault, else_fault, if_fault, names_of_branches, names_of_else, return_fault, statement_fault, var_fault, while_fault};
 ghost use Rattle.tiny_names.specs.Names.{all_names, names, shows};

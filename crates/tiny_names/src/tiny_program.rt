@@ -2,7 +2,7 @@
 
 ghost use Rattle.std.specs.Prelude.{◌≡◌, map};
 ghost use Rattle.tiny_names.specs.View.{program_tree};
-ghost use Rattle.tiny_tree.specs.View.{function_tree};
+ghost use Rattle.tiny_tree.specs.Prelude.{function_tree};
 
 use tiny_tree::{Function, Items};
 

@@ -3,14 +3,12 @@ use Rattle.std.proofs.Common.{◌≡◌, ◌≢◌, ℕ, zero, suc, List, [], �
 use Rattle.std.specs.Prelude.{slice_get}
 use Rattle.std.proofs.lemmas.Option.{same_Some}
 use Rattle.std.proofs.lemmas.List.Elements.{All-nil}
-use Rattle.ijvm_instr.specs.Instructions.{instr_at, of_bytes}
-use Rattle.ijvm_image.specs.Image.{ImageView, params, others}
+use Rattle.ijvm_instr.specs.Prelude.{instr_at, of_bytes}
+use Rattle.ijvm_image.specs.Prelude.{ImageView, params, others}
 use Rattle.tiny_tree.specs.declared.tree.Operator.{Operator}
 use Rattle.tiny_tree.specs.declared.tree.Operator.TheVariants.{Plus, Minus}
-use Rattle.tiny_tree.specs.Tree.{Term, Number, Variable, Called, Expr, Sum, no_steps, step, Different, Statement, Var, Assign, While, Return, Put, Function, Program, arguments_of, statements_of}
-use Rattle.tiny_tree.specs.Named.{IsNamed, IsNamedFunction}
-use Rattle.tiny_code.specs.Code.{Places}
-use Rattle.tiny_code.specs.Laid.{IsMethodAt, IsLaidOut}
+use Rattle.tiny_tree.specs.Prelude.{Term, Number, Variable, Called, Expr, Sum, no_steps, step, Different, Statement, Var, Assign, While, Return, Put, Function, Program, arguments_of, statements_of, IsNamed, IsNamedFunction}
+use Rattle.tiny_code.specs.Prelude.{Places, IsMethodAt, IsLaidOut}
 
 abbrev alone : Term → Expr
 alone t = Sum t no_steps

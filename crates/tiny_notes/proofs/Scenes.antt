@@ -5,14 +5,12 @@ use Rattle.std.proofs.lemmas.Bool.{eqb-true, le-ltb, ltb-false}
 use Rattle.ijvm_instr.specs.declared.instr.Instr.{Instr}
 use Rattle.ijvm_instr.specs.declared.instr.Instr.TheVariants.{Invokevirtual}
 use Rattle.ijvm_instr.specs.declared.row.Flow.TheVariants as flows
-use Rattle.ijvm_instr.specs.Instructions.{row_of, size_of, instr_at}
-use Rattle.ijvm_image.specs.Image.{ImageView, params, others}
-use Rattle.verifier_facts.specs.Paths.{need_of}
-use Rattle.verifier_notes.specs.Noted.{Note, FindsMethod}
-use Rattle.verifier_notes.specs.Listed.{Item, Code, Header, items_size, note_at, HasHeader}
-use Rattle.tiny_tree.specs.Tree.{Program}
-use Rattle.tiny_tree.specs.Named.{IsCallable, Seen, seen_with}
-use Rattle.tiny_code.specs.Code.{Places}
+use Rattle.ijvm_instr.specs.Prelude.{row_of, size_of, instr_at}
+use Rattle.ijvm_image.specs.Prelude.{ImageView, params, others}
+use Rattle.verifier_facts.specs.Prelude.{need_of}
+use Rattle.verifier_notes.specs.Prelude.{Note, FindsMethod, Item, Code, Header, items_size, note_at, HasHeader}
+use Rattle.tiny_tree.specs.Prelude.{Program, IsCallable, Seen, seen_with}
+use Rattle.tiny_code.specs.Prelude.{Places}
 
 -- whose the code is, in which image, and where it finds things
 pub record Frame : Type 0 where

@@ -5,12 +5,10 @@ use Rattle.ijvm_instr.specs.declared.instr.Instr.{Instr}
 use Rattle.ijvm_instr.specs.declared.instr.Instr.TheVariants.{Istore, Iflt, IfIcmpeq, Goto, Ireturn, Halt}
 use Rattle.ijvm_instr.specs.declared.row.Flow.{Flow}
 use Rattle.ijvm_instr.specs.declared.row.Flow.TheVariants as flows
-use Rattle.ijvm_instr.specs.Instructions.{row_of, size_of, instr_at, target}
-use Rattle.verifier_facts.specs.Paths.{HasConstant, GoesOn, need_of, ways_of}
-use Rattle.verifier_facts.specs.Facts.{Names}
-use Rattle.verifier_notes.specs.Noted.{Note, LeadsOn, FindsMethod}
-use Rattle.verifier_notes.specs.Listed.{note_at, IsMet}
-use Rattle.tiny_tree.specs.Named.{Seen, seen_with}
+use Rattle.ijvm_instr.specs.Prelude.{row_of, size_of, instr_at, target}
+use Rattle.verifier_facts.specs.Prelude.{HasConstant, GoesOn, need_of, ways_of, Names}
+use Rattle.verifier_notes.specs.Prelude.{Note, LeadsOn, FindsMethod, note_at, IsMet}
+use Rattle.tiny_tree.specs.Prelude.{Seen, seen_with}
 use Rattle.tiny_notes.proofs.Scenes.{Scene, Suits, note_of, set_of, takes, next_depth, set_stored, at_depth}
 
 -- a variable's local

@@ -3,16 +3,11 @@ use Rattle.std.proofs.Common.{◌≡◌, ℕ, ℤ, pos, ◌+◌, List, [], ◌�
 use Rattle.std.specs.Prelude.{neg_ℤ}
 use Rattle.ijvm_instr.specs.declared.instr.Instr.{Instr}
 use Rattle.ijvm_instr.specs.declared.instr.Instr.TheVariants.{LdcW, Iload, Invokevirtual, In, Istore, Pop, Isub, Iflt, IfIcmpeq, Goto, Ireturn, Out, Halt as HaltCode}
-use Rattle.ijvm_instr.specs.Instructions.{row_of, size_of}
-use Rattle.ijvm_image.specs.Image.{ImageView}
-use Rattle.verifier_notes.specs.Noted.{Note}
-use Rattle.verifier_notes.specs.Listed.{Item, Code, Header, items_size}
-use Rattle.verifier_notes.specs.Seams.{items_append, note_at_seam}
-use Rattle.tiny_tree.specs.Tree.{Term, Number, Variable, Called, Get, Group, Expr, Sum, Cond, Equal, Different, Less, Statement, Var, Assign, Calls, If, While, Return, Put, Halt, Else, no_else, else_block, Statements, no_statements, statement}
-use Rattle.tiny_tree.specs.Named.{Seen, seen_after}
-use Rattle.tiny_code.specs.Code.{code_size, choice, loop, number_code, term_code, expr_code, steps_code, arguments_code, test_code, statement_code, statements_code, else_code, leave_code}
-use Rattle.tiny_code.specs.Laid.{CodeAt}
-use Rattle.tiny_code.specs.Standing.{size_append}
+use Rattle.ijvm_instr.specs.Prelude.{row_of, size_of}
+use Rattle.ijvm_image.specs.Prelude.{ImageView}
+use Rattle.verifier_notes.specs.Prelude.{Note, Item, Code, Header, items_size, items_append, note_at_seam}
+use Rattle.tiny_tree.specs.Prelude.{Term, Number, Variable, Called, Get, Group, Expr, Sum, Cond, Equal, Different, Less, Statement, Var, Assign, Calls, If, While, Return, Put, Halt, Else, no_else, else_block, Statements, no_statements, statement, Seen, seen_after}
+use Rattle.tiny_code.specs.Prelude.{code_size, choice, loop, number_code, term_code, expr_code, steps_code, arguments_code, test_code, statement_code, statements_code, else_code, leave_code, CodeAt, size_append}
 use Rattle.tiny_notes.proofs.Scenes.{Frame, note_of, next_depth, straight, Suits, its_own, Stands}
 use Rattle.tiny_notes.proofs.Statements.{with_last, choice_items, leave_items, loop_items, statement_items, statements_items, else_items}
 

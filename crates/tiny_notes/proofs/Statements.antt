@@ -5,16 +5,11 @@ use Rattle.std.proofs.lemmas.Bool.{true≢false}
 use Rattle.ijvm_instr.specs.declared.instr.Instr.{Instr}
 use Rattle.ijvm_instr.specs.declared.instr.Instr.TheVariants.{Istore, Pop, Isub, Iflt, IfIcmpeq, Goto, Ireturn, Out, Halt as HaltCode}
 use Rattle.ijvm_instr.specs.declared.row.Flow.TheVariants as flows
-use Rattle.ijvm_instr.specs.Instructions.{row_of, size_of, instr_at, target}
-use Rattle.verifier_facts.specs.Paths.{HasConstant}
-use Rattle.verifier_notes.specs.Noted.{Note}
-use Rattle.verifier_notes.specs.Listed.{Item, Code, items_size, note_at, IsMet, AllMet}
-use Rattle.verifier_notes.specs.Seams.{items_append, met_append}
-use Rattle.tiny_tree.specs.Tree.{Called, Expr, Cond, Equal, Different, Less, Statement, Var, Assign, Calls, If, While, Return, Put, Halt, Else, no_else, else_block, Statements, no_statements, statement}
-use Rattle.tiny_tree.specs.Named.{Seen, seen_with, seen_after, IsNamedExpr, IsNamedCond, IsNamedStatement, AreNamed, IsNamedElse}
-use Rattle.tiny_code.specs.Code.{code_size, term_code, expr_code, test_code, expr_numbers, cond_numbers, statement_numbers, statements_numbers, else_numbers}
-use Rattle.tiny_code.specs.Laid.{HasNumbers}
-use Rattle.tiny_code.specs.Standing.{backward, forward}
+use Rattle.ijvm_instr.specs.Prelude.{row_of, size_of, instr_at, target}
+use Rattle.verifier_facts.specs.Prelude.{HasConstant}
+use Rattle.verifier_notes.specs.Prelude.{Note, Item, Code, items_size, note_at, IsMet, AllMet, items_append, met_append}
+use Rattle.tiny_tree.specs.Prelude.{Called, Expr, Cond, Equal, Different, Less, Statement, Var, Assign, Calls, If, While, Return, Put, Halt, Else, no_else, else_block, Statements, no_statements, statement, Seen, seen_with, seen_after, IsNamedExpr, IsNamedCond, IsNamedStatement, AreNamed, IsNamedElse}
+use Rattle.tiny_code.specs.Prelude.{code_size, term_code, expr_code, test_code, expr_numbers, cond_numbers, statement_numbers, statements_numbers, else_numbers, HasNumbers, backward, forward}
 use Rattle.tiny_notes.proofs.Scenes.{Frame, Scene, Suits, note_of, takes, next_depth, depth_after, straight, set_wider, its_own, at_depth, Stands, stands_back, stands_front, stands_end}
 use Rattle.tiny_notes.proofs.Single.{IsPlain, IsBranch, icmpeq, iflt, halt_met, return_met, goto_met, branch_met, taken_met, store_met}
 use Rattle.tiny_notes.proofs.Straight.{all_append, straight_size, Runs, head_note, straight_met, joined, begun, none, plain_simple, term_runs, expr_runs}

@@ -8,16 +8,13 @@ use Rattle.ijvm_instr.specs.declared.instr.Instr.{Instr}
 use Rattle.ijvm_instr.specs.declared.instr.Instr.TheVariants.{Bipush, LdcW, Iload, Invokevirtual, In}
 use Rattle.ijvm_instr.specs.declared.row.Flow.{Flow}
 use Rattle.ijvm_instr.specs.declared.row.Flow.TheVariants as flows
-use Rattle.ijvm_instr.specs.Instructions.{row_of, size_of}
-use Rattle.verifier_facts.specs.Paths.{HasConstant, ways_of}
-use Rattle.verifier_notes.specs.Noted.{Note, FindsMethod}
-use Rattle.verifier_notes.specs.Listed.{note_at, AllMet, items_size}
+use Rattle.ijvm_instr.specs.Prelude.{row_of, size_of}
+use Rattle.verifier_facts.specs.Prelude.{HasConstant, ways_of}
+use Rattle.verifier_notes.specs.Prelude.{Note, FindsMethod, note_at, AllMet, items_size}
 use Rattle.tiny_tree.specs.declared.tree.Operator.{Operator}
 use Rattle.tiny_tree.specs.declared.tree.Operator.TheVariants.{Plus}
-use Rattle.tiny_tree.specs.Tree.{Term, Number, Variable, Called, Get, Group, Expr, Sum, Steps, no_steps, step, Arguments, no_arguments, argument}
-use Rattle.tiny_tree.specs.Named.{Seen, arguments_count, IsNamedTerm, IsNamedExpr, AreNamedSteps, AreNamedArguments}
-use Rattle.tiny_code.specs.Code.{code_size, operator_code, term_code, expr_code, steps_code, arguments_code, term_numbers, expr_numbers, steps_numbers, arguments_numbers}
-use Rattle.tiny_code.specs.Laid.{HasNumbers}
+use Rattle.tiny_tree.specs.Prelude.{Term, Number, Variable, Called, Get, Group, Expr, Sum, Steps, no_steps, step, Arguments, no_arguments, argument, Seen, arguments_count, IsNamedTerm, IsNamedExpr, AreNamedSteps, AreNamedArguments}
+use Rattle.tiny_code.specs.Prelude.{code_size, operator_code, term_code, expr_code, steps_code, arguments_code, term_numbers, expr_numbers, steps_numbers, arguments_numbers, HasNumbers}
 use Rattle.tiny_notes.proofs.Scenes.{Scene, Suits, CallFinds, note_of, takes, next_depth, depth_after, straight, Stands, set_of, set_first, its_own}
 use Rattle.tiny_notes.proofs.Single.{IsSimple, IsPlain, plain, simple_met}
 

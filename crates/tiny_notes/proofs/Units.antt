@@ -8,18 +8,13 @@ use Rattle.std.proofs.lemmas.Bool.{eq-eqb, lt-ltb, ltb-false, ltb-true}
 use Rattle.std.proofs.lemmas.List.Elements.{All-nil, All-cons, All-head, All-tail, All-weaker, All-contains, All-contains_itself}
 use Rattle.ijvm_instr.specs.declared.instr.Instr.{Instr}
 use Rattle.ijvm_instr.specs.declared.instr.Instr.TheVariants.{Bipush, Ireturn, Halt as HaltCode}
-use Rattle.ijvm_instr.specs.Instructions.{instr_at}
+use Rattle.ijvm_instr.specs.Prelude.{instr_at}
 use Rattle.ijvm_image.specs.declared.method.Method.{Method}
-use Rattle.ijvm_image.specs.Image.{ImageView, params, others, method_at}
-use Rattle.verifier_facts.specs.Paths.{IsOwn}
-use Rattle.verifier_notes.specs.Noted.{Note}
-use Rattle.verifier_notes.specs.Listed.{Item, Code, Header, items_size, note_at, HasHeader, IsMet, AllMet, IsListed}
-use Rattle.verifier_notes.specs.Seams.{header_after, items_append, met_append, note_at_seam}
-use Rattle.tiny_tree.specs.Tree.{Function, Program}
-use Rattle.tiny_tree.specs.Named.{IsCallable, Seen, names_count, parameters_seen, IsNamed}
-use Rattle.tiny_code.specs.Code.{Places, code_size, statements_code, main_code, method_size, methods}
-use Rattle.tiny_code.specs.Laid.{CodeAt, IsMethodAt, AreMethodsAt, Holds}
-use Rattle.tiny_code.specs.Standing.{back_at, front_at, size_append}
+use Rattle.ijvm_image.specs.Prelude.{ImageView, params, others, method_at}
+use Rattle.verifier_facts.specs.Prelude.{IsOwn}
+use Rattle.verifier_notes.specs.Prelude.{Note, Item, Code, Header, items_size, note_at, HasHeader, IsMet, AllMet, IsListed, header_after, items_append, met_append, note_at_seam}
+use Rattle.tiny_tree.specs.Prelude.{Function, Program, IsCallable, Seen, names_count, parameters_seen, IsNamed}
+use Rattle.tiny_code.specs.Prelude.{Places, code_size, statements_code, main_code, method_size, methods, CodeAt, IsMethodAt, AreMethodsAt, Holds, back_at, front_at, size_append}
 use Rattle.tiny_notes.proofs.Scenes.{Frame, Scene, CallFinds, note_of, set_of, params_by, its_own, Stands}
 use Rattle.tiny_notes.proofs.Single.{halt_met, return_met, simple_met}
 use Rattle.tiny_notes.proofs.Straight.{in_pool, plain_simple}

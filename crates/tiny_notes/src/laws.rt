@@ -1,10 +1,8 @@
 //! What holds of every image in which a program is laid out.
 
-ghost use Rattle.ijvm_image.specs.Image.{ImageView};
-ghost use Rattle.tiny_code.specs.Code.{Places};
-ghost use Rattle.tiny_code.specs.Laid.{IsLaidOut};
-ghost use Rattle.tiny_tree.specs.Named.{IsNamed};
-ghost use Rattle.tiny_tree.specs.Tree.{Program};
+ghost use Rattle.ijvm_image.specs.Prelude.{ImageView};
+ghost use Rattle.tiny_code.specs.Prelude.{Places, IsLaidOut};
+ghost use Rattle.tiny_tree.specs.Prelude.{IsNamed, Program};
 ghost use Rattle.tiny_notes.specs.Accepted.{AlwaysAccepts};
 
 use tiny_code::{laid_out_programs_hold, methods_are_the_others};

@@ -1,23 +1,20 @@
 -- A text has one reading.
 use Rattle.std.proofs.Common.{◌≡◌, ℕ, ◌+◌, [], ◌∷◌, ◌++◌, List, map, ap, sym, subst, ◌∙◌, inl, inr}
 use Rattle.std.specs.Prelude.{Option, Some, ◌↔◌}
-use Rattle.source_text.specs.Content.{contents}
+use Rattle.source_text.specs.Prelude.{contents}
 use Rattle.tiny_draft.specs.Tree as draft
 use Rattle.tiny_draft.specs.declared.token.Token.{Token}
 use Rattle.tiny_lexemes.specs.declared.lexeme.Lexeme.{Lexeme}
-use Rattle.tiny_lexemes.specs.Lexemes.{SpellsLexemes, read}
-use Rattle.tiny_tokens.specs.Tokens.{HasTokens, SpellsLines, main_only, number_all}
-use Rattle.tiny_tree.specs.Tree.{Program}
+use Rattle.tiny_lexemes.specs.Prelude.{SpellsLexemes, read}
+use Rattle.tiny_tokens.specs.Prelude.{HasTokens, SpellsLines, main_only, number_all}
+use Rattle.tiny_tree.specs.Prelude.{Program}
 use Rattle.tiny_grammar.specs.declared.refusal.Refusal.{Refusal}
-use Rattle.tiny_grammar.specs.Grammar.{SpellsProgram}
+use Rattle.tiny_grammar.specs.Prelude.{SpellsProgram, AreProgram}
 use Rattle.tiny_grammar.specs.Refusals as grammar
-use Rattle.tiny_grammar.specs.Parts.{AreProgram}
 use Rattle.tiny_names.specs.declared.fault.Fault.{Fault}
-use Rattle.tiny_names.specs.Faults.{all_faults, first}
-use Rattle.tiny_names.specs.Resolved.{resolved}
+use Rattle.tiny_names.specs.Prelude.{all_faults, first, resolved}
 use Rattle.tiny_parser.specs.declared.error.TinyError.{TinyError}
-use Rattle.tiny_parser.specs.Errors.{fault_error, grammar_error}
-use Rattle.tiny_parser.specs.Texts.{IsRefused, IsUnwritten, IsWritten, Spells, last_line}
+use Rattle.tiny_parser.specs.Prelude.{fault_error, grammar_error, IsRefused, IsUnwritten, IsWritten, Spells, last_line}
 
 module _ (lexemes_law : (line : List ℕ) (lexemes : List Lexeme) → (read line ≡ Some lexemes) ↔ SpellsLexemes line lexemes) where
   some_is : (a b : List Lexeme) (r : Option (List Lexeme)) → r ≡ Some a → r ≡ Some b → a ≡ b

@@ -1,20 +1,19 @@
 -- Numbers that are words.
 use Rattle.std.proofs.Common.{◌≡◌, ℕ, ℤ, pos, negsuc, zero, suc, ◌+◌, ◌<◌, ◌≤◌, ◌^◌, Bool, true, false, [], ◌∷◌, ◌++◌, List, map, refl, sym, subst, arith}
 use Rattle.std.specs.Prelude.{Some, None, Result, Ok, Err, if◌then◌else◌, nat_le, slice_get}
-use Rattle.mic_base.specs.Number.{number_of}
+use Rattle.mic_base.specs.Prelude.{number_of}
 use Rattle.mic_base.specs.declared.number.NumberError.{NumberError}
-use Rattle.source_text.specs.Content.{contents}
+use Rattle.source_text.specs.Prelude.{contents}
 use Rattle.tiny_lexemes.specs.declared.lexeme.Lexeme.{Lexeme}
 use Rattle.tiny_lexemes.specs.declared.lexeme.Lexeme.TheVariants as lexemes
-use Rattle.tiny_lexemes.specs.Lexemes.{IsLexeme, SpellsLexemes, value_by}
-use Rattle.tiny_lexemes.specs.Spelled.{number_value}
-use Rattle.tiny_tokens.specs.Tokens.{HasTokens, SpellsLines, kind_of, main_only, number_all}
+use Rattle.tiny_lexemes.specs.Prelude.{IsLexeme, SpellsLexemes, value_by, number_value}
+use Rattle.tiny_tokens.specs.Prelude.{HasTokens, SpellsLines, kind_of, main_only, number_all}
 use Rattle.tiny_draft.specs.declared.token.Kind.{Kind}
 use Rattle.tiny_draft.specs.declared.token.Kind.TheVariants as kinds
 use Rattle.tiny_draft.specs.declared.token.Sign.TheVariants as signs
 use Rattle.tiny_draft.specs.declared.token.Token.{Token}
-use Rattle.tiny_grammar.specs.Grammar.{comparison, end, kept, sign, spell_arguments, spell_block, spell_cond, spell_else, spell_expr, spell_function, spell_functions, spell_more, spell_parameters, spell_statement, spell_statements, spell_steps, spell_term}
-use Rattle.tiny_parser.specs.Texts.{IsWritten}
+use Rattle.tiny_grammar.specs.Prelude.{comparison, end, kept, sign, spell_arguments, spell_block, spell_cond, spell_else, spell_expr, spell_function, spell_functions, spell_more, spell_parameters, spell_statement, spell_statements, spell_steps, spell_term}
+use Rattle.tiny_parser.specs.Prelude.{IsWritten}
 use Rattle.tiny_draft.specs.Tree as draft
 
 abbrev mutual

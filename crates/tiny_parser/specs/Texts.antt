@@ -3,14 +3,12 @@ use Rattle.std.specs.Prelude.{◌≡◌, ◌⊎◌, ℕ, List, [], length, max, 
 use Rattle.std.specs.Str.Lines.{lines}
 use Rattle.tiny_draft.specs.declared.token.Token.{Token}
 use Rattle.tiny_draft.specs.Tree as draft
-use Rattle.tiny_tree.specs.Tree.{Program}
-use Rattle.tiny_tokens.specs.Tokens.{HasTokens}
-use Rattle.tiny_grammar.specs.Grammar.{SpellsProgram}
+use Rattle.tiny_tree.specs.Prelude.{Program}
+use Rattle.tiny_tokens.specs.Prelude.{HasTokens}
+use Rattle.tiny_grammar.specs.Prelude.{SpellsProgram, IsShallow}
 use Rattle.tiny_grammar.specs.Refusals as grammar
-use Rattle.tiny_grammar.specs.Refusals.{IsShallow}
 use Rattle.tiny_grammar.specs.declared.refusal.Refusal.{Refusal}
-use Rattle.tiny_names.specs.Faults.{all_faults, first}
-use Rattle.tiny_names.specs.Resolved.{resolved}
+use Rattle.tiny_names.specs.Prelude.{all_faults, first, resolved}
 use Rattle.tiny_names.specs.declared.fault.Fault.{Fault}
 use Rattle.tiny_parser.specs.Errors.{fault_error, grammar_error}
 use Rattle.tiny_parser.specs.declared.error.TinyError.{TinyError}

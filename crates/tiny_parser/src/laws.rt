@@ -3,8 +3,7 @@
 ghost use Rattle.std.specs.Prelude.{◌≡◌, ℕ, List};
 ghost use Rattle.tiny_parser.specs.Texts.{IsRefused, Spells};
 ghost use Rattle.tiny_parser.specs.declared.error.TinyError.{TinyError};
-ghost use Rattle.tiny_tree.specs.Named.{IsNamed};
-ghost use Rattle.tiny_tree.specs.Tree.{Program};
+ghost use Rattle.tiny_tree.specs.Prelude.{IsNamed, Program};
 
 use tiny_grammar::tokens_have_one_reading;
 use tiny_lexemes::lines_have_one_reading;

@@ -1,9 +1,9 @@
 //! From a text to its program.
 
 ghost use Rattle.std.specs.Prelude.{◌≡◌, ◌<◌, ◌^◌, IfOk, IfErr, false, length, map};
-ghost use Rattle.tiny_draft.specs.View.{function_tree};
-ghost use Rattle.tiny_names.specs.View.{program_tree};
-ghost use Rattle.tiny_tree.specs.Named.{IsNamed};
+ghost use Rattle.tiny_draft.specs.Prelude.{function_tree};
+ghost use Rattle.tiny_names.specs.Prelude.{program_tree};
+ghost use Rattle.tiny_tree.specs.Prelude.{IsNamed};
 ghost use Rattle.tiny_parser.specs.Errors.{is_memory};
 ghost use Rattle.tiny_parser.specs.Texts.{IsRefused, IsUnwritten, IsWritten, Spells};
 

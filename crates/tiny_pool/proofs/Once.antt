@@ -8,9 +8,9 @@ use Rattle.std.proofs.lemmas.Bool.{eq-eqb, eqb-true}
 use Rattle.std.proofs.lemmas.Bool.Decides.{eqb_tells, leb_tells}
 use Rattle.std.proofs.lemmas.List.{append-nil, length_push}
 use Rattle.std.proofs.lemmas.List.Elements.{filter-append}
-use Rattle.tiny_code.specs.Code.{once}
+use Rattle.tiny_code.specs.Prelude.{once}
 use Rattle.tiny_pool.specs.declared.constants.Constants.{Constants}
-use Rattle.tiny_pool.specs.Seen.{HasSeen, or_else, place_from}
+use Rattle.tiny_pool.specs.Prelude.{HasSeen, or_else, place_from}
 
 -- ---- numbers once
 

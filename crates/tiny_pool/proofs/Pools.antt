@@ -7,15 +7,11 @@ use Rattle.std.specs.BTreeMap.{get}
 use Rattle.std.proofs.lemmas.List.{length-append, length-map}
 use Rattle.std.proofs.lemmas.Option.{slice_get_within}
 use mathlib.Core.Path.{fun_ext}
-use Rattle.ijvm_text.specs.Layout.{Part, begins, pool_of}
-use Rattle.ijvm_text.specs.Parts.{length-begins}
-use Rattle.tiny_tree.specs.Tree.{Function, Program}
-use Rattle.tiny_code.specs.Code.{Places, function_numbers, methods, numbers, places_of}
-use Rattle.tiny_code.specs.Image.{layout_of, method_part}
-use Rattle.tiny_code.specs.Others.{from_main}
+use Rattle.ijvm_text.specs.Prelude.{Part, begins, pool_of, length-begins}
+use Rattle.tiny_tree.specs.Prelude.{Function, Program}
+use Rattle.tiny_code.specs.Prelude.{Places, function_numbers, methods, numbers, places_of, layout_of, method_part, from_main}
 use Rattle.tiny_pool.specs.declared.table.Table.{Table}
-use Rattle.tiny_pool.specs.Seen.{HasSeen, or_else, place_from}
-use Rattle.tiny_pool.specs.Places.{IsTableOf}
+use Rattle.tiny_pool.specs.Prelude.{HasSeen, or_else, place_from, IsTableOf}
 use Rattle.tiny_pool.proofs.Once.{place_or_end}
 
 -- ---- how long it is

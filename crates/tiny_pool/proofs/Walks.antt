@@ -8,12 +8,10 @@ use Rattle.tiny_tree.specs.declared.tree.Step.{Step, out-Step}
 use Rattle.tiny_tree.specs.declared.tree.Statement.{Statement}
 use Rattle.tiny_tree.specs.declared.tree.Function.{Function}
 use Rattle.tiny_tree.specs.Tree as tree
-use Rattle.tiny_tree.specs.Tree.{arguments_of, statements_of, steps_of}
-use Rattle.tiny_tree.specs.View.{block_tree, expr_tree, function_tree, statement_tree, step_tree, term_tree}
-use Rattle.tiny_tree.specs.Outs.{drop_item, expr_tree_out, step_tree_out}
-use Rattle.tiny_code.specs.Code.{arguments_numbers, expr_numbers, function_numbers, statement_numbers, statements_numbers, steps_numbers, term_numbers}
+use Rattle.tiny_tree.specs.Prelude.{arguments_of, statements_of, steps_of, block_tree, expr_tree, function_tree, statement_tree, step_tree, term_tree, drop_item, expr_tree_out, step_tree_out}
+use Rattle.tiny_code.specs.Prelude.{arguments_numbers, expr_numbers, function_numbers, statement_numbers, statements_numbers, steps_numbers, term_numbers}
 use Rattle.tiny_pool.specs.declared.constants.Constants.{Constants}
-use Rattle.tiny_pool.specs.Seen.{Adds, HasSeen}
+use Rattle.tiny_pool.specs.Prelude.{Adds, HasSeen}
 
 pub adds_none : (c : Constants) → Adds c c []
 adds_none c = record { seen = λ first before h. subst (λ (l : List ℕ). HasSeen c first l) (sym (append-nil before)) h }

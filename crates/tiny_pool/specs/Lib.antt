@@ -1,3 +1,4 @@
 pub mod Seen
 pub mod Numbers
 pub mod Places
+pub mod Prelude

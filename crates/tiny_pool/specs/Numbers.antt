@@ -3,9 +3,8 @@ use Rattle.std.specs.Prelude.{ℕ, List, ◌++◌, map, Option}
 use Rattle.std.specs.Option.{option_map}
 use Rattle.tiny_tree.specs.declared.tree.Block.{Block}
 use Rattle.tiny_tree.specs.declared.tree.Expr.{Expr}
-use Rattle.tiny_tree.specs.Tree.{arguments_of, else_of}
-use Rattle.tiny_tree.specs.View.{block_tree, expr_tree}
-use Rattle.tiny_code.specs.Code.{arguments_numbers, else_numbers, expr_numbers}
+use Rattle.tiny_tree.specs.Prelude.{arguments_of, else_of, block_tree, expr_tree}
+use Rattle.tiny_code.specs.Prelude.{arguments_numbers, else_numbers, expr_numbers}
 
 abbrev pub numbers_of_arguments : List Expr → List ℕ
 numbers_of_arguments es = arguments_numbers (arguments_of (map expr_tree es))

@@ -3,10 +3,9 @@ use Rattle.std.specs.Prelude.{◌≡◌, ℕ, ◌+◌, if◌then◌else◌, nat_
 use Rattle.std.specs.Ordering.{nat_cmp}
 use Rattle.std.specs.BTreeMap.{get}
 use Rattle.tiny_pool.specs.declared.table.Table.{Table}
-use Rattle.tiny_tree.specs.Tree.{Function, Program}
-use Rattle.tiny_code.specs.Code.{Places, numbers, places_of}
-use Rattle.ijvm_text.specs.Layout.{pool_of}
-use Rattle.tiny_code.specs.Image.{layout_of}
+use Rattle.tiny_tree.specs.Prelude.{Function, Program}
+use Rattle.tiny_code.specs.Prelude.{Places, numbers, places_of, layout_of}
+use Rattle.ijvm_text.specs.Prelude.{pool_of}
 use Rattle.tiny_pool.specs.Seen.{or_else}
 
 -- a number that the pool does not have has the place after the pool

@@ -3,7 +3,7 @@ use Rattle.std.specs.Prelude.{◌≡◌, ℕ, ◌+◌, ◌==◌, List, [], ◌�
 use Rattle.std.specs.Ordering.{nat_cmp}
 use Rattle.std.specs.BTreeMap.{get}
 use Rattle.tiny_pool.specs.declared.constants.Constants.{Constants}
-use Rattle.tiny_code.specs.Code.{once}
+use Rattle.tiny_code.specs.Prelude.{once}
 
 abbrev pub or_else : ℕ → Option ℕ → ℕ
 or_else other None = other

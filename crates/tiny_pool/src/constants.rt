@@ -3,7 +3,7 @@
 ghost use Rattle.std.specs.Prelude.{◌≡◌, ◌∷◌, [], OnOk};
 ghost use Rattle.std.specs.Ordering.{nat_cmp};
 ghost use Rattle.std.specs.BTreeMap.{get};
-ghost use Rattle.tiny_code.specs.Code.{large};
+ghost use Rattle.tiny_code.specs.Prelude.{large};
 ghost use Rattle.tiny_pool.specs.Seen.{Adds, HasSeen, or_else};
 
 use std::alloc::{AllocError, Global};

@@ -2,9 +2,8 @@
 
 ghost use Rattle.std.specs.Prelude.{map, OnOk};
 ghost use Rattle.std.specs.List.{flat_map};
-ghost use Rattle.tiny_tree.specs.Tree.{steps_of};
-ghost use Rattle.tiny_tree.specs.View.{block_tree, cond_tree, expr_tree, function_tree, statement_tree, step_tree, term_tree};
-ghost use Rattle.tiny_code.specs.Code.{cond_numbers, expr_numbers, function_numbers, statement_numbers, statements_numbers, steps_numbers, term_numbers};
+ghost use Rattle.tiny_tree.specs.Prelude.{steps_of, block_tree, cond_tree, expr_tree, function_tree, statement_tree, step_tree, term_tree};
+ghost use Rattle.tiny_code.specs.Prelude.{cond_numbers, expr_numbers, function_numbers, statement_numbers, statements_numbers, steps_numbers, term_numbers};
 ghost use Rattle.tiny_pool.specs.Numbers.{numbers_of_arguments, numbers_of_else, numbers_of_sides};
 ghost use Rattle.tiny_pool.specs.Seen.{Adds};
 

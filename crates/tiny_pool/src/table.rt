@@ -2,8 +2,8 @@
 
 ghost use Rattle.std.specs.Prelude.{◌≡◌, IfOk, map};
 ghost use Rattle.ijvm_instr.specs.declared.instr.Instr.TheVariants.{Invokevirtual};
-ghost use Rattle.tiny_tree.specs.View.{function_tree};
-ghost use Rattle.tiny_code.specs.Code.{number_code};
+ghost use Rattle.tiny_tree.specs.Prelude.{function_tree};
+ghost use Rattle.tiny_code.specs.Prelude.{number_code};
 ghost use Rattle.tiny_pool.specs.Places.{IsPoolLength, IsTableOf, numbers_in, places_in};
 
 use crate::constants::Constants;

@@ -1,10 +1,10 @@
 -- From a state, with a world, a run does what a part of the meaning gives.
 use Rattle.std.proofs.Common.{◌≡◌, ◌≤◌, ℕ, zero, suc, ◌+◌, List, Option, Some, refl, sym, ap, ◌∙◌, subst, arith}
 use Rattle.std.specs.Prelude.{slice_get}
-use Rattle.ijvm_image.specs.Image.{ImageView}
-use Rattle.ijvm_meaning.specs.Frames.{Frame, State}
-use Rattle.ijvm_meaning.specs.Step.{Goes, Stuck, Halts as StepHalts, limited, step_outcome}
-use Rattle.tiny_tree.specs.Meaning.{TinyWorld, Result, Gives, Halts, Cuts, and_then, in_turn, Variables, Meaning, Ended, Cut, ending}
+use Rattle.ijvm_image.specs.Prelude.{ImageView}
+use Rattle.ijvm_meaning.specs.Prelude.{Frame, State, Goes, Stuck, limited, step_outcome}
+use Rattle.ijvm_meaning.specs.Step.{Halts as StepHalts}
+use Rattle.tiny_tree.specs.Prelude.{TinyWorld, Result, Gives, Halts, Cuts, and_then, in_turn, Variables, Meaning, Ended, Cut, ending}
 use Rattle.tiny_runs.proofs.Led.{output, IsPrefix, Follows, goes, pushes, stuck, cut, halts, lower}
 
 -- a state of the running frame, with this world

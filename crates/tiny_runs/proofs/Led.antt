@@ -3,13 +3,10 @@ use Rattle.std.proofs.Common.{◌≡◌, ◌≤◌, ℕ, suc, Bool, true, false,
 use Rattle.std.specs.Prelude.{nat_le}
 use Rattle.std.proofs.lemmas.List.{append-nil}
 use Rattle.ijvm_instr.specs.declared.instr.Instr.{Instr}
-use Rattle.ijvm_instr.specs.Instructions.{instr_at}
-use Rattle.ijvm_image.specs.Image.{ImageView}
-use Rattle.ijvm_meaning.specs.Frames.{State, frames_of, base}
-use Rattle.ijvm_meaning.specs.Step.{Goes, Halts, Limits, Stuck, limited, step, step_if_any, step_outcome}
-use Rattle.ijvm_meaning.specs.Limited.{same_frames}
-use Rattle.ijvm_meaning.specs.Safe.{ComesTo, Here, On, NeverStuck}
-use Rattle.tiny_tree.specs.Meaning.{Meaning, Ended, Cut}
+use Rattle.ijvm_instr.specs.Prelude.{instr_at}
+use Rattle.ijvm_image.specs.Prelude.{ImageView}
+use Rattle.ijvm_meaning.specs.Prelude.{State, frames_of, base, Goes, Halts, Limits, Stuck, limited, step, step_if_any, step_outcome, same_frames, ComesTo, Here, On, NeverStuck}
+use Rattle.tiny_tree.specs.Prelude.{Meaning, Ended, Cut}
 pub use Rattle.tiny_runs.specs.AsMeant.{output, IsPrefix}
 
 pub whole_prefix : (a : List ℕ) → IsPrefix a a

@@ -6,16 +6,12 @@ use Rattle.std.proofs.lemmas.Bool.{lt-ltb}
 use Rattle.std.proofs.Math.Seq.{take-append_seam, drop-append-add}
 use Rattle.ijvm_instr.specs.declared.instr.Instr.{Instr}
 use Rattle.ijvm_instr.specs.declared.instr.Instr.TheVariants.{Bipush, Ireturn, Invokevirtual, Halt as HaltCode}
-use Rattle.ijvm_instr.specs.Instructions.{instr_at}
+use Rattle.ijvm_instr.specs.Prelude.{instr_at}
 use Rattle.ijvm_image.specs.declared.method.Method.{Method}
-use Rattle.ijvm_image.specs.Image.{ImageView, params, others, method_at}
-use Rattle.ijvm_meaning.specs.Frames.{Frame, State, start_of}
-use Rattle.ijvm_meaning.specs.Step.{Stuck, limited, onto, in_method, entered, called_at, step_outcome}
-use Rattle.tiny_tree.specs.Tree.{Function, Program}
-use Rattle.tiny_tree.specs.Named.{IsCallable, names_count, parameters_seen, IsNamed}
-use Rattle.tiny_tree.specs.Meaning.{TinyWorld, and_then, in_turn, CallResults, Flow, GoesOn, Returns, returned, first_variables, execute_body, call, Ended, at_end, meaning, start_world}
-use Rattle.tiny_code.specs.Code.{Places, code_size, statements_code}
-use Rattle.tiny_code.specs.Laid.{IsMethodAt, Holds}
+use Rattle.ijvm_image.specs.Prelude.{ImageView, params, others, method_at}
+use Rattle.ijvm_meaning.specs.Prelude.{Frame, State, start_of, Stuck, limited, onto, in_method, entered, called_at, step_outcome}
+use Rattle.tiny_tree.specs.Prelude.{Function, Program, IsCallable, names_count, parameters_seen, IsNamed, TinyWorld, and_then, in_turn, CallResults, Flow, GoesOn, Returns, returned, first_variables, execute_body, call, Ended, at_end, meaning, start_world}
+use Rattle.tiny_code.specs.Prelude.{Places, code_size, statements_code, IsMethodAt, Holds}
 use Rattle.tiny_runs.proofs.Led.{Follows, stuck, halts, lower, at_code, whole_prefix}
 use Rattle.tiny_runs.proofs.Stands.{Spans, front, back, here, next}
 use Rattle.tiny_runs.proofs.Does.{state, Agrees, Does, does_then, does_lower, does_after, does_push, does_give, does_cut, does_turn}

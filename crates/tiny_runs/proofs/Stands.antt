@@ -1,10 +1,8 @@
 -- Code that stands in a text.
 use Rattle.std.proofs.Common.{◌≡◌, ◌≤◌, ℕ, ◌+◌, List, [], ◌∷◌, ◌++◌, Some, refl, arith}
 use Rattle.ijvm_instr.specs.declared.instr.Instr.{Instr}
-use Rattle.ijvm_instr.specs.Instructions.{row_of, size_of, instr_at}
-use Rattle.tiny_code.specs.Code.{code_size}
-use Rattle.tiny_code.specs.Laid.{CodeAt}
-use Rattle.tiny_code.specs.Standing.{back_at, front_at, size_append}
+use Rattle.ijvm_instr.specs.Prelude.{row_of, size_of, instr_at}
+use Rattle.tiny_code.specs.Prelude.{code_size, CodeAt, back_at, front_at, size_append}
 
 -- the code stands from the first address up to the second
 pub record Spans (text : List ℕ) (at end : ℕ) (is : List Instr) : Type 0 where

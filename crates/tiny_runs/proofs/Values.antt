@@ -4,20 +4,16 @@ use Rattle.std.specs.Prelude.{pos, nat_le, slice_get}
 use Rattle.std.proofs.lemmas.List.Elements.{All-head}
 use Rattle.ijvm_instr.specs.declared.instr.Instr.{Instr}
 use Rattle.ijvm_instr.specs.declared.instr.Instr.TheVariants.{Bipush, LdcW, Iload, Iadd, Isub, Iand, Ior, Invokevirtual, In}
-use Rattle.ijvm_instr.specs.Instructions.{row_of, size_of, instr_at}
-use Rattle.ijvm_image.specs.Image.{ImageView}
-use Rattle.console_port.specs.World.{next_byte}
-use Rattle.ijvm_meaning.specs.Frames.{Frame, State}
-use Rattle.ijvm_meaning.specs.Step.{Goes, taken, pushed, pushed_constant, loaded, step, step_outcome}
+use Rattle.ijvm_instr.specs.Prelude.{row_of, size_of, instr_at}
+use Rattle.ijvm_image.specs.Prelude.{ImageView}
+use Rattle.console_port.specs.Prelude.{next_byte}
+use Rattle.ijvm_meaning.specs.Prelude.{Frame, State, Goes, taken, pushed, pushed_constant, loaded, step, step_outcome}
 use Rattle.tiny_tree.specs.declared.tree.Operator.{Operator}
 use Rattle.tiny_tree.specs.declared.tree.Operator.TheVariants.{Plus, Minus, And, Or}
-use Rattle.tiny_tree.specs.Tree.{Term, Number, Variable, Called, Get, Group, Expr, Sum, Steps, no_steps, step as step_on, Arguments, no_arguments, argument, Program}
-use Rattle.tiny_tree.specs.Named.{IsCallable, arguments_count, Seen, IsNamedTerm, IsNamedExpr, AreNamedSteps, AreNamedArguments}
-use Rattle.tiny_tree.specs.Meaning.{TinyWorld, Result, Gives, Variables, CallResults, combine, evaluate_term, evaluate, evaluate_steps, evaluate_arguments}
-use Rattle.tiny_code.specs.Code.{Places, code_size, operator_code, term_code, expr_code, steps_code, arguments_code, term_numbers, expr_numbers, steps_numbers, arguments_numbers}
-use Rattle.tiny_code.specs.Laid.{HasNumbers}
+use Rattle.tiny_tree.specs.Tree.{step as step_on}
+use Rattle.tiny_tree.specs.Prelude.{Term, Number, Variable, Called, Get, Group, Expr, Sum, Steps, no_steps, Arguments, no_arguments, argument, Program, IsCallable, arguments_count, Seen, IsNamedTerm, IsNamedExpr, AreNamedSteps, AreNamedArguments, TinyWorld, Result, Gives, Variables, CallResults, combine, evaluate_term, evaluate, evaluate_steps, evaluate_arguments}
+use Rattle.tiny_code.specs.Prelude.{Places, code_size, operator_code, term_code, expr_code, steps_code, arguments_code, term_numbers, expr_numbers, steps_numbers, arguments_numbers, HasNumbers, all_back, all_front}
 use Rattle.tiny_runs.proofs.Led.{at_code}
-use Rattle.tiny_code.specs.Standing.{all_back, all_front}
 use Rattle.tiny_runs.proofs.Stands.{Spans, front, back, here, next, none}
 use Rattle.tiny_runs.proofs.Does.{state, Agrees, Does, does_then, does_lower, does_after, does_push, does_give, does_stuck}
 

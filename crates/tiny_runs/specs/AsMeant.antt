@@ -1,13 +1,9 @@
 -- Runs that do what a program means, up to the bound and the stack's end.
 use Rattle.std.specs.Prelude.{◌≡◌, ◌≢◌, ◌≤◌, ◌⊎◌, ℕ, List, ◌++◌}
-use Rattle.ijvm_image.specs.Image.{ImageView}
+use Rattle.ijvm_image.specs.Prelude.{ImageView}
 use Rattle.ijvm_meaning.specs.declared.run.RunEnd.TheVariants as ends
-use Rattle.ijvm_meaning.specs.Frames.{State}
-use Rattle.ijvm_meaning.specs.Step.{Goes, step_outcome}
-use Rattle.ijvm_meaning.specs.Cost.{Timing, next_cost}
-use Rattle.ijvm_meaning.specs.Run.{TimedImage, Point, Finish, first_point, EndsBy, Passes}
-use Rattle.tiny_tree.specs.Tree.{Program}
-use Rattle.tiny_tree.specs.Meaning.{Meaning, Ended, Cut, meaning}
+use Rattle.ijvm_meaning.specs.Prelude.{State, Goes, step_outcome, Timing, next_cost, TimedImage, Point, Finish, first_point, EndsBy, Passes}
+use Rattle.tiny_tree.specs.Prelude.{Program, Meaning, Ended, Cut, meaning}
 
 abbrev pub output : Meaning → List ℕ
 output (Ended given untaken) = given

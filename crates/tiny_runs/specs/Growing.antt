@@ -1,7 +1,6 @@
 -- What one more turn changes of a program's meaning: nothing where it has ended, and its output only grows.
 use Rattle.std.specs.Prelude.{◌≡◌, ℕ, suc, List}
-use Rattle.tiny_tree.specs.Tree.{Program}
-use Rattle.tiny_tree.specs.Meaning.{Ended, meaning}
+use Rattle.tiny_tree.specs.Prelude.{Program, Ended, meaning}
 use Rattle.tiny_runs.specs.AsMeant.{output, IsPrefix}
 
 pub record GrowsWithTurns (p : Program) (input : List ℕ) (n : ℕ) : Type 0 where

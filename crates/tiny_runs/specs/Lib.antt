@@ -1,3 +1,4 @@
 pub mod AsMeant
 pub mod Growing
 pub mod Performs
+pub mod Prelude

@@ -1,9 +1,8 @@
 -- Images that do what a program means.
 use Rattle.std.specs.Prelude.{ℕ}
-use Rattle.ijvm_image.specs.Image.{ImageView}
-use Rattle.ijvm_meaning.specs.Cost.{Timing}
-use Rattle.ijvm_meaning.specs.Safe.{IsSafe}
-use Rattle.tiny_tree.specs.Tree.{Program}
+use Rattle.ijvm_image.specs.Prelude.{ImageView}
+use Rattle.ijvm_meaning.specs.Prelude.{Timing, IsSafe}
+use Rattle.tiny_tree.specs.Prelude.{Program}
 use Rattle.tiny_runs.specs.AsMeant.{Advances, RunsAsMeant, runs_of}
 
 -- where the runs of the image never get stuck, they are as the program means

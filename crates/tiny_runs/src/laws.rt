@@ -1,13 +1,11 @@
 //! What holds of the runs of every image in which a Tiny program is laid out.
 
 ghost use Rattle.std.specs.Prelude.{ℕ, List};
-ghost use Rattle.ijvm_image.specs.Image.{ImageView};
+ghost use Rattle.ijvm_image.specs.Prelude.{ImageView};
 ghost use Rattle.mic_words.specs.declared.machine.Machine.{Machine};
-ghost use Rattle.ijvm_meaning.specs.Cost.{timing_of};
-ghost use Rattle.tiny_tree.specs.Tree.{Program};
-ghost use Rattle.tiny_tree.specs.Named.{IsNamed};
-ghost use Rattle.tiny_code.specs.Code.{Places};
-ghost use Rattle.tiny_code.specs.Laid.{IsLaidOut};
+ghost use Rattle.ijvm_meaning.specs.Prelude.{timing_of};
+ghost use Rattle.tiny_tree.specs.Prelude.{Program, IsNamed};
+ghost use Rattle.tiny_code.specs.Prelude.{Places, IsLaidOut};
 ghost use Rattle.tiny_runs.specs.AsMeant.{Advances};
 ghost use Rattle.tiny_runs.specs.Growing.{GrowsWithTurns};
 ghost use Rattle.tiny_runs.specs.Performs.{Performs};

@@ -3,17 +3,11 @@ use Rattle.std.proofs.Common.{◌≡◌, ℕ, ◌+◌, true, false, List, [], �
 use Rattle.std.specs.Prelude.{option_map, option_and_then, ◌↔◌}
 use Rattle.std.proofs.lemmas.List.{append-nil}
 use Rattle.source_text.specs.Reading as reading
-use Rattle.source_text.specs.Reading.{lex}
-use Rattle.source_text.specs.Lexed.{cut_at, lex_blank, lex_token}
-use Rattle.source_text.specs.Table.{extent, token_of}
-use Rattle.source_text.specs.Tokens.{is_blank}
-use Rattle.source_text.specs.Walk.{Leads}
-use Rattle.source_text.specs.Content.{contents}
+use Rattle.source_text.specs.Prelude.{lex, cut_at, lex_blank, lex_token, extent, token_of, is_blank, Leads, contents}
 use Rattle.tiny_draft.specs.declared.token.Token.{Token}
 use Rattle.tiny_lexemes.specs.declared.lexeme.Lexeme.{Lexeme}
-use Rattle.tiny_lexemes.specs.Lexemes.{SpellsLexemes, read, tiny}
-use Rattle.tiny_tokens.specs.Tokens.{HasTokens, SpellsLines, kind_of, main_only, number_all}
-use Rattle.tiny_tokens.specs.Reading.{HeldView, add_all, add_one, add_read, step}
+use Rattle.tiny_lexemes.specs.Prelude.{SpellsLexemes, read, tiny}
+use Rattle.tiny_tokens.specs.Prelude.{HasTokens, SpellsLines, kind_of, main_only, number_all, HeldView, add_all, add_one, add_read, step}
 
 abbrev pub ReadsSome : Type 0
 ReadsSome = (line : List ℕ) → (ls : List Lexeme) × (read line ≡ Some ls)

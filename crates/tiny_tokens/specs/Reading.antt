@@ -3,7 +3,7 @@ use Rattle.std.specs.Prelude.{ℕ, List, [], ◌∷◌, ◌++◌, Option, Some, 
 use Rattle.std.specs.declared.alloc.AllocError.{AllocError}
 use Rattle.tiny_draft.specs.declared.token.Token.{Token}
 use Rattle.tiny_lexemes.specs.declared.lexeme.Lexeme.{Lexeme}
-use Rattle.tiny_lexemes.specs.Lexemes.{read}
+use Rattle.tiny_lexemes.specs.Prelude.{read}
 use Rattle.tiny_tokens.specs.Tokens.{kind_of}
 
 -- the different names so far, and the tokens

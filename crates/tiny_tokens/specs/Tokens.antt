@@ -1,14 +1,13 @@
 -- The tokens of a text: those of its lines in order, each with its line. A name has the number of its place among the
 -- different names of the text, of which `main` is the first.
 use Rattle.std.specs.Prelude.{◌≡◌, ℕ, ◌+◌, List, [], ◌∷◌, ◌++◌, length, map, codes, Option, Some, None}
-use Rattle.source_text.specs.Content.{contents}
-use Rattle.source_text.specs.Places.{place_of_name}
+use Rattle.source_text.specs.Prelude.{contents, place_of_name}
 use Rattle.tiny_draft.specs.declared.token.Kind.{Kind}
 use Rattle.tiny_draft.specs.declared.token.Kind.TheVariants as kinds
 use Rattle.tiny_draft.specs.declared.token.Token.{Token}
 use Rattle.tiny_lexemes.specs.declared.lexeme.Lexeme.{Lexeme}
 use Rattle.tiny_lexemes.specs.declared.lexeme.Lexeme.TheVariants as lexemes
-use Rattle.tiny_lexemes.specs.Lexemes.{SpellsLexemes}
+use Rattle.tiny_lexemes.specs.Prelude.{SpellsLexemes}
 
 -- ---- the tokens by their texts
 

@@ -3,7 +3,7 @@
 ghost use Rattle.std.specs.Prelude.{◌≡◌, [], IfOk, OnOk};
 ghost use Rattle.tiny_tokens.specs.Tokens.{kind_of, main_only, numbered};
 ghost use Rattle.tiny_tokens.specs.Reading.{add_one};
-ghost use Rattle.source_text.specs.Places.{place_of_name};
+ghost use Rattle.source_text.specs.Prelude.{place_of_name};
 
 use mic_base::Name;
 use source_text::NameList;

@@ -1,7 +1,7 @@
 //! The tokens of a line, one after the other.
 
 ghost use Rattle.std.specs.Prelude.{◌≡◌};
-ghost use Rattle.source_text.specs.Tokens.{is_blank};
+ghost use Rattle.source_text.specs.Prelude.{is_blank};
 
 use crate::held::Held;
 use source_text::{Reader, extent, token};

@@ -1,10 +1,9 @@
 -- The meaning of worked programs.
 use Rattle.std.proofs.Common.{◌≡◌, refl, ℕ, List, [], ◌∷◌}
-use Rattle.mic_words.specs.Arithmetic.{wrap}
+use Rattle.mic_words.specs.Prelude.{wrap}
 use Rattle.tiny_tree.specs.declared.tree.Operator.{Operator}
 use Rattle.tiny_tree.specs.declared.tree.Operator.TheVariants.{Plus, Minus}
-use Rattle.tiny_tree.specs.Tree.{Term, Number, Variable, Called, Get, Expr, Sum, no_steps, step, Different, Less, Statement, Var, Assign, If, While, Return, Put, Halt, no_else, Function, Program, arguments_of, statements_of}
-use Rattle.tiny_tree.specs.Meaning.{Ended, Cut, meaning}
+use Rattle.tiny_tree.specs.Prelude.{Term, Number, Variable, Called, Get, Expr, Sum, no_steps, step, Different, Less, Statement, Var, Assign, If, While, Return, Put, Halt, no_else, Function, Program, arguments_of, statements_of, Ended, Cut, meaning}
 
 abbrev alone : Term → Expr
 alone t = Sum t no_steps

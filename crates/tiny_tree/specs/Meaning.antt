@@ -1,7 +1,7 @@
 -- What a program does, from left to right. A turn is one test of a `while` or one call.
 use Rattle.std.specs.Prelude.{ℕ, zero, suc, ◌%◌, Bool, true, false, not, if◌then◌else◌, ◌==◌, List, [], ◌∷◌, ◌++◌, slice_index, slice_get, drop, Option, Some, None, bit_and, bit_or}
-use Rattle.mic_words.specs.Arithmetic.{plus, minus, is_negative}
-use Rattle.console_port.specs.World.{next_byte}
+use Rattle.mic_words.specs.Prelude.{plus, minus, is_negative}
+use Rattle.console_port.specs.Prelude.{next_byte}
 use Rattle.tiny_tree.specs.declared.tree.Operator.{Operator}
 use Rattle.tiny_tree.specs.declared.tree.Operator.TheVariants.{Plus, Minus, And, Or}
 use Rattle.tiny_tree.specs.Tree.{Term, Number, Variable, Called, Get, Group, Expr, Sum, Steps, no_steps, step, Arguments, no_arguments, argument, Cond, Equal, Different, Less, Statement, Var, Assign, Calls, If, While, Return, Put, Halt, Else, no_else, else_block, Statements, no_statements, statement, Function, Program}

@@ -7,13 +7,11 @@ use Rattle.std.specs.Option.{option_map}
 use Rattle.ijvm_instr.specs.declared.instr.Instr.{Instr}
 use Rattle.ijvm_instr.specs.declared.row.Flow.{Flow}
 use Rattle.ijvm_instr.specs.declared.row.Flow.TheVariants.{Next, Jump, Branch, Call, Return, End}
-use Rattle.ijvm_instr.specs.Instructions.{row_of, size_of, instr_at}
+use Rattle.ijvm_instr.specs.Prelude.{row_of, size_of, instr_at, target}
 use Rattle.ijvm_image.specs.declared.method.Method.{Method}
-use Rattle.ijvm_image.specs.Image.{ImageView, method_at, params, others}
-use Rattle.ijvm_instr.specs.Instructions.{target}
+use Rattle.ijvm_image.specs.Prelude.{ImageView, method_at, params, others}
 use Rattle.verifier_facts.specs.declared.error.VerifyError.TheVariants.{BadCode, FallsOff, BadTarget, BadConstant, BadEntry, BadHeader, TooFewArguments, Underflow, ReturnInMain}
-use Rattle.verifier_facts.specs.Paths.{Arrival, arrival, HasRow, HasConstant, callee, need_by, need_of, GoesOn, left_unset, MayCarry, On, Into, Reached, Then, HasNext, HasJump, IsNoCall}
-use Rattle.verifier_facts.specs.Facts.{Accepts}
+use Rattle.verifier_facts.specs.Prelude.{Arrival, arrival, HasRow, HasConstant, callee, need_by, need_of, GoesOn, left_unset, MayCarry, On, Into, Reached, Then, HasNext, HasJump, IsNoCall, Accepts}
 use Rattle.verifier_facts.proofs.Rows.{size_fits, size_above, call_constant}
 
 -- an accepted image's path, and the instruction where it ends

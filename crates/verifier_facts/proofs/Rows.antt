@@ -7,8 +7,8 @@ use Rattle.ijvm_instr.specs.declared.instr.Instr.{Instr}
 use Rattle.ijvm_instr.specs.declared.instr.Instr.TheVariants.{Nop}
 use Rattle.ijvm_instr.specs.declared.row.Row.{Row}
 use Rattle.ijvm_instr.specs.declared.row.Flow.TheVariants.{Call}
-use Rattle.ijvm_instr.specs.Instructions.{row_of, size_of, prefix, operand_bytes, begun_at, whole, instr_at}
-use Rattle.verifier_facts.specs.Paths.{HasRow, IsWhole}
+use Rattle.ijvm_instr.specs.Prelude.{row_of, size_of, prefix, operand_bytes, begun_at, whole, instr_at}
+use Rattle.verifier_facts.specs.Prelude.{HasRow, IsWhole}
 
 whole_fits : (many at : ℕ) (o : Option Instr) (i : Instr) → whole many at o ≡ Some i → at + size_of (row_of i) ≤ many
 whole_fits many at None i e = cc

@@ -5,21 +5,16 @@ use Rattle.std.specs.Option.{option_map}
 use Rattle.std.proofs.lemmas.Bool.{cases_lt, lt-ltb, ne_eqb}
 use Rattle.std.proofs.lemmas.Option.{slice_get_within, slice_get-get_or}
 use Rattle.std.proofs.lemmas.List.{length-replicate}
-use Rattle.console_port.specs.World.{next_byte}
+use Rattle.console_port.specs.Prelude.{next_byte}
 use Rattle.ijvm_instr.specs.declared.instr.Instr.{Instr}
 use Rattle.ijvm_instr.specs.declared.instr.Instr.TheVariants.{Nop, Bipush, LdcW, Iload, Istore, Pop, Dup, Swap, Iinc, Ifeq, Iflt, IfIcmpeq, Goto, Ireturn, Invokevirtual, WideIload, WideIstore, WideIinc, In, Out, Err, Halt}
-use Rattle.ijvm_instr.specs.Instructions.{row_of, size_of, instr_at}
+use Rattle.ijvm_instr.specs.Prelude.{row_of, size_of, instr_at, target, word_of}
 use Rattle.ijvm_image.specs.declared.method.Method.{Method}
-use Rattle.ijvm_image.specs.Image.{ImageView}
-use Rattle.ijvm_meaning.specs.Frames.{Frame, State, base, frames_of, start_of}
-use Rattle.ijvm_instr.specs.Instructions.{target, word_of}
-use Rattle.ijvm_meaning.specs.Step.{StepOutcome, Goes, Limits, Stuck, limited, moved, pushed, pushed_constant, loaded, is_own, with_local, stored, increased, popped, doubled, swapped, combined, way, branched, compared, returned, onto, in_method, entered, called_at, taken, given_out, step, step_if_any, step_outcome}
-use Rattle.ijvm_meaning.specs.Run.{after, state_after}
-use Rattle.ijvm_meaning.specs.Safe.{SameFrames, ComesTo, Here, On as Onward}
+use Rattle.ijvm_image.specs.Prelude.{ImageView}
+use Rattle.ijvm_meaning.specs.Prelude.{Frame, State, base, frames_of, start_of, StepOutcome, Goes, Limits, Stuck, limited, moved, pushed, pushed_constant, loaded, is_own, with_local, stored, increased, popped, doubled, swapped, combined, way, branched, compared, returned, onto, in_method, entered, called_at, taken, given_out, step, step_if_any, step_outcome, after, state_after, SameFrames, ComesTo, Here}
+use Rattle.ijvm_meaning.specs.Safe.{On as Onward}
 use Rattle.verifier_facts.specs.declared.error.VerifyError.TheVariants.{LinkSlot, BadLocal, UnsetLocal}
-use Rattle.verifier_facts.specs.Paths.{Arrival, arrival, need_of, GoesOn, left_unset, MayCarry, Reached, Start}
-use Rattle.verifier_facts.specs.Facts.{Names, IsMainCount, Accepts}
-use Rattle.verifier_facts.specs.Sound.{IsFrameOf, FrameStandsAt, AreWaiting, IsSound, Finds, KeepsSound}
+use Rattle.verifier_facts.specs.Prelude.{Arrival, arrival, need_of, GoesOn, left_unset, MayCarry, Reached, Start, Names, IsMainCount, Accepts, IsFrameOf, FrameStandsAt, AreWaiting, IsSound, Finds, KeepsSound}
 use Rattle.verifier_facts.proofs.Rows.{size_fits}
 use Rattle.verifier_facts.proofs.Reaches.{Stands, IsCalled, code_there, reached_inside, constant_there, method_there, operands_there, inside, goes_on, goes_in, params_above, return_in_method}
 

@@ -1,9 +1,9 @@
 -- A verified image: acceptance for its memory map, in the type.
 use Rattle.std.specs.Prelude.{ℕ, ◌+◌, ◌≤◌, List}
 use Rattle.console_port.specs.declared.map.MemoryMap.{MemoryMap}
-use Rattle.console_port.specs.Map.{IsMap}
-use Rattle.ijvm_image.specs.Image.{ImageView}
-use Rattle.ijvm_meaning.specs.Safe.{IsSafe}
+use Rattle.console_port.specs.Prelude.{IsMap}
+use Rattle.ijvm_image.specs.Prelude.{ImageView}
+use Rattle.ijvm_meaning.specs.Prelude.{IsSafe}
 use Rattle.verifier_facts.specs.declared.kind.Kind.{Kind}
 use Rattle.verifier_facts.specs.Facts.{Accepts, IsMainCount, IsMethodCount}
 use Rattle.verifier_facts.specs.Kinds.{AreKinds}

@@ -2,9 +2,8 @@
 use Rattle.std.specs.Prelude.{◌≡◌, ◌≢◌, ℕ, ℤ, ◌+◌, ◌<◌, ◌≤◌, ◌⊎◌, ◌↔◌, List, length, slice_get, Contains, AllPairs, Option, Some, None}
 use Rattle.ijvm_instr.specs.declared.row.Row.{Row}
 use Rattle.ijvm_instr.specs.declared.row.Flow.TheVariants.{Call, Return}
-use Rattle.ijvm_instr.specs.Instructions.{size_of, instr_at}
-use Rattle.ijvm_image.specs.Image.{ImageView, params, others}
-use Rattle.ijvm_instr.specs.Instructions.{target}
+use Rattle.ijvm_instr.specs.Prelude.{size_of, instr_at, target}
+use Rattle.ijvm_image.specs.Prelude.{ImageView, params, others}
 use Rattle.verifier_facts.specs.declared.error.VerifyError.{VerifyError}
 use Rattle.verifier_facts.specs.declared.error.VerifyError.TheVariants.{BadCode, FallsOff, BadTarget, Overlap, BadConstant, BadEntry, BadHeader, LinkSlot, BadLocal, UnsetLocal, TooFewArguments, Underflow, DepthDiffers, ReturnInMain, MainFrame, OutOfMemory}
 use Rattle.verifier_facts.specs.Paths.{Arrival, HasRow, HasNext, HasJump, IsNoCall, need_of, Reached, IsReachedMethod}

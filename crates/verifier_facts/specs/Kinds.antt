@@ -1,6 +1,6 @@
 -- What stands at a byte of the text.
 use Rattle.std.specs.Prelude.{◌≡◌, ℕ, ◌<◌, ◌≤◌, List, length, slice_get, Option, Some}
-use Rattle.ijvm_image.specs.Image.{ImageView}
+use Rattle.ijvm_image.specs.Prelude.{ImageView}
 use Rattle.verifier_facts.specs.declared.kind.Kind.{Kind}
 use Rattle.verifier_facts.specs.declared.kind.Kind.TheVariants as kinds
 use Rattle.verifier_facts.specs.Facts.{Piece, Code, Header, Covers}

@@ -4,3 +4,4 @@ pub mod MainCount
 pub mod Kinds
 pub mod Sound
 pub mod Accepted
+pub mod Prelude

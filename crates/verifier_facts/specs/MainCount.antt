@@ -1,6 +1,6 @@
 -- There is one number of main's locals.
 use Rattle.std.proofs.Common.{◌≡◌, inl, inr, ◌≤◌, ◌+◌, ℕ, arith}
-use Rattle.ijvm_image.specs.Image.{ImageView}
+use Rattle.ijvm_image.specs.Prelude.{ImageView}
 use Rattle.verifier_facts.specs.Facts.{IsMainCount}
 
 pub at_most : (image : ImageView) (m n : ℕ) → IsMainCount image m → IsMainCount image n → m ≤ n

@@ -5,10 +5,9 @@ use Rattle.ijvm_instr.specs.declared.instr.Instr.{Instr}
 use Rattle.ijvm_instr.specs.declared.row.Row.{Row}
 use Rattle.ijvm_instr.specs.declared.row.Flow.{Flow}
 use Rattle.ijvm_instr.specs.declared.row.Flow.TheVariants.{Next, Jump, Branch, Call, Return, End}
-use Rattle.ijvm_instr.specs.Instructions.{row_of, size_of, instr_at}
+use Rattle.ijvm_instr.specs.Prelude.{row_of, size_of, instr_at, target}
 use Rattle.ijvm_image.specs.declared.method.Method.{Method}
-use Rattle.ijvm_image.specs.Image.{ImageView, method_at, params, others}
-use Rattle.ijvm_instr.specs.Instructions.{target}
+use Rattle.ijvm_image.specs.Prelude.{ImageView, method_at, params, others}
 
 -- A unit is main, which is None, or the method at an entry.
 pub record Arrival : Type 0 where

@@ -2,13 +2,10 @@
 use Rattle.std.specs.Prelude.{◌≡◌, ◌≢◌, ℕ, ◌+◌, ◌<◌, ◌≤◌, true, List, [], ◌∷◌, length, slice_get, Option, Some, None}
 use Rattle.ijvm_instr.specs.declared.instr.Instr.{Instr}
 use Rattle.ijvm_instr.specs.declared.row.Flow.TheVariants.{Call, Return}
-use Rattle.ijvm_instr.specs.Instructions.{row_of, size_of, instr_at}
+use Rattle.ijvm_instr.specs.Prelude.{row_of, size_of, instr_at}
 use Rattle.ijvm_image.specs.declared.method.Method.{Method}
-use Rattle.ijvm_image.specs.Image.{ImageView, params, others}
-use Rattle.ijvm_meaning.specs.Frames.{Frame, State, start_of}
-use Rattle.ijvm_meaning.specs.Step.{Goes, is_own, step_outcome}
-use Rattle.ijvm_meaning.specs.Run.{state_after}
-use Rattle.ijvm_meaning.specs.Safe.{ComesTo, IsSafe}
+use Rattle.ijvm_image.specs.Prelude.{ImageView, params, others}
+use Rattle.ijvm_meaning.specs.Prelude.{Frame, State, start_of, Goes, is_own, step_outcome, state_after, ComesTo, IsSafe}
 use Rattle.verifier_facts.specs.Paths.{arrival, HasConstant, callee, need_of, GoesOn, Reached}
 use Rattle.verifier_facts.specs.Facts.{Names}
 

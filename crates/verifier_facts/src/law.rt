@@ -2,7 +2,7 @@
 
 ghost use Rattle.std.specs.Prelude.{ℕ, List};
 ghost use Rattle.ijvm_instr.specs.declared.row.Row.{Row};
-ghost use Rattle.ijvm_image.specs.Image.{ImageView};
+ghost use Rattle.ijvm_image.specs.Prelude.{ImageView};
 ghost use Rattle.verifier_facts.specs.Paths.{HasRow, IsWhole};
 ghost use Rattle.verifier_facts.specs.Facts.{Accepts, IsMainCount};
 ghost use Rattle.verifier_facts.specs.Sound.{KeepsSound};

@@ -6,13 +6,11 @@ use Rattle.std.proofs.lemmas.Bool.{cases_eq, eq-eqb, ne_eqb}
 use Rattle.std.proofs.lemmas.Nat.Bits.{bit_at-zero}
 use Rattle.std.proofs.lemmas.List.Elements.{Contains-append_left, Contains-push, Contains-push_cases}
 use Rattle.std.proofs.lemmas.Option.{same_Some}
-use Rattle.verifier_reach.specs.Places.{get_set_other, get_set_same}
+use Rattle.verifier_reach.specs.Prelude.{get_set_other, get_set_same}
 use Rattle.verifier_locals.specs.declared.graph.Node.{Node}
 use Rattle.verifier_locals.specs.declared.local_set.LocalSet.{LocalSet}
 use Rattle.verifier_locals.specs.declared.trace.Mark.{Mark}
-use Rattle.verifier_locals.specs.LocalSet.{Has, IsIn}
-use Rattle.verifier_locals.specs.Graph.{LeadsTo, Carries, Begin, Pass}
-use Rattle.verifier_locals.specs.Trace.{held, held_at, IsHeld, blanks, AreOlder, IsReady, MarksMore, IsMarked, IsPassed, Passes, IsTracing, ReadsUnset, ReadsNone}
+use Rattle.verifier_locals.specs.Prelude.{Has, IsIn, LeadsTo, Carries, Begin, Pass, held, held_at, IsHeld, blanks, AreOlder, IsReady, MarksMore, IsMarked, IsPassed, Passes, IsTracing, ReadsUnset, ReadsNone}
 
 empty : (at : ℕ) → Contains {X = ℕ} [] at → ⊥
 empty at h = omega (arith, h.1)

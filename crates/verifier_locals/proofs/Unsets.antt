@@ -7,21 +7,17 @@ use Rattle.std.proofs.lemmas.Option.{slice_get_within, slice_get-get_or, none-so
 use Rattle.std.proofs.lemmas.List.Elements.{Contains-append_left, Contains-push, Contains-push_cases}
 use Rattle.std.proofs.lemmas.List.Sorted.{Contains-permutation, IsPermutation-sym}
 use Rattle.ijvm_instr.specs.declared.row.Row.{Row}
-use Rattle.ijvm_instr.specs.Instructions.{size_of}
-use Rattle.ijvm_image.specs.Image.{ImageView}
+use Rattle.ijvm_instr.specs.Prelude.{size_of}
+use Rattle.ijvm_image.specs.Prelude.{ImageView}
 use Rattle.verifier_facts.specs.declared.error.VerifyError.TheVariants.{UnsetLocal}
 use Rattle.verifier_reach.specs.declared.kept.Kept.{Kept}
 use Rattle.verifier_locals.specs.declared.graph.Node.{Node}
 use Rattle.verifier_locals.specs.declared.local_set.LocalSet.{LocalSet}
 use Rattle.verifier_locals.specs.declared.trace.Mark.{Mark}
 use Rattle.verifier_locals.specs.declared.unset.Wanted.{Wanted}
-use Rattle.verifier_facts.specs.Paths.{Arrival, arrival, HasRow, GoesOn, left_unset, IsOwn, MayCarry, Reached, Start, Then, On, Into, IsReachedMethod}
-use Rattle.verifier_facts.specs.Facts.{IsTrueOf}
-use Rattle.verifier_reach.specs.Search.{kept_at, kept_of, IsClosed}
-use Rattle.verifier_locals.specs.Graph.{LeadsTo, IsNodeOf, IsGraph, IsInside, Carries, Begin, Pass}
-use Rattle.verifier_locals.specs.LocalSet.{IsIn}
-use Rattle.verifier_locals.specs.Trace.{IsReady, ReadsUnset, ReadsNone}
-use Rattle.verifier_locals.specs.Unset.{AreSet, Wants, AreWanted}
+use Rattle.verifier_facts.specs.Prelude.{Arrival, arrival, HasRow, GoesOn, left_unset, IsOwn, MayCarry, Reached, Start, Then, On, Into, IsReachedMethod, IsTrueOf}
+use Rattle.verifier_reach.specs.Prelude.{kept_at, kept_of, IsClosed}
+use Rattle.verifier_locals.specs.Prelude.{LeadsTo, IsNodeOf, IsGraph, IsInside, Carries, Begin, Pass, IsIn, IsReady, ReadsUnset, ReadsNone, AreSet, Wants, AreWanted}
 use Rattle.verifier_locals.proofs.Graphs.{way_inside}
 
 -- what is carried after an instruction was carried before, and is not stored

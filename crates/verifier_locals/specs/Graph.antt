@@ -1,11 +1,11 @@
 -- The graph of the reached instructions: what the search for locals that are not set goes over.
 use Rattle.std.specs.Prelude.{◌≡◌, ◌≢◌, ℕ, ◌+◌, ◌<◌, ◌⊎◌, List, length, slice_get, Option, Some}
 use Rattle.ijvm_instr.specs.declared.row.Row.{Row}
-use Rattle.ijvm_instr.specs.Instructions.{size_of}
-use Rattle.ijvm_image.specs.Image.{ImageView}
+use Rattle.ijvm_instr.specs.Prelude.{size_of}
+use Rattle.ijvm_image.specs.Prelude.{ImageView}
 use Rattle.verifier_reach.specs.declared.kept.Kept.{Kept}
 use Rattle.verifier_locals.specs.declared.graph.Node.{Node}
-use Rattle.verifier_facts.specs.Paths.{HasRow, GoesOn}
+use Rattle.verifier_facts.specs.Prelude.{HasRow, GoesOn}
 
 abbrev pub LeadsTo : Node → ℕ → Type 0
 LeadsTo node to = (node.next ≡ Some to) ⊎ (node.jump ≡ Some to)

@@ -3,3 +3,4 @@ pub mod Shortcut
 pub mod LocalSet
 pub mod Trace
 pub mod Unset
+pub mod Prelude

@@ -1,9 +1,9 @@
 -- A graph with shortcuts past the instructions that name no local and lead to only one address, and without ways to dead ends.
 use Rattle.std.specs.Prelude.{◌≡◌, ℕ, List, length, slice_get, Option, Some, None}
-use Rattle.ijvm_image.specs.Image.{ImageView}
+use Rattle.ijvm_image.specs.Prelude.{ImageView}
 use Rattle.verifier_reach.specs.declared.kept.Kept.{Kept}
 use Rattle.verifier_locals.specs.declared.graph.Node.{Node}
-use Rattle.verifier_reach.specs.Search.{IsClosed}
+use Rattle.verifier_reach.specs.Prelude.{IsClosed}
 use Rattle.verifier_locals.specs.Graph.{LeadsTo, IsGraph}
 
 -- the node names no local and leads only to this address

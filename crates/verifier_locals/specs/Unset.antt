@@ -1,11 +1,11 @@
 -- Own locals that are set before each read.
 use Rattle.std.specs.Prelude.{◌≡◌, ◌≢◌, ℕ, ◌/◌, ◌<◌, ◌≤◌, List, slice_get, Contains, Option, Some}
 use Rattle.ijvm_instr.specs.declared.row.Row.{Row}
-use Rattle.ijvm_image.specs.Image.{ImageView, params}
+use Rattle.ijvm_image.specs.Prelude.{ImageView, params}
 use Rattle.verifier_reach.specs.declared.kept.Kept.{Kept}
 use Rattle.verifier_locals.specs.declared.graph.Node.{Node}
 use Rattle.verifier_locals.specs.declared.unset.Wanted.{Wanted}
-use Rattle.verifier_facts.specs.Paths.{arrival, HasRow, IsOwn, Reached}
+use Rattle.verifier_facts.specs.Prelude.{arrival, HasRow, IsOwn, Reached}
 
 -- no path reads the method's local while it carries it as unset
 abbrev pub IsSetBefore : ImageView → ℕ → ℕ → Type 0

@@ -1,8 +1,8 @@
 //! Where the reached instructions lead in their units, and which locals they name.
 
 ghost use Rattle.std.specs.Prelude.{◌≡◌, ◌<◌, ◌≤◌, ◌+◌, length, Some, None, IfOk, IfErr};
-ghost use Rattle.ijvm_instr.specs.Instructions.{size_of};
-ghost use Rattle.verifier_reach.specs.Search.{IsClosed};
+ghost use Rattle.ijvm_instr.specs.Prelude.{size_of};
+ghost use Rattle.verifier_reach.specs.Prelude.{IsClosed};
 ghost use Rattle.verifier_locals.specs.Graph.{IsNodeOf, IsNodeAt, IsGraph};
 
 use ijvm_image::Image;

@@ -4,15 +4,14 @@ use Rattle.std.specs.Prelude.{slice_get}
 use Rattle.std.proofs.lemmas.Option.{same_Some}
 use Rattle.std.proofs.lemmas.Bool.{cases_lt, true≢false}
 use Rattle.std.proofs.lemmas.Bool.Decides.{eqb_tells}
-use Rattle.console_port.specs.Map.{IsMap}
+use Rattle.console_port.specs.Prelude.{IsMap}
 use Rattle.ijvm_instr.specs.declared.row.Row.{Row}
-use Rattle.ijvm_instr.specs.Instructions.{row_of, size_of, instr_at, target}
-use Rattle.ijvm_image.specs.Image.{ImageView}
+use Rattle.ijvm_instr.specs.Prelude.{row_of, size_of, instr_at, target}
+use Rattle.ijvm_image.specs.Prelude.{ImageView}
 use Rattle.verifier_facts.specs.declared.error.VerifyError.{VerifyError}
 use Rattle.verifier_facts.specs.declared.error.VerifyError.TheVariants as errors
-use Rattle.verifier_facts.specs.Paths.{Arrival, HasRow, IsWhole, HasNext, HasJump, HasConstant, need_of, need_by, GoesOn, left_unset, MayCarry, IsOwn, Goes, Enters, On, Into, Reached, Start, Then}
-use Rattle.verifier_facts.specs.Facts.{Names, IsWrongAt, MainNames, IsMainCount, Piece, Code, Header, Covers, Accepts}
-use Rattle.verifier_notes.specs.Noted.{Note, FindsMethod, Meets, IsNoted}
+use Rattle.verifier_facts.specs.Prelude.{Arrival, HasRow, IsWhole, HasNext, HasJump, HasConstant, need_of, need_by, GoesOn, left_unset, MayCarry, IsOwn, Goes, Enters, On, Into, Reached, Start, Then, Names, IsWrongAt, MainNames, IsMainCount, Piece, Code, Header, Covers, Accepts}
+use Rattle.verifier_notes.specs.Prelude.{Note, FindsMethod, Meets, IsNoted}
 
 module _ (image : ImageView) (note : ℕ → Option Note) (noted : IsNoted image note)
     (whole : (text : List ℕ) (at : ℕ) (r : Row) → HasRow text at r → IsWhole text at r) where

@@ -4,10 +4,9 @@ use Rattle.std.proofs.lemmas.Option.{same_Some}
 use Rattle.std.proofs.lemmas.Bool.{eqb-true}
 use Rattle.ijvm_instr.specs.declared.instr.Instr.{Instr}
 use Rattle.ijvm_instr.specs.declared.row.Row.{Row}
-use Rattle.ijvm_instr.specs.Instructions.{row_of, size_of, instr_at}
-use Rattle.ijvm_image.specs.Image.{ImageView}
-use Rattle.verifier_notes.specs.Noted.{Note, IsNoted}
-use Rattle.verifier_notes.specs.Listed.{Item, Code, Header, item_size, own_note, note_from, note_at, HasHeader, IsMet, AllMet, IsListed}
+use Rattle.ijvm_instr.specs.Prelude.{row_of, size_of, instr_at}
+use Rattle.ijvm_image.specs.Prelude.{ImageView}
+use Rattle.verifier_notes.specs.Prelude.{Note, IsNoted, Item, Code, Header, item_size, own_note, note_from, note_at, HasHeader, IsMet, AllMet, IsListed}
 
 -- what is found in a list stands at its start or after it
 after : (start : ℕ) (xs : List Item) (to : ℕ) (m : Note) → note_from start xs to ≡ Some m → start ≤ to

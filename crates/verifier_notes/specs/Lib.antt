@@ -1,3 +1,4 @@
 pub mod Noted
 pub mod Listed
 pub mod Seams
+pub mod Prelude

@@ -1,8 +1,8 @@
 -- A text as the list of its pieces from address 0 on: instructions, each with its note, and methods' headers.
 use Rattle.std.specs.Prelude.{◌≡◌, ◌⊎◌, ℕ, ◌+◌, ◌==◌, if◌then◌else◌, List, [], ◌∷◌, Option, Some, None}
 use Rattle.ijvm_instr.specs.declared.instr.Instr.{Instr}
-use Rattle.ijvm_instr.specs.Instructions.{row_of, size_of, instr_at}
-use Rattle.ijvm_image.specs.Image.{ImageView}
+use Rattle.ijvm_instr.specs.Prelude.{row_of, size_of, instr_at}
+use Rattle.ijvm_image.specs.Prelude.{ImageView}
 use Rattle.verifier_notes.specs.Noted.{Note, Meets}
 
 pub data Item : Type 0 where

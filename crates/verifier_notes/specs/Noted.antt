@@ -3,10 +3,9 @@
 use Rattle.std.specs.Prelude.{◌≡◌, ◌≢◌, ◌⊎◌, ℕ, ◌+◌, ◌<◌, ◌≤◌, Bool, true, false, length, slice_get, Option, Some, None}
 use Rattle.ijvm_instr.specs.declared.row.Row.{Row}
 use Rattle.ijvm_instr.specs.declared.row.Flow.TheVariants.{Call, Return}
-use Rattle.ijvm_instr.specs.Instructions.{size_of}
-use Rattle.ijvm_image.specs.Image.{ImageView, params, others}
-use Rattle.verifier_facts.specs.Paths.{HasRow, HasConstant, need_of, GoesOn, IsOwn}
-use Rattle.verifier_facts.specs.Facts.{Names}
+use Rattle.ijvm_instr.specs.Prelude.{size_of}
+use Rattle.ijvm_image.specs.Prelude.{ImageView, params, others}
+use Rattle.verifier_facts.specs.Prelude.{HasRow, HasConstant, need_of, GoesOn, IsOwn, Names}
 
 pub record Note : Type 0 where
   -- main is None, a method its entry

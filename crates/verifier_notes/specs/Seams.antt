@@ -3,9 +3,8 @@ use Rattle.std.proofs.Common.{◌≡◌, ◌≤◌, inl, inr, ⊎_elim, ℕ, ◌
 use Rattle.std.proofs.lemmas.Bool.{eq-eqb}
 use Rattle.std.proofs.lemmas.Bool.Decides.{eqb_tells}
 use Rattle.ijvm_instr.specs.declared.instr.Instr.{Instr}
-use Rattle.ijvm_instr.specs.Halves.{size_least}
-use Rattle.ijvm_instr.specs.Instructions.{row_of, size_of}
-use Rattle.ijvm_image.specs.Image.{ImageView}
+use Rattle.ijvm_instr.specs.Prelude.{size_least, row_of, size_of}
+use Rattle.ijvm_image.specs.Prelude.{ImageView}
 use Rattle.verifier_notes.specs.Noted.{Note}
 use Rattle.verifier_notes.specs.Listed.{AllMet, Code, HasHeader, Header, Item, item_size, items_size, note_at, note_from, own_note}
 

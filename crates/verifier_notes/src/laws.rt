@@ -1,9 +1,9 @@
 //! What notes say of an image.
 
 ghost use Rattle.std.specs.Prelude.{ℕ, List, Option};
-ghost use Rattle.console_port.specs.Map.{IsMap};
-ghost use Rattle.ijvm_image.specs.Image.{ImageView};
-ghost use Rattle.verifier_facts.specs.Facts.{Accepts};
+ghost use Rattle.console_port.specs.Prelude.{IsMap};
+ghost use Rattle.ijvm_image.specs.Prelude.{ImageView};
+ghost use Rattle.verifier_facts.specs.Prelude.{Accepts};
 ghost use Rattle.verifier_notes.specs.Listed.{Item, IsListed};
 ghost use Rattle.verifier_notes.specs.Noted.{Note, IsNoted};
 

@@ -10,17 +10,14 @@ use Rattle.ijvm_instr.specs.declared.instr.Instr.{Instr}
 use Rattle.ijvm_instr.specs.declared.row.Row.{Row}
 use Rattle.ijvm_instr.specs.declared.row.Flow.{Flow}
 use Rattle.ijvm_instr.specs.declared.row.Flow.TheVariants.{Call, Return}
-use Rattle.ijvm_instr.specs.Instructions.{row_of, size_of, of_bytes, instr_at}
+use Rattle.ijvm_instr.specs.Prelude.{row_of, size_of, of_bytes, instr_at, target}
 use Rattle.ijvm_image.specs.declared.method.Method.{Method}
-use Rattle.ijvm_image.specs.Image.{ImageView, method_at, params, others}
-use Rattle.ijvm_instr.specs.Instructions.{target}
+use Rattle.ijvm_image.specs.Prelude.{ImageView, method_at, params, others}
 use Rattle.verifier_reach.specs.declared.kept.Kept.{Kept}
 use Rattle.verifier_facts.specs.declared.error.VerifyError.{VerifyError}
 use Rattle.verifier_facts.specs.declared.error.VerifyError.TheVariants.{BadCode, FallsOff, BadTarget, Overlap, BadConstant, BadEntry, BadHeader, LinkSlot, BadLocal, UnsetLocal, TooFewArguments, Underflow, DepthDiffers, ReturnInMain, MainFrame, OutOfMemory}
-use Rattle.verifier_facts.specs.Paths.{Arrival, arrival, HasRow, HasConstant, callee, need_by, need_of, GoesOn, left_unset, On, Into, Reached, Start, Then, HasNext, HasJump}
-use Rattle.verifier_facts.specs.Facts.{Names, IsWrongAt, IsTrueOf, Code}
-use Rattle.verifier_reach.specs.Search.{kept_at, kept_of, IsChecked, empties, IsKept, IsDone, IsSearch, Grows, IsRunning, IsClosed, IsDecided}
-use Rattle.verifier_reach.specs.Places.{get_set_other, get_set_same}
+use Rattle.verifier_facts.specs.Prelude.{Arrival, arrival, HasRow, HasConstant, callee, need_by, need_of, GoesOn, left_unset, On, Into, Reached, Start, Then, HasNext, HasJump, Names, IsWrongAt, IsTrueOf, Code}
+use Rattle.verifier_reach.specs.Prelude.{kept_at, kept_of, IsChecked, empties, IsKept, IsDone, IsSearch, Grows, IsRunning, IsClosed, IsDecided, get_set_other, get_set_same}
 
 empties_set : (xs : List (Option Kept)) (i : ℕ) (k : Kept) → slice_get xs i ≡ Some None → empties (slice_set xs i (Some k)) + 1 ≡ empties xs
 empties_set [] i k is = cc

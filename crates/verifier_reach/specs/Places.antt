@@ -2,8 +2,8 @@
 use Rattle.std.proofs.Common.{◌≡◌, ◌≢◌, ℕ, zero, suc, ◌+◌, ◌<◌, Option, Some, List, [], ◌∷◌, length, refl, arith}
 use Rattle.std.specs.Prelude.{slice_get, slice_set}
 use Rattle.std.proofs.lemmas.Option.{slice_get_within}
-use Rattle.ijvm_image.specs.Image.{ImageView}
-use Rattle.verifier_facts.specs.Paths.{IsReachedMethod}
+use Rattle.ijvm_image.specs.Prelude.{ImageView}
+use Rattle.verifier_facts.specs.Prelude.{IsReachedMethod}
 use Rattle.verifier_reach.specs.declared.kept.Kept.{Kept}
 use Rattle.verifier_reach.specs.Search.{IsClosed, kept_of}
 

@@ -2,14 +2,12 @@
 use Rattle.std.specs.Prelude.{◌≡◌, ◌≢◌, ℕ, ℤ, ◌+◌, ◌*◌, ◌<◌, ◌≤◌, ◌⊎◌, List, [], ◌∷◌, ◌++◌, length, slice_get, Contains, Option, Some, None}
 use Rattle.ijvm_instr.specs.declared.row.Flow.TheVariants.{Return}
 use Rattle.ijvm_instr.specs.declared.row.Row.{Row}
-use Rattle.ijvm_instr.specs.Instructions.{size_of}
-use Rattle.ijvm_image.specs.Image.{ImageView, params, others}
-use Rattle.ijvm_instr.specs.Instructions.{target}
+use Rattle.ijvm_instr.specs.Prelude.{size_of, target}
+use Rattle.ijvm_image.specs.Prelude.{ImageView, params, others}
 use Rattle.verifier_facts.specs.declared.error.VerifyError.{VerifyError}
 use Rattle.verifier_facts.specs.declared.error.VerifyError.TheVariants.{UnsetLocal, Overlap, MainFrame, OutOfMemory}
 use Rattle.verifier_reach.specs.declared.kept.Kept.{Kept}
-use Rattle.verifier_facts.specs.Paths.{Arrival, arrival, HasRow, IsWhole, HasConstant, HasNext, HasJump, need_of, Follows, Reached, IsReachedMethod}
-use Rattle.verifier_facts.specs.Facts.{Names, IsTrueOf}
+use Rattle.verifier_facts.specs.Prelude.{Arrival, arrival, HasRow, IsWhole, HasConstant, HasNext, HasJump, need_of, Follows, Reached, IsReachedMethod, Names, IsTrueOf}
 
 -- a refusal is true, whatever the stack's end, or memory has run out
 abbrev pub States : ImageView → VerifyError → Type 0

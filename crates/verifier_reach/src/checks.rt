@@ -1,11 +1,9 @@
 //! What can be wrong at one reached address.
 
 ghost use Rattle.std.specs.Prelude.{◌≡◌, ◌≢◌, ◌+◌, ◌<◌, ◌≤◌, ◌^◌, length, ℕ, ℤ, Some, None, IfOk, IfErr, OnOk};
-ghost use Rattle.ijvm_instr.specs.Instructions.{instr_at, row_of, size_of};
-ghost use Rattle.ijvm_image.specs.Image.{params, others};
-ghost use Rattle.ijvm_instr.specs.Instructions.{target};
-ghost use Rattle.verifier_facts.specs.Paths.{HasRow, IsWhole, HasConstant, HasNext, HasJump, need_of};
-ghost use Rattle.verifier_facts.specs.Facts.{Names, IsWrongAt};
+ghost use Rattle.ijvm_instr.specs.Prelude.{instr_at, row_of, size_of, target};
+ghost use Rattle.ijvm_image.specs.Prelude.{params, others};
+ghost use Rattle.verifier_facts.specs.Prelude.{HasRow, IsWhole, HasConstant, HasNext, HasJump, need_of, Names, IsWrongAt};
 ghost use Rattle.verifier_reach.specs.Search.{kept_at, IsChecked, HasLocal};
 
 use crate::code::{constant_at, decode, others_of, params_of, text_len};

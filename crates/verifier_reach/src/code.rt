@@ -1,9 +1,9 @@
 //! Reading the parts of an image.
 
 ghost use Rattle.std.specs.Prelude.{◌≡◌, ◌+◌, ◌*◌, ◌≤◌, ◌<◌, ◌^◌, length, slice_get, slice_index, IfSome};
-ghost use Rattle.ijvm_instr.specs.Instructions.{row_of, instr_at};
-ghost use Rattle.ijvm_image.specs.Image.{params, others};
-ghost use Rattle.verifier_facts.specs.Paths.{IsWhole};
+ghost use Rattle.ijvm_instr.specs.Prelude.{row_of, instr_at};
+ghost use Rattle.ijvm_image.specs.Prelude.{params, others};
+ghost use Rattle.verifier_facts.specs.Prelude.{IsWhole};
 
 use ijvm_image::Image;
 use ijvm_instr::{Instr, decode_at};

@@ -2,8 +2,7 @@
 
 ghost use Rattle.std.specs.Prelude.{◌≡◌, ◌+◌, ◌*◌, ◌<◌, ◌≤◌, ℕ, [], length, slice_get, replicate, Some, None, IfOk, IfErr, OnOk, IfSome, IfNone};
 ghost use Rattle.verifier_facts.specs.declared.error.VerifyError.{VerifyError};
-ghost use Rattle.verifier_facts.specs.Paths.{Reached};
-ghost use Rattle.verifier_facts.specs.Facts.{IsTrueOf};
+ghost use Rattle.verifier_facts.specs.Prelude.{Reached, IsTrueOf};
 ghost use Rattle.verifier_reach.specs.Search.{kept_at, States, IsChecked, IsTaken, IsDone, AllFollow, IsSearch, Grows, IsRunning, IsClosed, IsDecided, empties, AreKept, IsBegun};
 
 use crate::checks::{Found, check_at};

@@ -1,5 +1,5 @@
 use Rattle.std.proofs.Common.{◌≡◌, rules}
-use Rattle.cli_boards.specs.Runs.{report_on}
+use Rattle.cli_boards.specs.Prelude.{report_on}
 use Rattle.cli_boards.proofs.report.report_after.Goals as goal
 
 pub returns : goal.returns

@@ -1,9 +1,8 @@
 use Rattle.std.proofs.Common.{◌≡◌, ◌∙◌, ap, map, rules}
 use Rattle.std.specs.Prelude.{string_bytes}
-use Rattle.cli_words.specs.Words.{request_of}
-use Rattle.cli_outside.specs.Outside.{FilesState, OutsideView, SinkState, SourceState, files_of, outside_view, sink_of, source_of}
-use Rattle.cli_outside.specs.Given.{given_back}
-use Rattle.cli_call.specs.CallEnds.{CallEnds}
+use Rattle.cli_words.specs.Prelude.{request_of}
+use Rattle.cli_outside.specs.Prelude.{FilesState, OutsideView, SinkState, SourceState, files_of, outside_view, sink_of, source_of, given_back}
+use Rattle.cli_call.specs.Prelude.{CallEnds}
 use Rattle.cli_call.proofs.answers.mic_main.Goals as goal
 
 -- an outside is what its parts are

@@ -1,25 +1,19 @@
 use Rattle.std.proofs.Common.{◌≡◌, ℕ, List, Some, None, subst}
-use Rattle.mic_base.specs.Files.{Contents}
+use Rattle.mic_base.specs.Prelude.{Contents}
 use Rattle.mic_words.specs.declared.machine.Machine.TheVariants.{Mic1}
 use Rattle.console_port.specs.declared.map.MemoryMap.{MemoryMap}
-use Rattle.mic_clock.specs.Run.{HasOneEnd}
-use Rattle.mic1_datapath.specs.Mic1.{mic1_meaning}
-use Rattle.mic1_datapath.specs.View.{micro_of}
-use Rattle.mal_parser.specs.Program.{MalView}
+use Rattle.mic_clock.specs.Prelude.{HasOneEnd}
+use Rattle.mic1_datapath.specs.Prelude.{mic1_meaning, micro_of}
+use Rattle.mal_parser.specs.Prelude.{MalView}
 use Rattle.mal_shipped.specs.declared.loaded.Loaded.{Loaded}
-use Rattle.mal_shipped.specs.Listing.{listed_program}
-use Rattle.mal_shipped.specs.Loaded.{IsLoadedFor}
-use Rattle.mal_shipped.specs.Shipped.{HasShipped}
-use Rattle.verifier_facts.specs.Accepted.{VerifiedView}
-use Rattle.cli_outside.specs.Outside.{OutsideView}
-use Rattle.cli_outside.specs.Work.{Did, Ends, NotHad}
-use Rattle.cli_words.specs.Words.{Cache, Run}
-use Rattle.cli_programs.specs.Program.{IsAcceptedProgram, IsRefusedProgram}
-use Rattle.cli_boards.specs.Cached.{IsCached}
-use Rattle.cli_boards.specs.Commands.{EndsCache}
-use Rattle.cli_boards.specs.Prepared.{Unprepared, Clocked, NoProgram, NoMicroprogram}
-use Rattle.cli_call.specs.Agree.{CallsAgree, CountsTheRun, IsQuiet}
-use Rattle.cli_call.specs.CallEnds.{CallEnds, Done, NoRoom}
+use Rattle.mal_shipped.specs.Prelude.{listed_program, IsLoadedFor, HasShipped}
+use Rattle.verifier_facts.specs.Prelude.{VerifiedView}
+use Rattle.cli_outside.specs.Prelude.{OutsideView, Did, Ends, NotHad}
+use Rattle.cli_words.specs.Prelude.{Cache, Run}
+use Rattle.cli_programs.specs.Prelude.{IsAcceptedProgram, IsRefusedProgram}
+use Rattle.cli_boards.specs.Prelude.{IsCached, EndsCache, Unprepared, Clocked, NoProgram, NoMicroprogram}
+use Rattle.cli_call.specs.Prelude.{CallsAgree, CountsTheRun, IsQuiet, CallEnds}
+use Rattle.cli_call.specs.CallEnds.{Done, NoRoom}
 use Rattle.cli_call.proofs.Agreeing.{said}
 use Rattle.cli_call.proofs.CachedRun.{cache_counts}
 use Rattle.cli_call.proofs.TwoCalls.{both_end}

@@ -1,20 +1,22 @@
 use Rattle.std.proofs.Common.{◌≡◌, ◌≢◌, ℕ, List, Some}
-use Rattle.mic_base.specs.Files.{Contents}
+use Rattle.mic_base.specs.Prelude.{Contents}
 use Rattle.mic_words.specs.declared.machine.Machine.TheVariants.{Mic1, Mic2}
 use Rattle.console_port.specs.declared.map.MemoryMap.{MemoryMap}
-use Rattle.mic1_datapath.specs.Mic1.{mic1_meaning, IsReady as IsReady1}
+use Rattle.mic1_datapath.specs.Mic1.{IsReady as IsReady1}
+use Rattle.mic1_datapath.specs.Prelude.{mic1_meaning}
 use Rattle.mic1_datapath.specs.View.{micro_of as micro_of1}
-use Rattle.mic2_datapath.specs.Mic2.{mic2_meaning, IsReady as IsReady2}
+use Rattle.mic2_datapath.specs.Mic2.{IsReady as IsReady2}
+use Rattle.mic2_datapath.specs.Prelude.{mic2_meaning}
 use Rattle.mic2_datapath.specs.View.{micro_of as micro_of2}
-use Rattle.mal_shipped.specs.Shipped.{HasShipped}
-use Rattle.ijvm_meaning.specs.Cost.{timing_of}
-use Rattle.verifier_facts.specs.Accepted.{VerifiedView}
+use Rattle.mal_shipped.specs.Prelude.{HasShipped}
+use Rattle.ijvm_meaning.specs.Prelude.{timing_of}
+use Rattle.verifier_facts.specs.Prelude.{VerifiedView}
 use Rattle.cli_outside.specs.Status as exits
-use Rattle.cli_outside.specs.Outside.{OutsideView}
-use Rattle.cli_words.specs.Words.{Run}
-use Rattle.cli_programs.specs.Program.{IsAcceptedProgram, IsRefusedProgram}
-use Rattle.cli_call.specs.Agree.{CallsAgree, CallsEndAlike, IsQuiet}
-use Rattle.cli_call.specs.CallEnds.{CallEnds, Done, NoRoom}
+use Rattle.cli_outside.specs.Prelude.{OutsideView}
+use Rattle.cli_words.specs.Prelude.{Run}
+use Rattle.cli_programs.specs.Prelude.{IsAcceptedProgram, IsRefusedProgram}
+use Rattle.cli_call.specs.Prelude.{CallsAgree, CallsEndAlike, IsQuiet, CallEnds}
+use Rattle.cli_call.specs.CallEnds.{Done, NoRoom}
 use Rattle.cli_call.proofs.Agreeing.{said}
 use Rattle.cli_call.proofs.Machines.{BoardsAgree, end_alike}
 use Rattle.cli_call.proofs.TwoCalls.{both_end}

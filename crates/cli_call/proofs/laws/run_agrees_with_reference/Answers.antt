@@ -1,19 +1,21 @@
 use Rattle.std.proofs.Common.{◌≡◌, ℕ, List, Some}
-use Rattle.mic_base.specs.Files.{Contents}
+use Rattle.mic_base.specs.Prelude.{Contents}
 use Rattle.mic_words.specs.declared.machine.Machine.{Machine}
 use Rattle.mic_words.specs.declared.machine.Machine.TheVariants.{Mic1, Mic2}
 use Rattle.console_port.specs.declared.map.MemoryMap.{MemoryMap}
-use Rattle.mic1_datapath.specs.Mic1.{mic1_meaning, IsReady as IsReady1}
+use Rattle.mic1_datapath.specs.Mic1.{IsReady as IsReady1}
+use Rattle.mic1_datapath.specs.Prelude.{mic1_meaning}
 use Rattle.mic1_datapath.specs.View.{micro_of as micro_of1}
-use Rattle.mic2_datapath.specs.Mic2.{mic2_meaning, IsReady as IsReady2}
+use Rattle.mic2_datapath.specs.Mic2.{IsReady as IsReady2}
+use Rattle.mic2_datapath.specs.Prelude.{mic2_meaning}
 use Rattle.mic2_datapath.specs.View.{micro_of as micro_of2}
-use Rattle.mal_shipped.specs.Shipped.{HasShipped}
-use Rattle.verifier_facts.specs.Accepted.{VerifiedView}
-use Rattle.cli_outside.specs.Outside.{OutsideView}
-use Rattle.cli_words.specs.Words.{Reference, Run}
-use Rattle.cli_programs.specs.Program.{IsAcceptedProgram, IsRefusedProgram}
-use Rattle.cli_call.specs.Agree.{Agrees, CallsAgree, IsQuiet}
-use Rattle.cli_call.specs.CallEnds.{CallEnds, Done, EndsAs, NoRoom}
+use Rattle.mal_shipped.specs.Prelude.{HasShipped}
+use Rattle.verifier_facts.specs.Prelude.{VerifiedView}
+use Rattle.cli_outside.specs.Prelude.{OutsideView}
+use Rattle.cli_words.specs.Prelude.{Reference, Run}
+use Rattle.cli_programs.specs.Prelude.{IsAcceptedProgram, IsRefusedProgram}
+use Rattle.cli_call.specs.Prelude.{Agrees, CallsAgree, IsQuiet, CallEnds, EndsAs}
+use Rattle.cli_call.specs.CallEnds.{Done, NoRoom}
 use Rattle.cli_call.proofs.Agreeing.{OneEnd, agree, said}
 use Rattle.cli_call.proofs.TwoCalls.{both_end}
 use Rattle.cli_call.proofs.laws.run_agrees_with_reference.Goals as goal

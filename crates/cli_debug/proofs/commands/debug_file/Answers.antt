@@ -1,5 +1,5 @@
-use Rattle.cli_boards.specs.Prepared.{Clocked, Unprepared}
-use Rattle.cli_session.specs.Input.{HasInput, NoInput}
+use Rattle.cli_boards.specs.Prelude.{Clocked, Unprepared}
+use Rattle.cli_session.specs.Prelude.{HasInput, NoInput}
 use Rattle.cli_debug.proofs.commands.debug_file.Goals as goal
 
 pub returns-in-Err : goal.returns-in-Err

@@ -1,8 +1,7 @@
 use Rattle.std.proofs.Common.{◌∙◌, ap, sym, subst}
-use Rattle.micro_word.specs.ControlStore.{ControlStore, IsStore}
-use Rattle.cli_outside.specs.Work.{refusal_by}
-use Rattle.cli_micro.specs.Answers.{OfStoreFile}
-use Rattle.cli_micro.specs.Texts.{listing}
+use Rattle.micro_word.specs.Prelude.{ControlStore, IsStore}
+use Rattle.cli_outside.specs.Prelude.{refusal_by}
+use Rattle.cli_micro.specs.Prelude.{OfStoreFile, listing}
 use Rattle.cli_micro.proofs.Answering.{no_store}
 use Rattle.cli_micro.proofs.listing.listed.Goals as goal
 

@@ -1,5 +1,5 @@
 use Rattle.std.proofs.Common.{◌∙◌, sym}
-use Rattle.cli_micro.specs.Texts.{store_line}
+use Rattle.cli_micro.specs.Prelude.{store_line}
 use Rattle.cli_micro.proofs.Lined.{line_added, lined_none}
 use Rattle.cli_micro.proofs.listing.listing.Goals as goal
 

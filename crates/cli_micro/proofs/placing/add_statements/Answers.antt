@@ -1,4 +1,4 @@
-use Rattle.cli_micro.specs.Texts.{statement_line}
+use Rattle.cli_micro.specs.Prelude.{statement_line}
 use Rattle.cli_micro.proofs.Lined.{line_added_after, nothing_added}
 use Rattle.cli_micro.proofs.placing.add_statements.Goals as goal
 

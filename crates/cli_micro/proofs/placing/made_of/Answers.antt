@@ -1,7 +1,6 @@
 use Rattle.std.proofs.Common.{◌∙◌, ap, refl}
-use Rattle.cli_outside.specs.Work.{refusal_by}
-use Rattle.cli_micro.specs.Answers.{NoPlacement}
-use Rattle.cli_micro.specs.Refused.{names_inside, no_program}
+use Rattle.cli_outside.specs.Prelude.{refusal_by}
+use Rattle.cli_micro.specs.Prelude.{NoPlacement, names_inside, no_program}
 use Rattle.cli_micro.proofs.Answering.{chosen_by, refused_by}
 use Rattle.cli_micro.proofs.placing.made_of.Goals as goal
 

@@ -1,4 +1,4 @@
-use Rattle.mic_base.specs.Putting.{puts_passed}
+use Rattle.mic_base.specs.Prelude.{puts_passed}
 use Rattle.cli_outside.proofs.said.flush_after.Goals as goal
 
 pub returns-clause-puts : goal.returns-clause-puts

@@ -1,5 +1,5 @@
 use Rattle.std.proofs.lemmas.Result.{err_from_is_err_and}
-use Rattle.mic_base.specs.Putting.{puts_first, puts_then}
+use Rattle.mic_base.specs.Prelude.{puts_first, puts_then}
 use Rattle.cli_outside.proofs.said.put_after.Goals as goal
 
 pub returns-clause-puts : goal.returns-clause-puts

@@ -1,6 +1,6 @@
 use Rattle.std.proofs.Common.{refl}
 use Rattle.std.proofs.lemmas.Result.{on_ok_weaker}
-use Rattle.cli_program_texts.specs.Listing.{Instruction, instr_line}
+use Rattle.cli_program_texts.specs.Prelude.{Instruction, instr_line}
 use Rattle.cli_program_texts.proofs.listing.push_address.Goals as goal
 
 pub returns-in-Start : goal.returns-in-Start

@@ -1,5 +1,5 @@
 use Rattle.std.proofs.Common.{◌≡◌, ◌++◌, drop}
-use Rattle.cli_program_texts.specs.Listing.{pool_text}
+use Rattle.cli_program_texts.specs.Prelude.{pool_text}
 use Rattle.cli_program_texts.proofs.listing.push_pool.Given as goal
 
 abbrev pub invariant-loop-index : goal.invariant-loop-index

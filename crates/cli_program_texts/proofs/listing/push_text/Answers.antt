@@ -1,6 +1,6 @@
 use Rattle.std.proofs.Common.{◌∙◌, ◌≡◌, ◌++◌, ℕ, List, [], ◌∷◌, ap, sym, subst, length, arith}
-use Rattle.ijvm_image.specs.Image.{ImageView}
-use Rattle.cli_program_texts.specs.Listing.{AreListingLines}
+use Rattle.ijvm_image.specs.Prelude.{ImageView}
+use Rattle.cli_program_texts.specs.Prelude.{AreListingLines}
 use Rattle.std.proofs.lemmas.List.{append-nil}
 use Rattle.cli_program_texts.proofs.Lines.{concat_step, more_lines, no_lines}
 use Rattle.cli_program_texts.proofs.listing.push_text.Goals as goal

@@ -1,6 +1,6 @@
 use Rattle.std.proofs.Common.{◌≡◌, ℕ, List, ◌++◌}
 use Rattle.std.specs.List.{concat}
-use Rattle.cli_program_texts.specs.Listing.{AreListingLines}
+use Rattle.cli_program_texts.specs.Prelude.{AreListingLines}
 use Rattle.cli_program_texts.proofs.listing.push_text.Given as goal
 
 abbrev pub invariant-loop-at : goal.invariant-loop-at

@@ -1,4 +1,4 @@
-use Rattle.cli_outside.specs.Ways.{did, not_had, short}
+use Rattle.cli_outside.specs.Prelude.{did, not_had, short}
 use Rattle.cli_programs.proofs.compile.compile_file.Goals as goal
 
 pub returns-in-Err : goal.returns-in-Err

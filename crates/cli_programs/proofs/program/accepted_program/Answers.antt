@@ -1,6 +1,6 @@
 use Rattle.std.proofs.Common.{rules, ◌∙◌, ap}
-use Rattle.cli_outside.specs.Work.{IsRefusal, refusal_by}
-use Rattle.cli_programs.specs.Program.{IsRefusedProgram}
+use Rattle.cli_outside.specs.Prelude.{IsRefusal, refusal_by}
+use Rattle.cli_programs.specs.Prelude.{IsRefusedProgram}
 use Rattle.cli_programs.proofs.Reasons.{not_accepted}
 use Rattle.cli_programs.proofs.program.accepted_program.Goals as goal
 

@@ -1,5 +1,5 @@
 use Rattle.std.proofs.Common.{◌∙◌, ap}
-use Rattle.cli_outside.specs.Work.{refusal_by}
+use Rattle.cli_outside.specs.Prelude.{refusal_by}
 use Rattle.cli_programs.proofs.Reasons.{no_image}
 use Rattle.cli_programs.proofs.program.image_of.Goals as goal
 

@@ -1,4 +1,4 @@
-use Rattle.cli_outside.specs.Ways.{did, not_had}
+use Rattle.cli_outside.specs.Prelude.{did, not_had}
 use Rattle.cli_programs.proofs.reference.reference_file.Goals as goal
 
 pub returns-in-Ok : goal.returns-in-Ok

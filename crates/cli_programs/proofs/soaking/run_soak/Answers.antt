@@ -2,8 +2,7 @@ use Rattle.std.proofs.Common.{◌≡◌, ◌∙◌, ℕ, List, Some, length, sym
 use Rattle.mic_clock.specs.declared.end.End.{End}
 use Rattle.mic_clock.specs.declared.counts.Counts.{Counts}
 use Rattle.mic_clock.specs.declared.registers.Registers.{Registers}
-use Rattle.cli_programs.specs.SoakSummary.{soak_summary}
-use Rattle.cli_programs.specs.SoakEnds.{NoRoom}
+use Rattle.cli_programs.specs.Prelude.{soak_summary, NoRoom}
 use Rattle.cli_programs.proofs.SoakEnding.{ends_by}
 use Rattle.cli_programs.proofs.soaking.run_soak.Goals as goal
 

@@ -1,4 +1,4 @@
-use Rattle.cli_programs.specs.SoakEnds.{NoRoom}
+use Rattle.cli_programs.specs.Prelude.{NoRoom}
 use Rattle.cli_programs.proofs.soaking.soak.Goals as goal
 
 pub returns-in-Ok : goal.returns-in-Ok

@@ -1,8 +1,8 @@
 use Rattle.std.proofs.Common.{None}
-use Rattle.mic_base.specs.Plain.{plain_left}
-use Rattle.cli_outside.specs.Outside.{sink_of}
-use Rattle.cli_rewind.specs.Stand.{GoesForward}
-use Rattle.cli_rewind.specs.Moves.{Went, scene}
+use Rattle.mic_base.specs.Prelude.{plain_left}
+use Rattle.cli_outside.specs.Prelude.{sink_of}
+use Rattle.cli_rewind.specs.Prelude.{GoesForward, scene}
+use Rattle.cli_rewind.specs.Moves.{Went}
 use Rattle.cli_rewind.proofs.moves.go_forward.Given as goal
 
 -- this many cycles were made, and none was an end

@@ -1,8 +1,7 @@
 use Rattle.std.proofs.Common.{Bool, ◌∙◌, refl, ap}
 use Rattle.std.specs.Prelude.{nat_le}
-use Rattle.mic_rewind.specs.States.{Snapshot}
-use Rattle.cli_rewind.specs.Lines.{back_text}
-use Rattle.cli_rewind.specs.Stand.{back, kept}
+use Rattle.mic_rewind.specs.Prelude.{Snapshot}
+use Rattle.cli_rewind.specs.Prelude.{back_text, back, kept}
 use Rattle.cli_rewind.proofs.Composing.{said_here, same_board_words}
 use Rattle.cli_rewind.proofs.replies.back.Goals as goal
 

@@ -1,7 +1,7 @@
 use Rattle.std.proofs.Common.{◌≤◌, ◌^◌, Some, arith}
-use Rattle.mic_base.specs.Plain.{plain_left}
-use Rattle.mic_rewind.specs.States.{Snapshot}
-use Rattle.cli_rewind.specs.Lines.{forward_text}
+use Rattle.mic_base.specs.Prelude.{plain_left}
+use Rattle.mic_rewind.specs.Prelude.{Snapshot}
+use Rattle.cli_rewind.specs.Prelude.{forward_text}
 use Rattle.cli_rewind.proofs.Composing.{said_here, same_words, went_as}
 use Rattle.cli_rewind.proofs.replies.micro.Goals as goal
 

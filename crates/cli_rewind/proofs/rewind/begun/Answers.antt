@@ -1,14 +1,11 @@
 use Rattle.std.proofs.Common.{◌≡◌, ℕ, Bool, false, List, [], Option, Some, None, refl, sym, ap, subst}
 use Rattle.std.proofs.lemmas.List.{append-nil}
 use Rattle.std.specs.Prelude.{unwrap_or}
-use Rattle.console_port.specs.Bus.{Shows}
-use Rattle.console_port.specs.Console.{Given, Untaken}
-use Rattle.console_port.specs.View.{BusView}
-use Rattle.console_port.specs.World.{World}
+use Rattle.console_port.specs.Prelude.{Shows, Given, Untaken, BusView, World}
 use Rattle.console_port.specs.declared.map.MemoryMap.{MemoryMap}
-use Rattle.mic_clock.specs.View.{BoardView}
-use Rattle.mic_image_board.specs.Reset.{reset_run}
-use Rattle.mic_rewind.specs.View.{HistoryView}
+use Rattle.mic_clock.specs.Prelude.{BoardView}
+use Rattle.mic_image_board.specs.Prelude.{reset_run}
+use Rattle.mic_rewind.specs.Prelude.{HistoryView}
 use Rattle.cli_rewind.proofs.Answering.{starts}
 use Rattle.cli_rewind.proofs.rewind.begun.Goals as goal
 

@@ -1,8 +1,8 @@
 use Rattle.std.proofs.Common.{◌≡◌, ◌∙◌, Some, None, sym, ap, arith}
-use Rattle.mic_base.specs.Plain.{plain_left}
+use Rattle.mic_base.specs.Prelude.{plain_left}
 use Rattle.mic_clock.specs.declared.counts.Counts.{Counts}
 use Rattle.mic_clock.specs.declared.end.End.TheVariants as ends
-use Rattle.cli_rewind.specs.Rewinding.{rewinding_view}
+use Rattle.cli_rewind.specs.Prelude.{rewinding_view}
 use Rattle.cli_rewind.specs.Rewound.{Went}
 use Rattle.cli_rewind.proofs.rewind.rewind_program.Goals as goal
 

@@ -1,7 +1,7 @@
 use Rattle.std.proofs.Common.{None}
-use Rattle.mic_base.specs.Plain.{plain_left}
-use Rattle.cli_outside.specs.Outside.{files_state, sink_of, SinkState, source_state}
-use Rattle.cli_session.specs.Fronts.{on_err_of}
+use Rattle.mic_base.specs.Prelude.{plain_left}
+use Rattle.cli_outside.specs.Prelude.{files_state, sink_of, SinkState, source_state}
+use Rattle.cli_session.specs.Prelude.{on_err_of}
 use Rattle.cli_rewind.proofs.Answering.{cut_short, gone, lasts, told_short}
 use Rattle.cli_rewind.proofs.rewinding.do_line.Given.{Over}
 use Rattle.cli_rewind.proofs.rewinding.do_line.Goals as goal

@@ -1,5 +1,5 @@
 use Rattle.std.proofs.Common.{codes, ◌∙◌, append_assoc}
-use Rattle.mic_base.specs.Digits.{hex_text}
+use Rattle.mic_base.specs.Prelude.{hex_text}
 use Rattle.cli_run_texts.proofs.ends.end_name.Goals as goal
 
 pub returns-in-OutOfMap-clause-text : goal.returns-in-OutOfMap-clause-text

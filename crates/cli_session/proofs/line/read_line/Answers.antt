@@ -1,7 +1,7 @@
 use Rattle.std.proofs.Common.{Ok, subst, sym, ◌∙◌, rules}
 use Rattle.mic_base.specs.declared.source.SourceFailed.{SourceFailed}
 use Rattle.cli_session.specs.declared.line.Read.{Read}
-use Rattle.cli_session.specs.Told.{ReadsLine}
+use Rattle.cli_session.specs.Prelude.{ReadsLine}
 use Rattle.cli_session.proofs.LineLemmas.{read_at_end, read_ended, read_full, reading_more}
 use Rattle.cli_session.proofs.line.read_line.Goals as goal
 

@@ -1,6 +1,6 @@
 use Rattle.std.proofs.Common.{◌≡◌, ◌≢◌, ◌<◌, ◌-◌, ◌∙◌, suc, arith, refl, rules}
 use Rattle.cli_session.specs.declared.lines.Step.TheVariants as steps
-use Rattle.cli_session.specs.Lines.{most_lines}
+use Rattle.cli_session.specs.Prelude.{most_lines}
 use Rattle.cli_session.proofs.Going.{goes_more, goes_over, goes_start, kept_on}
 use Rattle.cli_session.proofs.lines.do_lines.Goals as goal
 

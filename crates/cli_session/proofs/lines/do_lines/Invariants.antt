@@ -1,8 +1,6 @@
 use Rattle.std.proofs.Common.{◌≡◌}
 use Rattle.cli_session.specs.declared.lines.Step.TheVariants as steps
-use Rattle.cli_session.specs.Lines.{most_lines}
-use Rattle.cli_session.specs.Meaning.{place}
-use Rattle.cli_session.specs.Goes.{Goes}
+use Rattle.cli_session.specs.Prelude.{most_lines, place, Goes}
 use Rattle.cli_session.proofs.lines.do_lines.Given as goal
 
 -- the lines so far were done

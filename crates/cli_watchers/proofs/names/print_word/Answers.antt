@@ -1,6 +1,6 @@
 use Rattle.std.proofs.Common.{codes, refl, arith}
-use Rattle.mal_parser.specs.ProgramText.{parts_text}
-use Rattle.cli_watchers.specs.Naming.{Placed, Unused, default_text, label_text}
+use Rattle.mal_parser.specs.Prelude.{parts_text}
+use Rattle.cli_watchers.specs.Prelude.{Placed, Unused, default_text, label_text}
 use Rattle.cli_watchers.proofs.Placed.{placed_count}
 use Rattle.cli_watchers.proofs.names.print_word.Goals as goal
 

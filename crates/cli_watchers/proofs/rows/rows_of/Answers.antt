@@ -1,6 +1,6 @@
 use Rattle.std.proofs.Common.{◌≡◌, ◌∙◌, ◌+◌, [], ℕ, List, length, ap, sym, subst, arith}
-use Rattle.ijvm_image.specs.Image.{ImageView}
-use Rattle.cli_watchers.specs.Rows.{AreRowsUpTo}
+use Rattle.ijvm_image.specs.Prelude.{ImageView}
+use Rattle.cli_watchers.specs.Prelude.{AreRowsUpTo}
 use Rattle.cli_watchers.proofs.Listed.{more_rows, no_rows}
 use Rattle.cli_watchers.proofs.rows.rows_of.Goals as goal
 

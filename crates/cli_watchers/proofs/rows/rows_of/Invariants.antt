@@ -1,4 +1,4 @@
-use Rattle.cli_watchers.specs.Rows.{AreRowsUpTo}
+use Rattle.cli_watchers.specs.Prelude.{AreRowsUpTo}
 use Rattle.cli_watchers.proofs.rows.rows_of.Given as goal
 
 -- the rows so far

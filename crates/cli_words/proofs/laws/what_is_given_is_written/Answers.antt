@@ -1,4 +1,4 @@
-use Rattle.cli_words.specs.Table.{form_for}
+use Rattle.cli_words.specs.Prelude.{form_for}
 use Rattle.cli_words.proofs.Spelled.{spelled}
 use Rattle.cli_words.proofs.Taken.{taken}
 use Rattle.cli_words.proofs.Tidy.{tidy}

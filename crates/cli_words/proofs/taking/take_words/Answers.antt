@@ -9,8 +9,7 @@ use Rattle.clap.specs.Faults.{fault_of, is_simple_and_free}
 use Rattle.clap.specs.declared.error.Error.{Error}
 use Rattle.clap.specs.declared.error.kind.ErrorKind.TheVariants.{OutOfMemory}
 use Rattle.clap.specs.declared.parser.matches.ArgMatches.{ArgMatches}
-use Rattle.cli_words.specs.Reading.{Entry, Form, Text, reads}
-use Rattle.cli_words.specs.Taking.{HoldsGiven, app_for, bytes_of, form_of}
+use Rattle.cli_words.specs.Prelude.{Entry, Form, Text, reads, HoldsGiven, app_for, bytes_of, form_of}
 use Rattle.cli_words.proofs.Rules.{app_is, free_for}
 use Rattle.cli_words.proofs.Ends.{Agrees, agrees_with}
 use Rattle.cli_words.proofs.Getting.{holds}

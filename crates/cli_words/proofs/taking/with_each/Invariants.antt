@@ -1,6 +1,6 @@
 use Rattle.std.proofs.Common.{◌≡◌, drop}
 use Rattle.clap.specs.Words.{app_of}
-use Rattle.cli_words.specs.Taking.{rules_in, texts_of, with_rules}
+use Rattle.cli_words.specs.Prelude.{rules_in, texts_of, with_rules}
 use Rattle.cli_words.proofs.taking.with_each.Given as goal
 
 -- what is left to add to the command so far makes what all the names make of the first one

@@ -1,5 +1,5 @@
 use Rattle.std.proofs.Common.{◌≡◌, ◌<◌, ◌≤◌, ℕ, length, slice_index}
-use Rattle.console_port.specs.Loading.{text_word}
+use Rattle.console_port.specs.Prelude.{text_word}
 use Rattle.console_port.proofs.loading.write_text.Given as goal
 
 abbrev pub invariant-loop-at : goal.invariant-loop-at

@@ -1,10 +1,7 @@
 use Rattle.std.proofs.Common.{◌≡◌, false, subst}
 use Rattle.std.proofs.lemmas.Result.{err_from_is_err_and}
-use Rattle.source_text.specs.Content.{contents}
-use Rattle.source_text.specs.Walk.{Leads, StopsAt}
-use Rattle.ijvm_asm.specs.Drafts.{is_memory}
-use Rattle.ijvm_asm.specs.Text.{IsRefused}
-use Rattle.ijvm_asm.specs.Adding.{step}
+use Rattle.source_text.specs.Prelude.{contents, Leads, StopsAt}
+use Rattle.ijvm_asm.specs.Prelude.{is_memory, IsRefused, step}
 use Rattle.ijvm_asm.proofs.Outcome.{is_refused, is_spelled}
 use Rattle.ijvm_asm.proofs.parse.parse_source.Goals as goal
 

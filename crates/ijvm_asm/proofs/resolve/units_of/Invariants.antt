@@ -1,5 +1,5 @@
 use Rattle.std.proofs.Common.{◌≡◌, [], length}
-use Rattle.ijvm_asm.specs.ReadingNames.{units_from}
+use Rattle.ijvm_asm.specs.Prelude.{units_from}
 use Rattle.ijvm_asm.proofs.resolve.units_of.Given as goal
 
 abbrev pub invariant-loop-first : goal.invariant-loop-first

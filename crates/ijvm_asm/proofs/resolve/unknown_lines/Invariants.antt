@@ -1,5 +1,5 @@
 use Rattle.std.proofs.Common.{◌≡◌, length}
-use Rattle.ijvm_asm.specs.ReadingNames.{unknown_lines}
+use Rattle.ijvm_asm.specs.Prelude.{unknown_lines}
 use Rattle.ijvm_asm.proofs.resolve.unknown_lines.Given as goal
 
 abbrev pub invariant-loop-first : goal.invariant-loop-first

@@ -1,5 +1,5 @@
 use Rattle.std.proofs.Common.{◌≡◌, length}
-use Rattle.ijvm_asm.specs.ReadingNames.{unknown_units}
+use Rattle.ijvm_asm.specs.Prelude.{unknown_units}
 use Rattle.ijvm_asm.proofs.resolve.unknown_units.Given as goal
 
 abbrev pub invariant-loop-first : goal.invariant-loop-first

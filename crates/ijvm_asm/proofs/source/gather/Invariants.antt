@@ -1,5 +1,5 @@
 use Rattle.std.proofs.Common.{◌≡◌, [], length}
-use Rattle.ijvm_asm.specs.Adding.{gather}
+use Rattle.ijvm_asm.specs.Prelude.{gather}
 use Rattle.ijvm_asm.proofs.source.gather.Given as goal
 
 abbrev pub invariant-loop-first : goal.invariant-loop-first

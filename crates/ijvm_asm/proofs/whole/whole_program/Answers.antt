@@ -1,6 +1,5 @@
 use Rattle.std.proofs.Common.{◌≡◌, Some, None, ◌∙◌, subst, sym, rules}
-use Rattle.ijvm_asm.specs.Source.{Source}
-use Rattle.ijvm_asm.specs.ReadingNames.{missing}
+use Rattle.ijvm_asm.specs.Prelude.{Source, missing}
 use Rattle.ijvm_asm.proofs.Programs.{parts_are_program}
 use Rattle.ijvm_asm.proofs.whole.whole_program.Goals as goal
 

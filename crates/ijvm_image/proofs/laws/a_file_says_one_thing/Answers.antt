@@ -1,5 +1,5 @@
 use Rattle.std.proofs.Common.{◌≡◌, Ok}
-use Rattle.ijvm_image.specs.Reading.{image_read}
+use Rattle.ijvm_image.specs.Prelude.{image_read}
 use Rattle.ijvm_image.proofs.Files.{file-read}
 use Rattle.ijvm_image.proofs.Refusals.{not_refused}
 use Rattle.ijvm_image.proofs.laws.a_file_says_one_thing.Goals as goal

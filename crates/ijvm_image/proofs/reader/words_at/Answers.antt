@@ -1,6 +1,5 @@
 use Rattle.std.proofs.Common.{◌≡◌, ◌+◌, ◌*◌, [], ◌∷◌, ◌++◌}
-use Rattle.ijvm_image.specs.ImageFile.{word_at}
-use Rattle.ijvm_image.specs.Reading.{words_at}
+use Rattle.ijvm_image.specs.Prelude.{word_at, words_at}
 use Rattle.ijvm_image.proofs.Files.{words_at-more}
 use Rattle.ijvm_image.proofs.reader.words_at.Goals as goal
 

@@ -1,5 +1,5 @@
 use Rattle.std.proofs.Common.{◌≡◌}
-use Rattle.ijvm_image.specs.Reading.{words_at}
+use Rattle.ijvm_image.specs.Prelude.{words_at}
 use Rattle.ijvm_image.proofs.reader.words_at.Given as goal
 
 abbrev pub invariant-loop-i : goal.invariant-loop-i

@@ -1,6 +1,6 @@
 use Rattle.std.proofs.Common.{◌≡◌, ℕ, ◌*◌, List, ◌++◌, length, append_assoc, ap, sym, ◌∙◌}
 use Rattle.std.specs.List.{flat_map}
-use Rattle.ijvm_image.specs.ImageFile.{word_bytes}
+use Rattle.ijvm_image.specs.Prelude.{word_bytes}
 use Rattle.ijvm_image.proofs.Files.{length-words}
 use Rattle.ijvm_image.proofs.writer.push_pool.Goals as goal
 

@@ -1,6 +1,6 @@
 use Rattle.std.proofs.Common.{◌≡◌, ◌<◌, ℕ, List, ◌++◌, length, take, slice_index, append_assoc, ap, sym, ◌∙◌, arith}
 use Rattle.std.specs.List.{flat_map}
-use Rattle.ijvm_image.specs.ImageFile.{word_bytes}
+use Rattle.ijvm_image.specs.Prelude.{word_bytes}
 use Rattle.ijvm_image.proofs.Files.{flat_words-more}
 use Rattle.ijvm_image.proofs.writer.push_words.Goals as goal
 

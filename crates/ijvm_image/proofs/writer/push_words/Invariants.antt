@@ -1,6 +1,6 @@
 use Rattle.std.proofs.Common.{◌≡◌, ◌++◌, take}
 use Rattle.std.specs.List.{flat_map}
-use Rattle.ijvm_image.specs.ImageFile.{word_bytes}
+use Rattle.ijvm_image.specs.Prelude.{word_bytes}
 use Rattle.ijvm_image.proofs.writer.push_words.Given as goal
 
 abbrev pub invariant-loop-word : goal.invariant-loop-word

@@ -1,7 +1,7 @@
 use Rattle.std.proofs.Common.{◌≡◌, ◌<◌, ◌≤◌, All, ℕ, Some, None, length, take, sym, ◌∙◌, ap, subst}
 use Rattle.std.proofs.lemmas.List.Elements.{All-from_get_or}
 use Rattle.ijvm_instr.specs.declared.instr.Instr.{Instr}
-use Rattle.ijvm_instr.specs.Instructions.{instr_at, row_of, size_of, SpellsInstr}
+use Rattle.ijvm_instr.specs.Prelude.{instr_at, row_of, size_of, SpellsInstr}
 use Rattle.ijvm_instr.proofs.Spelled.{front-decoded, decoded-front, length-spelled}
 use Rattle.ijvm_instr.proofs.decode.decode_instr.Goals as goal
 

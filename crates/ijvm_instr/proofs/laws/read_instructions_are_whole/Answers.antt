@@ -1,6 +1,6 @@
 use Rattle.std.specs.Prelude.{◌++◌, length}
 use Rattle.std.proofs.Common.{refl, inl}
-use Rattle.ijvm_instr.specs.Instructions.{spelling}
+use Rattle.ijvm_instr.specs.Prelude.{spelling}
 use Rattle.ijvm_instr.proofs.Spelled.{instr_at-begins, instr_at-ends, instr_at-real, instr_at-spelled, part_stands}
 use Rattle.ijvm_instr.proofs.laws.read_instructions_are_whole.Goals as goal
 

@@ -1,5 +1,5 @@
 use Rattle.std.proofs.Common.{◌≡◌, length}
-use Rattle.ijvm_line.specs.Reading.{is_more}
+use Rattle.ijvm_line.specs.Prelude.{is_more}
 use Rattle.ijvm_line.proofs.parameters.is_more.Given as goal
 
 abbrev pub invariant-loop-rest : goal.invariant-loop-rest

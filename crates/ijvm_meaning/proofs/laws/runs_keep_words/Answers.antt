@@ -1,8 +1,8 @@
 use Rattle.std.proofs.Common.{◌≡◌, ◌<◌, ℕ, Some, length}
 use Rattle.ijvm_instr.specs.declared.instr.Instr.{Instr}
-use Rattle.ijvm_instr.specs.Instructions.{IsInstr, instr_at}
-use Rattle.ijvm_image.specs.Image.{ImageView, IsImage}
-use Rattle.ijvm_meaning.specs.Run.{first_point}
+use Rattle.ijvm_instr.specs.Prelude.{IsInstr, instr_at}
+use Rattle.ijvm_image.specs.Prelude.{ImageView, IsImage}
+use Rattle.ijvm_meaning.specs.Prelude.{first_point}
 use Rattle.ijvm_meaning.proofs.Words.{goes_words, limits_words, start_words, passed_words}
 use Rattle.ijvm_meaning.proofs.laws.runs_keep_words.Goals as goal
 

@@ -2,10 +2,9 @@ use Rattle.std.proofs.Common.{◌≡◌, ◌<◌, ◌≤◌, ◌+◌, ◌∷◌,
 use Rattle.std.specs.Prelude.{slice_get}
 use Rattle.std.proofs.lemmas.Bool.{leb-false, leb-true}
 use Rattle.ijvm_image.specs.declared.method.Method.{Method}
-use Rattle.ijvm_image.specs.Image.{method_at}
-use Rattle.ijvm_meaning.specs.Frames.{base}
-use Rattle.ijvm_meaning.specs.Step.{Goes, called_at}
-use Rattle.ijvm_reference.specs.Machine.{MachineView, state_of, in_call}
+use Rattle.ijvm_image.specs.Prelude.{method_at}
+use Rattle.ijvm_meaning.specs.Prelude.{base, Goes, called_at}
+use Rattle.ijvm_reference.specs.Prelude.{MachineView, state_of, in_call}
 use Rattle.ijvm_reference.proofs.Calls.{call-went, call-limit}
 use Rattle.ijvm_reference.proofs.compute.call.Goals as goal
 

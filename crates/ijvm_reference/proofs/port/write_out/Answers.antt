@@ -1,6 +1,6 @@
 use Rattle.std.proofs.Common.{rules, Some, refl}
 use Rattle.ijvm_instr.specs.declared.instr.Instr.TheVariants.{Out}
-use Rattle.ijvm_reference.specs.Steps.{IsCutOff, StepFails}
+use Rattle.ijvm_reference.specs.Prelude.{IsCutOff, StepFails}
 use Rattle.ijvm_reference.proofs.port.write_out.Goals as goal
 
 pub returns-in_err-give_byte-clause-err : goal.returns-in_err-give_byte-clause-err

@@ -1,4 +1,4 @@
-use Rattle.ijvm_simulation.specs.Stands.{IsAt}
+use Rattle.ijvm_simulation.specs.Prelude.{IsAt}
 use Rattle.ijvm_simulation.proofs.Groups.{takes, takes_with_stalls}
 use Rattle.ijvm_simulation.proofs.laws.groups_are_all.Goals as goal
 

@@ -1,5 +1,5 @@
 use Rattle.ijvm_simulation.proofs.Next.{Known}
-use Rattle.ijvm_simulation.specs.Promises.{Promises}
+use Rattle.ijvm_simulation.specs.Prelude.{Promises}
 use Rattle.ijvm_simulation.proofs.Ending.{ends_as_defined}
 use Rattle.ijvm_simulation.proofs.laws.shipped_runs_end_as_defined.Goals as goal
 

@@ -1,4 +1,4 @@
-use Rattle.ijvm_simulation.specs.Stands.{IsAt}
+use Rattle.ijvm_simulation.specs.Prelude.{IsAt}
 use Rattle.ijvm_simulation.proofs.Next.{Known}
 use Rattle.ijvm_simulation.proofs.Stalls.{stalled_at, cut_at}
 use Rattle.ijvm_simulation.proofs.laws.stalls_add_up.Goals as goal

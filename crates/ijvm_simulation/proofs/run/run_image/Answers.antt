@@ -1,6 +1,5 @@
 use Rattle.std.proofs.Common.{◌≡◌}
-use Rattle.ijvm_simulation.specs.Interpretation.{Reading}
-use Rattle.ijvm_simulation.specs.Promises.{Promises}
+use Rattle.ijvm_simulation.specs.Prelude.{Reading, Promises}
 use Rattle.ijvm_simulation.proofs.Stores.{promises_of_store, runs_of_store, reads_of_store, writes_of_store}
 use Rattle.ijvm_simulation.proofs.run.run_image.Given.{Over}
 use Rattle.ijvm_simulation.proofs.run.run_image.Goals as goal

@@ -1,6 +1,6 @@
 use Rattle.std.proofs.Common.{◌≡◌, ◌++◌, take}
 use Rattle.std.specs.List.{flat_map}
-use Rattle.ijvm_instr.specs.Instructions.{spelling}
+use Rattle.ijvm_instr.specs.Prelude.{spelling}
 use Rattle.ijvm_soak.proofs.code.push_code.Given as goal
 
 abbrev pub invariant-loop-instr : goal.invariant-loop-instr

@@ -1,7 +1,7 @@
 use Rattle.std.proofs.Common.{◌≡◌, ◌++◌}
 use Rattle.std.specs.List.{flat_map}
-use Rattle.ijvm_instr.specs.Instructions.{spelling}
-use Rattle.ijvm_soak.specs.Generated.{blocks}
+use Rattle.ijvm_instr.specs.Prelude.{spelling}
+use Rattle.ijvm_soak.specs.Prelude.{blocks}
 use Rattle.ijvm_soak.proofs.code.push_main.Given as goal
 
 abbrev pub invariant-loop-place : goal.invariant-loop-place

@@ -1,5 +1,5 @@
 use Rattle.std.proofs.Common.{◌≡◌, ◌∙◌, ◌≤◌, ◌+◌, ℕ, List, [], ◌∷◌, ◌++◌, length, length-append, ap, arith}
-use Rattle.ijvm_soak.specs.Generated.{generated, main_text, method_text}
+use Rattle.ijvm_soak.specs.Prelude.{generated, main_text, method_text}
 use Rattle.ijvm_soak.proofs.image.generate.Goals as goal
 
 pub overflow_cast-entry : goal.overflow_cast-entry

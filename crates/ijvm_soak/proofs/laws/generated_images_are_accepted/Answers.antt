@@ -1,4 +1,4 @@
-use Rattle.ijvm_soak.specs.Generated.{generated}
+use Rattle.ijvm_soak.specs.Prelude.{generated}
 use Rattle.ijvm_soak.proofs.Notes.{items_of, listed}
 use Rattle.ijvm_soak.proofs.laws.generated_images_are_accepted.Goals as goal
 

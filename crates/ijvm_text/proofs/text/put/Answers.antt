@@ -1,6 +1,6 @@
 use Rattle.std.proofs.Common.{◌++◌, ap, ◌∙◌}
 use Rattle.std.proofs.lemmas.Result.{on_ok_weaker}
-use Rattle.ijvm_text.specs.Adding.{one}
+use Rattle.ijvm_text.specs.Prelude.{one}
 use Rattle.ijvm_text.proofs.text.put.Goals as goal
 
 pub returns : goal.returns

@@ -1,5 +1,5 @@
 use Rattle.std.proofs.Common.{◌≡◌, ℕ, arith, subst, length}
-use Rattle.ijvm_verifier.specs.Counted.{IsCounted}
+use Rattle.ijvm_verifier.specs.Prelude.{IsCounted}
 use Rattle.ijvm_verifier.proofs.Counts.{counted_all}
 use Rattle.ijvm_verifier.proofs.count.count_locals.Goals as goal
 

@@ -1,5 +1,5 @@
 use Rattle.std.proofs.Common.{◌≤◌}
-use Rattle.ijvm_verifier.specs.Counted.{IsCounted}
+use Rattle.ijvm_verifier.specs.Prelude.{IsCounted}
 use Rattle.ijvm_verifier.proofs.count.count_locals.Given as goal
 
 abbrev pub invariant-loop-at : goal.invariant-loop-at

@@ -1,4 +1,4 @@
-use Rattle.ijvm_verifier.specs.Sweep.{AreMethodsBelow}
+use Rattle.ijvm_verifier.specs.Prelude.{AreMethodsBelow}
 use Rattle.ijvm_verifier.proofs.sweep.count_methods.Given as goal
 
 abbrev pub invariant-loop-at : goal.invariant-loop-at

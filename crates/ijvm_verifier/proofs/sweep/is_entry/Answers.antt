@@ -2,7 +2,7 @@ use Rattle.std.proofs.Common.{◌≡◌, ◌<◌, ◌+◌, ◌∙◌, ap, sym, a
 use Rattle.std.specs.Prelude.{slice_get, ◌==◌}
 use Rattle.std.proofs.lemmas.Bool.{eqb-true, eq-eqb}
 use Rattle.std.proofs.lemmas.Option.{slice_get-get_or, slice_get_within, same_Some}
-use Rattle.verifier_reach.specs.Search.{kept_of}
+use Rattle.verifier_reach.specs.Prelude.{kept_of}
 use Rattle.ijvm_verifier.proofs.Swept.{entry_kept, kept_entry, one_unit}
 use Rattle.ijvm_verifier.proofs.sweep.is_entry.Goals as goal
 

@@ -1,9 +1,8 @@
 use Rattle.std.proofs.Common.{◌≡◌, ◌<◌, ◌+◌, ◌*◌, ◌∙◌, refl, arith, sym, inr, Some, None, ap}
 use Rattle.std.specs.Prelude.{slice_get}
 use Rattle.std.proofs.lemmas.Option.{slice_get-get_or}
-use Rattle.ijvm_instr.specs.Instructions.{row_of, size_of}
-use Rattle.verifier_facts.specs.Paths.{HasRow}
-use Rattle.verifier_facts.specs.Facts.{Code}
+use Rattle.ijvm_instr.specs.Prelude.{row_of, size_of}
+use Rattle.verifier_facts.specs.Prelude.{HasRow, Code}
 use Rattle.ijvm_verifier.proofs.Swept.{swept_skip, swept_add, swept_clash, code_none, code_only, code_covers}
 use Rattle.ijvm_verifier.proofs.sweep.sweep_code.Goals as goal
 

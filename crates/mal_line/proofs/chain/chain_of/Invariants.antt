@@ -1,5 +1,5 @@
 use Rattle.std.proofs.Common.{◌≡◌, ◌-◌, ◌≤◌, length, false, drop}
-use Rattle.mal_line.specs.Reading.{chain_at}
+use Rattle.mal_line.specs.Prelude.{chain_at}
 use Rattle.mal_line.proofs.chain.chain_of.Given as goal
 
 abbrev pub invariant-loop-at : goal.invariant-loop-at

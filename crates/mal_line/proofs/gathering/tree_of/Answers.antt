@@ -1,5 +1,5 @@
 use Rattle.std.proofs.Common.{◌≡◌, ◌∙◌, Bool, Some, None, ap, sym, if◌then◌else◌}
-use Rattle.mal_line.specs.Reading.{add_tokens}
+use Rattle.mal_line.specs.Prelude.{add_tokens}
 use Rattle.mal_line.proofs.Splitting.{adds_more, adds_last, adds_none}
 use Rattle.mal_line.proofs.gathering.tree_of.Goals as goal
 

@@ -1,6 +1,5 @@
 use Rattle.std.proofs.Common.{◌≡◌, length}
-use Rattle.mal_line.specs.Statements.{pieces}
-use Rattle.mal_line.specs.Reading.{adds, tree_of}
+use Rattle.mal_line.specs.Prelude.{pieces, adds, tree_of}
 use Rattle.mal_line.proofs.gathering.tree_of.Given as goal
 
 abbrev pub invariant-loop-behind : goal.invariant-loop-behind

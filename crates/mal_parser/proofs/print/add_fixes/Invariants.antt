@@ -1,6 +1,6 @@
 use Rattle.std.proofs.Common.{◌≡◌, ◌++◌, take}
 use Rattle.std.specs.List.{filter_map}
-use Rattle.mal_parser.specs.ProgramText.{fix_line, text_of}
+use Rattle.mal_parser.specs.Prelude.{fix_line, text_of}
 use Rattle.mal_parser.proofs.print.add_fixes.Given as goal
 
 abbrev pub invariant-loop-s : goal.invariant-loop-s

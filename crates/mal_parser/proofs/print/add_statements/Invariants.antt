@@ -1,5 +1,5 @@
 use Rattle.std.proofs.Common.{◌≡◌, ◌++◌, take, map}
-use Rattle.mal_parser.specs.ProgramText.{labelled_line, text_of}
+use Rattle.mal_parser.specs.Prelude.{labelled_line, text_of}
 use Rattle.mal_parser.proofs.print.add_statements.Given as goal
 
 abbrev pub invariant-loop-s : goal.invariant-loop-s

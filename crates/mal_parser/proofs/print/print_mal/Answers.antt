@@ -1,6 +1,5 @@
 use Rattle.std.proofs.Common.{◌≡◌, subst, sym}
-use Rattle.mal_parser.specs.ProgramText.{canonical_text, relined}
-use Rattle.mal_parser.specs.Text.{SpellsProgram}
+use Rattle.mal_parser.specs.Prelude.{canonical_text, relined, SpellsProgram}
 use Rattle.mal_parser.proofs.Printing.{mal_text}
 use Rattle.mal_parser.proofs.print.print_mal.Goals as goal
 

@@ -1,5 +1,5 @@
 use Rattle.std.proofs.Common.{◌≡◌, ◌∙◌, sym, ap, None, Some}
-use Rattle.mal_parser.specs.Reading.{first_falling, first_unknown, main1, number_of, Sketch}
+use Rattle.mal_parser.specs.Prelude.{first_falling, first_unknown, main1, number_of, Sketch}
 use Rattle.mal_parser.proofs.Resolved.{program_is, program_made}
 use Rattle.mal_parser.proofs.resolve.resolved_program.Goals as goal
 

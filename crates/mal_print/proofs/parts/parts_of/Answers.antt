@@ -1,5 +1,5 @@
 use Rattle.std.proofs.Common.{◌≤◌, subst, sym}
-use Rattle.mal_print.specs.Printed.{width}
+use Rattle.mal_print.specs.Prelude.{width}
 use Rattle.mal_print.proofs.Widths.{one_after_other, parts_width}
 use Rattle.mal_print.proofs.parts.parts_of.Goals as goal
 

@@ -1,5 +1,5 @@
 use Rattle.std.proofs.Common.{◌≡◌, ◌+◌, ◌≤◌, ◌++◌, false, length}
-use Rattle.mal_print.specs.Printed.{printed_after, width}
+use Rattle.mal_print.specs.Prelude.{printed_after, width}
 use Rattle.mal_print.proofs.printing.print_tokens.Given as goal
 
 abbrev pub invariant-loop-token : goal.invariant-loop-token

@@ -1,13 +1,9 @@
 use Rattle.std.proofs.Common.{◌≡◌, true, false, refl, sym, ap, ◌∙◌, subst}
 use Rattle.std.specs.Prelude.{slice_index}
-use Rattle.mal_parser.specs.Program.{MalView}
-use Rattle.mal_parser.specs.ProgramText.{relined}
-use Rattle.store_placement.specs.Chosen.{IsChosenList}
-use Rattle.store_placement.specs.Demands.{Demands}
-use Rattle.store_placement.specs.Placement.{HasPlacement}
-use Rattle.store_placement.specs.Program.{demands_of, IsFilled}
+use Rattle.mal_parser.specs.Prelude.{MalView, relined}
+use Rattle.store_placement.specs.Prelude.{IsChosenList, Demands, HasPlacement, demands_of, IsFilled}
 use Rattle.mal_shipped.specs.declared.loaded.Loaded.{Loaded}
-use Rattle.mal_shipped.specs.Listing.{listed_program, addresses_of}
+use Rattle.mal_shipped.specs.Prelude.{listed_program, addresses_of}
 use Rattle.mal_shipped.proofs.Lines.{machine_of, same_demands, filled_again}
 use Rattle.mal_shipped.proofs.loaded.shipped_store.Goals as goal
 

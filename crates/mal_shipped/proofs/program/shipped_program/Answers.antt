@@ -1,6 +1,6 @@
 use Rattle.std.proofs.Common.{sym, subst}
-use Rattle.mal_parser.specs.Program.{IsMalProgram, MalView}
-use Rattle.mal_shipped.specs.Listing.{unlined}
+use Rattle.mal_parser.specs.Prelude.{IsMalProgram, MalView}
+use Rattle.mal_shipped.specs.Prelude.{unlined}
 use Rattle.mal_shipped.proofs.Lines.{unlined_is_program}
 use Rattle.mal_shipped.proofs.program.shipped_program.Goals as goal
 

@@ -1,7 +1,6 @@
 use Rattle.std.proofs.Common.{◌≡◌, ◌∙◌, sym, ap, subst, refl, ℕ, ◌/◌, ◌%◌, false, List, length, map, rules, Option, Some, slice_get, slice_set}
 use Rattle.mem_cache.specs.declared.lines.CacheLine.{CacheLine}
-use Rattle.mem_cache.specs.Lines.{AreLines, block_in}
-use Rattle.mem_cache.specs.Tally.{has_block}
+use Rattle.mem_cache.specs.Prelude.{AreLines, block_in, has_block}
 use Rattle.mem_cache.proofs.Holding.{changed_none, changed_some, kept_blocks}
 use Rattle.mem_cache.proofs.lines.change.Goals as goal
 

@@ -1,8 +1,7 @@
 use Rattle.std.proofs.Common.{[]}
 use Rattle.std.proofs.lemmas.Result.{on_ok_weaker}
-use Rattle.ijvm_text.specs.Adding.{then}
-use Rattle.ijvm_text.specs.Bytes.{code_bytes}
-use Rattle.method_linker.specs.Linked.{header_of, unit_code, unit_jumps}
+use Rattle.ijvm_text.specs.Prelude.{then, code_bytes}
+use Rattle.method_linker.specs.Prelude.{header_of, unit_code, unit_jumps}
 use Rattle.method_linker.proofs.method.push_text.Goals as goal
 
 pub returns : goal.returns

@@ -1,5 +1,5 @@
 use Rattle.std.proofs.Common.{◌≡◌, ap, ◌∙◌, bit_and, bit_xor}
-use Rattle.mic1_alu.specs.Gates.{enabled, combined}
+use Rattle.mic1_alu.specs.Prelude.{enabled, combined}
 use Rattle.mic1_alu.proofs.Lines.{through}
 use Rattle.mic1_alu.proofs.gates.alu.Goals as goal
 

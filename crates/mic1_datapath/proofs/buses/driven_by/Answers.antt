@@ -1,9 +1,7 @@
 use Rattle.std.proofs.Common.{◌≡◌, ℕ, false, slice_index, ap, ◌∙◌}
-use Rattle.micro_word.specs.Coding.{statement_of}
+use Rattle.micro_word.specs.Prelude.{statement_of}
 use Rattle.mic_words.specs.declared.machine.Machine.TheVariants as machines
-use Rattle.mic1_datapath.specs.Microstep.{source}
-use Rattle.mic1_datapath.specs.Mic1.{driven}
-use Rattle.mic1_datapath.specs.Latches.{micro_in}
+use Rattle.mic1_datapath.specs.Prelude.{source, driven, micro_in}
 use Rattle.mic1_datapath.proofs.Sources.{at_place}
 use Rattle.mic1_datapath.proofs.buses.driven_by.Goals as goal
 

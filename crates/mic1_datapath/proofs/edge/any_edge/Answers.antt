@@ -1,8 +1,7 @@
 use Rattle.std.proofs.Common.{ℕ, Err, ◌∙◌, ap, refl}
-use Rattle.micro_word.specs.Coding.{statement_of, mem_of}
+use Rattle.micro_word.specs.Prelude.{statement_of, mem_of}
 use Rattle.mic_words.specs.declared.machine.Machine.TheVariants as machines
-use Rattle.mic1_datapath.specs.Microstep.{settled, next_micro}
-use Rattle.mic1_datapath.specs.Latches.{micro_in}
+use Rattle.mic1_datapath.specs.Prelude.{settled, next_micro, micro_in}
 use Rattle.mic1_datapath.proofs.Passed.{streams_passed}
 use Rattle.mic1_datapath.proofs.Steps.{edge_done, edge_fails, edge_waits, is_asked}
 use Rattle.mic1_datapath.proofs.edge.any_edge.Goals as goal

@@ -1,10 +1,7 @@
 use Rattle.std.proofs.Common.{inl, refl, subst, sym}
-use Rattle.console_port.specs.View.{BusView}
-use Rattle.mic_clock.specs.Edge.{IsEdgeOver}
-use Rattle.mic1_datapath.specs.Cycle.{IsAtEdge}
-use Rattle.mic1_datapath.specs.Mic1.{mic1_meaning}
-use Rattle.mic1_datapath.specs.Latches.{micro_in}
-use Rattle.mic1_datapath.specs.Micro.{Micro}
+use Rattle.console_port.specs.Prelude.{BusView}
+use Rattle.mic_clock.specs.Prelude.{IsEdgeOver}
+use Rattle.mic1_datapath.specs.Prelude.{IsAtEdge, mic1_meaning, micro_in, Micro}
 use Rattle.mic1_datapath.specs.declared.latches.Latches.{Latches}
 use Rattle.mic1_datapath.proofs.edge.edge.Goals as goal
 

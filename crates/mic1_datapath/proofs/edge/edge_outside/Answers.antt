@@ -1,6 +1,5 @@
-use Rattle.mic_datapath.specs.Edges.{edge_passed}
-use Rattle.mic1_datapath.specs.Latches.{micro_in}
-use Rattle.mic1_datapath.specs.Mic1.{mic1_meaning}
+use Rattle.mic_datapath.specs.Prelude.{edge_passed}
+use Rattle.mic1_datapath.specs.Prelude.{micro_in, mic1_meaning}
 use Rattle.mic1_datapath.proofs.edge.edge_outside.Goals as goal
 
 pub returns-in_err-any_edge-clause-edge : goal.returns-in_err-any_edge-clause-edge

@@ -1,10 +1,7 @@
 use Rattle.std.proofs.Common.{ℕ, IsTrue, slice_index, ap, sym, subst, ◌∙◌}
 use Rattle.mic_words.specs.declared.machine.Machine.{Machine}
 use Rattle.mic_words.specs.declared.machine.Machine.TheVariants as machines
-use Rattle.micro_word.specs.Words.{is_canonical}
-use Rattle.micro_word.specs.Coding.{statement_of}
-use Rattle.micro_word.specs.Layout.{fields_of}
-use Rattle.micro_word.specs.Lines.{AreLines}
+use Rattle.micro_word.specs.Prelude.{is_canonical, statement_of, fields_of, AreLines}
 use Rattle.micro_word.specs.declared.layout.Fields.{Fields}
 use Rattle.mic2_datapath.proofs.Demands.{takes_are}
 use Rattle.mic2_datapath.proofs.control.decoded_at.Goals as goal

@@ -1,7 +1,6 @@
 use Rattle.std.proofs.Common.{ap}
 use Rattle.micro_word.specs.declared.statement.Placed.{Placed}
-use Rattle.mic2_datapath.specs.Mic2.{step_of_word}
-use Rattle.mic2_datapath.specs.Microstep.{microstep}
+use Rattle.mic2_datapath.specs.Prelude.{step_of_word, microstep}
 use Rattle.mic2_datapath.proofs.laws.step_law.Goals as goal
 
 pub returns : goal.returns

@@ -1,4 +1,4 @@
-use Rattle.mic2_interpreter.specs.Stalls.{stalls_of}
+use Rattle.mic2_interpreter.specs.Prelude.{stalls_of}
 use Rattle.mic2_interpreter.proofs.laws.runs_stall_at_calls.Goals as goal
 
 pub returns-clause-boundaries : goal.returns-clause-boundaries

@@ -1,11 +1,11 @@
 use Rattle.mic_words.specs.declared.machine.Machine.TheVariants.{Mic2}
-use Rattle.ijvm_meaning.specs.Cost.{timing_of}
+use Rattle.ijvm_meaning.specs.Prelude.{timing_of}
 use Rattle.mic2_interpreter.proofs.Store.{Known, known}
 use Rattle.mic2_interpreter.proofs.Boot.{boots}
 use Rattle.mic2_interpreter.proofs.Instructions.{operands, locals, consoles}
 use Rattle.mic2_interpreter.proofs.Jumps.{jumping}
 use Rattle.mic2_interpreter.proofs.Calls.{calls}
-use Rattle.mic2_interpreter.specs.Stalls.{stalls_of}
+use Rattle.mic2_interpreter.specs.Prelude.{stalls_of}
 use Rattle.mic2_interpreter.proofs.laws.stalls_law.Goals as goal
 
 pub returns-clause-boots : goal.returns-clause-boots

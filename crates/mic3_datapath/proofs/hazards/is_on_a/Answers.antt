@@ -1,7 +1,6 @@
 use Rattle.std.proofs.Common.{ℕ, ap, ◌∙◌}
 use Rattle.mic_words.specs.declared.machine.Machine.TheVariants as machines
-use Rattle.micro_word.specs.Coding.{statement_of}
-use Rattle.micro_word.specs.Lines.{names}
+use Rattle.micro_word.specs.Prelude.{statement_of, names}
 use Rattle.mic3_datapath.proofs.Bits.{side_named}
 use Rattle.mic3_datapath.proofs.hazards.is_on_a.Goals as goal
 

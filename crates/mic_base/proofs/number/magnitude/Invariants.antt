@@ -1,5 +1,5 @@
 use Rattle.std.proofs.Common.{◌≡◌, min, take}
-use Rattle.mic_base.specs.Digits.{value_of}
+use Rattle.mic_base.specs.Prelude.{value_of}
 use Rattle.mic_base.proofs.number.magnitude.Given as goal
 
 abbrev pub invariant-loop-byte : goal.invariant-loop-byte

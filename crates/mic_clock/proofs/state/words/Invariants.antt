@@ -1,5 +1,5 @@
 use Rattle.std.proofs.Common.{◌≡◌, ◌≤◌, ◌+◌, ◌*◌, ◌++◌, length, take, map}
-use Rattle.mic_clock.specs.State.{rows_text, word}
+use Rattle.mic_clock.specs.Prelude.{rows_text, word}
 use Rattle.mic_clock.proofs.state.words.Given as goal
 
 -- the rows so far

@@ -1,7 +1,5 @@
 use Rattle.std.proofs.Common.{◌≡◌, Bool, None, sym, ap, ◌∙◌, rules}
-use Rattle.mic_clock.specs.Run.{end_before, counts_after}
-use Rattle.mic_clock.specs.Rule.{EndsBefore}
-use Rattle.mic_clock.specs.Parts.{board_of}
+use Rattle.mic_clock.specs.Prelude.{end_before, counts_after, EndsBefore, board_of}
 use Rattle.mic_clock.proofs.Rules.{ends_as_ruled, counted_as_ruled}
 use Rattle.mic_clock.proofs.Turns.{led-done}
 use Rattle.mic_clock.proofs.turning.turn_inside.Goals as goal

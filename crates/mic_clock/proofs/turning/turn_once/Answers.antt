@@ -1,12 +1,7 @@
 use Rattle.std.proofs.Common.{◌≡◌, Bool, None, Some, Option, sym, ap, ◌∙◌, subst, rules}
-use Rattle.console_port.specs.World.{World}
-use Rattle.console_port.specs.Bus.{Shows}
+use Rattle.console_port.specs.Prelude.{World, Shows}
 use Rattle.mic_clock.specs.declared.end.End.{End}
-use Rattle.mic_clock.specs.Meaning.{refusal_in}
-use Rattle.mic_clock.specs.Run.{end_before, counts_after, word_at}
-use Rattle.mic_clock.specs.Rule.{EndsBefore}
-use Rattle.mic_clock.specs.Board.{NoFault, tick_of}
-use Rattle.mic_clock.specs.Parts.{board_of, counts_of}
+use Rattle.mic_clock.specs.Prelude.{refusal_in, end_before, counts_after, word_at, EndsBefore, NoFault, tick_of, board_of, counts_of}
 use Rattle.mic_clock.proofs.Rules.{ends_as_ruled, ended_as_ruled, counted_as_ruled, tick_counted}
 use Rattle.mic_clock.proofs.Turns.{led-refused, led-done, no_fault}
 use Rattle.mic_clock.proofs.turning.turn_once.Goals as goal

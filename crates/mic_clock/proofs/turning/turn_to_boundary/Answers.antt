@@ -1,11 +1,8 @@
 use Rattle.std.proofs.Common.{◌≡◌, ◌≤◌, ◌+◌, ℕ, suc, Option, None, false, inl, refl, sym, ◌∙◌, ap, subst, rules, arith}
 use Rattle.console_port.specs.declared.fault.BusFault.TheVariants as faults
-use Rattle.micro_word.specs.ControlStore.{ControlStore}
-use Rattle.mic_clock.specs.Run.{MicroRun, IsLeg, word_at, last_cycles}
+use Rattle.micro_word.specs.Prelude.{ControlStore}
+use Rattle.mic_clock.specs.Prelude.{MicroRun, IsLeg, word_at, last_cycles, BoardView, NoFault, IsTurned, IsCutByFault, GoesOn, InTime, board_of, ChangesByTurn}
 use Rattle.mic_clock.specs.declared.running.Running.{Running}
-use Rattle.mic_clock.specs.View.{BoardView}
-use Rattle.mic_clock.specs.Board.{NoFault, IsTurned, IsCutByFault, GoesOn, InTime}
-use Rattle.mic_clock.specs.Parts.{board_of, ChangesByTurn}
 use Rattle.mic_clock.proofs.InTime.{InTime-step, InLeg-step}
 use Rattle.mic_clock.proofs.GoesOn.{GoesOn-step}
 use Rattle.mic_clock.proofs.Legs.{leg-start, leg-inside}

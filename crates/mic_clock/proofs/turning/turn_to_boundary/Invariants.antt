@@ -1,8 +1,6 @@
 use Rattle.std.proofs.Common.{◌≡◌, ◌||◌, ℕ, suc, ◌+◌, ◌-◌, None, Some, is_some, if◌then◌else◌}
 use Rattle.mic_clock.specs.declared.end.End.TheVariants as ends
-use Rattle.mic_clock.specs.Run.{IsLeg}
-use Rattle.mic_clock.specs.Board.{ShowsRun, IsLedTo, IsCutByRead, IsCutByWrite, Leads, NoFault, GoesOn, InTime}
-use Rattle.mic_clock.specs.Parts.{board_of, AreParts}
+use Rattle.mic_clock.specs.Prelude.{IsLeg, ShowsRun, IsLedTo, IsCutByRead, IsCutByWrite, Leads, NoFault, GoesOn, InTime, board_of, AreParts}
 use Rattle.mic_clock.proofs.InTime.{InLeg}
 use Rattle.mic_clock.proofs.turning.turn_to_boundary.Given as goal
 

@@ -1,6 +1,5 @@
 use Rattle.std.proofs.Common.{◌≡◌, ◌-◌, None, if◌then◌else◌}
-use Rattle.mic_clock.specs.Board.{IsRunInside}
-use Rattle.mic_clock.specs.Parts.{board_of, AreParts}
+use Rattle.mic_clock.specs.Prelude.{IsRunInside, board_of, AreParts}
 use Rattle.mic_clock.proofs.turning.turns_inside.Given as goal
 
 -- turns that need neither a source nor a sink lead here

@@ -1,6 +1,5 @@
 use Rattle.std.proofs.Common.{Bool, length, refl, subst, sym}
-use Rattle.console_port.specs.Console.{Untaken}
-use Rattle.console_port.specs.World.{after_write}
+use Rattle.console_port.specs.Prelude.{Untaken, after_write}
 use Rattle.mic_datapath.proofs.memory.write_alone.Goals as goal
 
 pub returns-clause-access : goal.returns-clause-access

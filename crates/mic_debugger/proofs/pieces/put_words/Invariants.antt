@@ -1,7 +1,6 @@
 use Rattle.std.proofs.Common.{◌≡◌}
-use Rattle.mic_base.specs.Causes.{HasCause}
-use Rattle.mic_base.specs.Streams.{KeepsFront, Puts}
-use Rattle.mic_debugger.specs.Lines.{word_lines}
+use Rattle.mic_base.specs.Prelude.{HasCause, KeepsFront, Puts}
+use Rattle.mic_debugger.specs.Prelude.{word_lines}
 use Rattle.mic_debugger.proofs.pieces.put_words.Given as goal
 
 -- the words so far were put, or one was not

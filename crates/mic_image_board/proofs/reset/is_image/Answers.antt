@@ -1,5 +1,5 @@
 use Rattle.std.proofs.Common.{◌∙◌, ap}
-use Rattle.ijvm_image.specs.Image.{ImageView}
+use Rattle.ijvm_image.specs.Prelude.{ImageView}
 use Rattle.mic_image_board.proofs.Parts.{image_by_parts}
 use Rattle.mic_image_board.proofs.reset.is_image.Goals as goal
 

@@ -3,9 +3,8 @@ use Rattle.std.proofs.lemmas.Result.{err_from_is_err_and}
 use Rattle.console_port.specs.declared.fault.BusFault.TheVariants as faults
 use Rattle.mic_clock.specs.declared.end.End.{End}
 use Rattle.mic_clock.specs.declared.end.End.TheVariants as ends
-use Rattle.mic_clock.specs.View.{BoardView}
-use Rattle.mic_clock.specs.Board.{NoFault}
-use Rattle.mic_watched.specs.Watched.{ShowsCycles}
+use Rattle.mic_clock.specs.Prelude.{BoardView, NoFault}
+use Rattle.mic_watched.specs.Prelude.{ShowsCycles}
 use Rattle.mic_watched.proofs.Shown.{flush-done, flush-lost, no_fault}
 use Rattle.mic_watched.proofs.GoesOn.{cause-flushed, cause-lost, goes-flushed, goes-until}
 use Rattle.mic_watched.proofs.run.run_watched.Goals as goal

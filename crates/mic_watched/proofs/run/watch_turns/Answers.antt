@@ -1,10 +1,9 @@
 use Rattle.std.proofs.Common.{◌≡◌, ◌++◌, ℕ, max, List, [], None, Ok, inl, refl, ap, rules, arith}
 use Rattle.std.proofs.lemmas.Result.{err_from_is_err_and}
-use Rattle.micro_word.specs.ControlStore.{ControlStore}
-use Rattle.mic_clock.specs.Run.{last_cycles}
+use Rattle.micro_word.specs.Prelude.{ControlStore}
+use Rattle.mic_clock.specs.Prelude.{last_cycles}
 use Rattle.mic_watched.specs.declared.cycle.Cycle.{Cycle}
-use Rattle.mic_watched.specs.Cycles.{shown_on}
-use Rattle.mic_watched.specs.Watched.{ShowsCycles}
+use Rattle.mic_watched.specs.Prelude.{shown_on, ShowsCycles}
 use Rattle.mic_watched.proofs.Shown.{over-start, one-turn, shows-then}
 use Rattle.mic_watched.proofs.Saying.{saw-nothing, saw-then, cause-then}
 use Rattle.mic_watched.proofs.GoesOn.{goes-nowhere, goes-then}

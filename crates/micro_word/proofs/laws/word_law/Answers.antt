@@ -1,5 +1,5 @@
 use Rattle.std.proofs.Common.{ℕ, IsTrue, subst}
-use Rattle.micro_word.specs.Words.{is_canonical}
+use Rattle.micro_word.specs.Prelude.{is_canonical}
 use Rattle.micro_word.proofs.Coding.{canonical-word, is_the_word, spells}
 use Rattle.micro_word.proofs.laws.word_law.Goals as goal
 

@@ -1,5 +1,5 @@
 use Rattle.std.proofs.Common.{◌≡◌, ℕ, ◌-◌, ◌<◌, ◌≤◌, false}
-use Rattle.micro_word.specs.Lines.{names}
+use Rattle.micro_word.specs.Prelude.{names}
 use Rattle.micro_word.proofs.lines.first_named.Given as goal
 
 abbrev pub invariant-places : goal.invariant-places

@@ -1,8 +1,7 @@
 use Rattle.std.proofs.Common.{◌≡◌, IsTrue, Option, IfSome, sym, subst, ◌∙◌}
 use Rattle.mic_words.specs.declared.machine.Machine.TheVariants.{Mic1}
 use Rattle.micro_word.specs.declared.statement.Placed.{Placed}
-use Rattle.micro_word.specs.Coding.{microword_of}
-use Rattle.micro_word.specs.Words.{is_valid}
+use Rattle.micro_word.specs.Prelude.{microword_of, is_valid}
 use Rattle.micro_word.proofs.Coding.{known, back, none}
 use Rattle.micro_word.proofs.word.decode1.Goals as goal
 

@@ -1,4 +1,4 @@
-use Rattle.source_text.specs.Reading.{read}
+use Rattle.source_text.specs.Prelude.{read}
 use Rattle.source_text.proofs.Lexing.{is_read, spelled}
 use Rattle.source_text.proofs.tokens.reads_what_is_spelled.Goals as goal
 

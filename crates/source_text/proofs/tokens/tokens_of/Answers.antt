@@ -1,7 +1,5 @@
 use Rattle.std.proofs.Common.{◌≡◌, ◌∙◌, sym, Some, None, true, false}
-use Rattle.source_text.specs.Tokens.{is_blank}
-use Rattle.source_text.specs.Table.{token_of}
-use Rattle.source_text.specs.Reading.{lex}
+use Rattle.source_text.specs.Prelude.{is_blank, token_of, lex}
 use Rattle.source_text.proofs.Lexing.{goes_blank, is_done, is_read, spelled, steps_bad, steps_on}
 use Rattle.source_text.proofs.tokens.tokens_of.Goals as goal
 

@@ -1,5 +1,5 @@
 use Rattle.std.proofs.Common.{◌≡◌, length}
-use Rattle.source_text.specs.Reading.{lex}
+use Rattle.source_text.specs.Prelude.{lex}
 use Rattle.source_text.proofs.Lexing.{onto}
 use Rattle.source_text.proofs.tokens.tokens_of.Given as goal
 

@@ -2,8 +2,7 @@ use Rattle.std.proofs.Common.{◌≡◌, ◌∷◌, List, ℕ, [], true, refl, a
 use Rattle.std.specs.Prelude.{◌==◌}
 use Rattle.std.specs.Str.Lines.{lines}
 use Rattle.std.proofs.lemmas.Bool.Decides.{nat_tests}
-use Rattle.source_text.specs.Content.{contents, without_comment}
-use Rattle.source_text.specs.Walk.{StopsAt, StopsBy}
+use Rattle.source_text.specs.Prelude.{contents, without_comment, StopsAt, StopsBy}
 use Rattle.source_text.proofs.Walking.{before_all, before_more, before_none, before_stop}
 use Rattle.source_text.proofs.walk.read_lines.Goals as goal
 

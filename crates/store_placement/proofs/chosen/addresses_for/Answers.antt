@@ -1,6 +1,5 @@
 use Rattle.std.proofs.Common.{◌≡◌, ◌<◌, ℕ, List, length, All, subst, sym, ap, arith}
-use Rattle.store_placement.specs.Chosen.{free_lows}
-use Rattle.store_placement.specs.Forced.{all_forced}
+use Rattle.store_placement.specs.Prelude.{free_lows, all_forced}
 use Rattle.store_placement.proofs.Choice.{steps_place, free_for_rest, lows_inside}
 use Rattle.store_placement.proofs.chosen.addresses_for.Goals as goal
 

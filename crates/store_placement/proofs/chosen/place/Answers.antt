@@ -2,9 +2,7 @@ use Rattle.std.proofs.Common.{◌≡◌, ℕ, Option, Err, List, slice_index, su
 use Rattle.std.proofs.lemmas.Result.{err_from_is_err_and}
 use Rattle.store_placement.specs.declared.pair.Pair.{Pair}
 use Rattle.store_placement.specs.declared.refusal.PlaceError.{PlaceError}
-use Rattle.store_placement.specs.Chosen.{IsChosenList}
-use Rattle.store_placement.specs.Demands.{AreWithin, Demands, demands}
-use Rattle.store_placement.specs.Refusals.{Refuses}
+use Rattle.store_placement.specs.Prelude.{IsChosenList, AreWithin, Demands, demands, Refuses}
 use Rattle.store_placement.proofs.NoPlacement.{refused}
 use Rattle.store_placement.proofs.OneRefusal.{one_refusal}
 use Rattle.store_placement.proofs.chosen.place.Goals as goal

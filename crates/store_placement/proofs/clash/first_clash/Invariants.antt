@@ -1,5 +1,4 @@
-use Rattle.store_placement.specs.First.{Never}
-use Rattle.store_placement.specs.Refusals.{clashes}
+use Rattle.store_placement.specs.Prelude.{Never, clashes}
 use Rattle.store_placement.proofs.clash.first_clash.Given as goal
 
 abbrev pub invariant-loop-s : goal.invariant-loop-s

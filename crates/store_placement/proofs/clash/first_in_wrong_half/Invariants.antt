@@ -1,5 +1,4 @@
-use Rattle.store_placement.specs.First.{Never}
-use Rattle.store_placement.specs.Refusals.{in_wrong_half}
+use Rattle.store_placement.specs.Prelude.{Never, in_wrong_half}
 use Rattle.store_placement.proofs.clash.first_in_wrong_half.Given as goal
 
 abbrev pub invariant-loop-s : goal.invariant-loop-s

@@ -1,5 +1,4 @@
-use Rattle.store_placement.specs.First.{NeverWith}
-use Rattle.store_placement.specs.Refusals.{collide}
+use Rattle.store_placement.specs.Prelude.{NeverWith, collide}
 use Rattle.store_placement.proofs.collision.collides_with.Given as goal
 
 abbrev pub invariant-loop-t : goal.invariant-loop-t

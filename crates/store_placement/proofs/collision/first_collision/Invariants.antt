@@ -1,6 +1,5 @@
 use Rattle.std.proofs.Common.{ℕ, ◌<◌, length}
-use Rattle.store_placement.specs.First.{NeverWith}
-use Rattle.store_placement.specs.Refusals.{collide}
+use Rattle.store_placement.specs.Prelude.{NeverWith, collide}
 use Rattle.store_placement.proofs.collision.first_collision.Given as goal
 
 abbrev pub invariant-loop-s : goal.invariant-loop-s

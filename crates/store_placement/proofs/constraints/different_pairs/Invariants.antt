@@ -1,6 +1,6 @@
 use Rattle.std.proofs.Common.{◌≡◌, ◌+◌, ◌≤◌, drop}
 use Rattle.std.specs.Set.{distinct_count}
-use Rattle.store_placement.specs.Demands.{same_pair}
+use Rattle.store_placement.specs.Prelude.{same_pair}
 use Rattle.store_placement.proofs.constraints.different_pairs.Given as goal
 
 abbrev pub invariant-loop-k : goal.invariant-loop-k

@@ -2,9 +2,8 @@ use Rattle.std.proofs.Common.{◌≡◌, ◌∙◌, ◌+◌, ℕ, List, length, 
 use Rattle.std.specs.Prelude.{IsTrue}
 use Rattle.mic_words.specs.declared.machine.Machine.{Machine}
 use Rattle.micro_word.specs.declared.statement.Placed.{Placed}
-use Rattle.micro_word.specs.Coding.{microword_of}
-use Rattle.micro_word.specs.Words.{is_valid}
-use Rattle.store_placement.specs.Program.{placed_statement}
+use Rattle.micro_word.specs.Prelude.{microword_of, is_valid}
+use Rattle.store_placement.specs.Prelude.{placed_statement}
 use Rattle.store_placement.proofs.FillingLemmas.{IsFilledUpTo, placed_count, filled_none, filled_more, filled_all, element_at}
 use Rattle.store_placement.proofs.filling.fill.Goals as goal
 

@@ -1,6 +1,5 @@
 use Rattle.std.proofs.Common.{◌≡◌, ◌≤◌, filter, length}
-use Rattle.store_placement.specs.First.{below}
-use Rattle.store_placement.specs.Chosen.{is_free}
+use Rattle.store_placement.specs.Prelude.{below, is_free}
 use Rattle.store_placement.proofs.free.free_addresses.Given as goal
 
 abbrev pub invariant-loop-a : goal.invariant-loop-a

@@ -1,7 +1,6 @@
 use Rattle.std.proofs.Common.{◌≡◌, ◌≤◌, length}
 use Rattle.std.specs.List.{filter_map}
-use Rattle.store_placement.specs.First.{below}
-use Rattle.store_placement.specs.Chosen.{opened_by}
+use Rattle.store_placement.specs.Prelude.{below, opened_by}
 use Rattle.store_placement.proofs.open.open_pairs.Given as goal
 
 abbrev pub invariant-loop-s : goal.invariant-loop-s

@@ -1,6 +1,6 @@
 use Rattle.std.proofs.Common.{◌≡◌, ◌+◌, ◌≤◌, ◌++◌, drop, length}
 use Rattle.std.specs.Prelude.{count_by, is_none}
-use Rattle.store_placement.specs.Reading.{with_free}
+use Rattle.store_placement.specs.Prelude.{with_free}
 use Rattle.store_placement.proofs.steps.with_free.Given as goal
 
 abbrev pub invariant-loop-place : goal.invariant-loop-place

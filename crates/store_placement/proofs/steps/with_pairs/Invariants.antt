@@ -1,7 +1,6 @@
 use Rattle.std.proofs.Common.{◌≡◌, None, map, slice_index_or}
 use Rattle.std.specs.Option.{option_or}
-use Rattle.store_placement.specs.First.{below}
-use Rattle.store_placement.specs.Reading.{pair_address}
+use Rattle.store_placement.specs.Prelude.{below, pair_address}
 use Rattle.store_placement.proofs.steps.with_pairs.Given as goal
 
 abbrev pub invariant-loop-s : goal.invariant-loop-s

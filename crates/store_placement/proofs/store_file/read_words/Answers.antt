@@ -1,8 +1,7 @@
 use Rattle.std.proofs.Common.{◌≡◌, false, not, refl, sym, ap, ◌∙◌}
 use Rattle.mic_words.specs.declared.machine.Machine.{Machine}
-use Rattle.micro_word.specs.Coding.{microword_of}
-use Rattle.micro_word.specs.Words.{is_canonical}
-use Rattle.store_placement.specs.StoreFile.{is_bad}
+use Rattle.micro_word.specs.Prelude.{microword_of, is_canonical}
+use Rattle.store_placement.specs.Prelude.{is_bad}
 use Rattle.store_placement.proofs.StoreFileLemmas.{none_read, read_more}
 use Rattle.store_placement.proofs.store_file.read_words.Goals as goal
 

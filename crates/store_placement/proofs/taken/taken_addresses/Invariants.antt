@@ -1,5 +1,5 @@
 use Rattle.std.proofs.Common.{take}
-use Rattle.store_placement.specs.Taken.{AreTaken}
+use Rattle.store_placement.specs.Prelude.{AreTaken}
 use Rattle.store_placement.proofs.taken.taken_addresses.Given as goal
 
 abbrev pub invariant-loop-place : goal.invariant-loop-place

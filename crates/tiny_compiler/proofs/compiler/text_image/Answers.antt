@@ -1,4 +1,4 @@
-use Rattle.tiny_names.specs.View.{program_tree}
+use Rattle.tiny_names.specs.Prelude.{program_tree}
 use Rattle.tiny_compiler.proofs.CodeImages.{on_err, too_large}
 use Rattle.tiny_compiler.proofs.compiler.text_image.Goals as goal
 

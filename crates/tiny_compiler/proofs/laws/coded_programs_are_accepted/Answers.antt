@@ -1,4 +1,4 @@
-use Rattle.tiny_code.specs.Code.{places_of}
+use Rattle.tiny_code.specs.Prelude.{places_of}
 use Rattle.tiny_compiler.proofs.laws.coded_programs_are_accepted.Goals as goal
 
 pub returns : goal.returns

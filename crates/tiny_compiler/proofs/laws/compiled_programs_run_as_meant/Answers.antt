@@ -1,10 +1,7 @@
 use Rattle.std.proofs.Common.{◌≡◌, subst}
-use Rattle.ijvm_meaning.specs.Cost.{timing_of}
-use Rattle.tiny_code.specs.Code.{places_of}
-use Rattle.tiny_code.specs.Laid.{IsLaidOut}
-use Rattle.tiny_tree.specs.Named.{IsNamed}
-use Rattle.tiny_tree.specs.Tree.{Program}
-use Rattle.tiny_code.specs.Image.{IsCodeOf}
+use Rattle.ijvm_meaning.specs.Prelude.{timing_of}
+use Rattle.tiny_code.specs.Prelude.{places_of, IsLaidOut, IsCodeOf}
+use Rattle.tiny_tree.specs.Prelude.{IsNamed, Program}
 use Rattle.tiny_compiler.proofs.laws.compiled_programs_run_as_meant.Goals as goal
 
 pub returns : goal.returns

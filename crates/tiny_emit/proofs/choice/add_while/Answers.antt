@@ -1,7 +1,7 @@
 use Rattle.std.proofs.Common.{◌-◌, arith}
 use Rattle.std.proofs.lemmas.Result.{on_ok_weaker}
-use Rattle.tiny_pool.specs.Places.{places_in}
-use Rattle.tiny_tree.specs.View.{cond_tree}
+use Rattle.tiny_pool.specs.Prelude.{places_in}
+use Rattle.tiny_tree.specs.Prelude.{cond_tree}
 use Rattle.tiny_emit.proofs.Sides.{gone_back, loop_added}
 use Rattle.tiny_emit.proofs.choice.add_while.Goals as goal
 

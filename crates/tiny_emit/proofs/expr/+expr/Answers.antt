@@ -1,9 +1,8 @@
 use Rattle.std.proofs.Common.{◌∷◌, ◌++◌, [], map, ap, ◌∙◌}
 use Rattle.std.proofs.lemmas.Result.{on_ok_weaker}
-use Rattle.tiny_tree.specs.Tree.{arguments_of}
-use Rattle.tiny_tree.specs.View.{expr_tree}
-use Rattle.ijvm_text.specs.Bytes.{code_bytes}
-use Rattle.tiny_pool.specs.Places.{places_in}
+use Rattle.tiny_tree.specs.Prelude.{arguments_of, expr_tree}
+use Rattle.ijvm_text.specs.Prelude.{code_bytes}
+use Rattle.tiny_pool.specs.Prelude.{places_in}
 use Rattle.tiny_emit.proofs.Bytes.{call_bytes, expr_bytes, steps_done, step_bytes, arguments_done, argument_bytes}
 use Rattle.tiny_emit.proofs.expr.+expr.Goals as goal
 

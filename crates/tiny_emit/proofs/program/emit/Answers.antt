@@ -1,4 +1,4 @@
-use Rattle.tiny_pool.specs.Places.{places_in}
+use Rattle.tiny_pool.specs.Prelude.{places_in}
 use Rattle.tiny_emit.proofs.Texts.{emitted}
 use Rattle.tiny_emit.proofs.program.emit.Goals as goal
 

@@ -1,7 +1,5 @@
 use Rattle.std.proofs.Common.{◌≡◌, ◌+◌, drop, map}
-use Rattle.tiny_tree.specs.Named.{vars_of}
-use Rattle.tiny_tree.specs.Tree.{statements_of}
-use Rattle.tiny_tree.specs.View.{statement_tree}
+use Rattle.tiny_tree.specs.Prelude.{vars_of, statements_of, statement_tree}
 use Rattle.tiny_emit.proofs.vars.+vars.Given as goal
 
 abbrev pub invariant-vars_of_all-loop-statement : goal.invariant-vars_of_all-loop-statement

@@ -3,8 +3,7 @@ use Rattle.std.proofs.lemmas.Result.{err_from_is_err_and}
 use Rattle.tiny_draft.specs.declared.token.Kind.TheVariants as kinds
 use Rattle.tiny_draft.specs.declared.token.Sign.TheVariants as signs
 use Rattle.tiny_grammar.specs.declared.refusal.Refusal.TheVariants as refusals
-use Rattle.tiny_grammar.specs.Tokens.{first_line}
-use Rattle.tiny_grammar.specs.Machine.{ABlock, ACond, MaybeElse}
+use Rattle.tiny_grammar.specs.Prelude.{first_line, ABlock, ACond, MaybeElse}
 use Rattle.tiny_grammar.proofs.Moving.{frame, frame_stops, then, then_stops, too_deep_at}
 use Rattle.tiny_grammar.proofs.Blocks.{block_ends, block_opens, block_unopened, else_absent, else_begins, if_begins, inside, statement_more, statement_stops, while_begins}
 use Rattle.tiny_grammar.proofs.block.+block.Goals as goal

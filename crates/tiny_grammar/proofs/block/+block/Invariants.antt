@@ -1,10 +1,7 @@
 use Rattle.std.proofs.Common.{◌+◌, ◌-◌, ◌*◌, ◌<◌, [], ◌∷◌, length, map}
-use Rattle.tiny_draft.specs.Tree.{statements_of}
-use Rattle.tiny_draft.specs.View.{statement_tree}
+use Rattle.tiny_draft.specs.Prelude.{statements_of, statement_tree}
 use Rattle.tiny_draft.specs.declared.token.Sign.TheVariants.{Begin, End}
-use Rattle.tiny_grammar.specs.Grammar.{sign, spell_statements}
-use Rattle.tiny_grammar.specs.Machine.{ABlock, Statements, Want}
-use Rattle.tiny_grammar.specs.Reads.{Moves}
+use Rattle.tiny_grammar.specs.Prelude.{sign, spell_statements, ABlock, Statements, Want, Moves}
 use Rattle.tiny_grammar.proofs.block.+block.Given as goal
 
 abbrev pub decreases-block : goal.decreases-block

@@ -1,7 +1,7 @@
 use Rattle.std.proofs.Common.{[], ◌∷◌, refl}
 use Rattle.std.proofs.lemmas.Result.{err_from_is_err_and}
 use Rattle.tiny_draft.specs.declared.token.Sign.TheVariants as signs
-use Rattle.tiny_grammar.specs.Machine.{Want, value}
+use Rattle.tiny_grammar.specs.Prelude.{Want, value}
 use Rattle.tiny_grammar.proofs.Moving.{frame, frame_stops, then, then_stops}
 use Rattle.tiny_grammar.proofs.Exprs.{wanted}
 use Rattle.tiny_grammar.proofs.Blocks.{assign_sign}

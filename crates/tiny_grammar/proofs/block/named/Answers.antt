@@ -1,12 +1,10 @@
 use Rattle.std.proofs.Common.{◌-◌, [], ◌∷◌, map, refl, ap, sym, ◌∙◌, arith, Err}
 use Rattle.std.proofs.lemmas.Result.{err_from_is_err_and}
-use Rattle.tiny_draft.specs.Tree.{arguments_of}
-use Rattle.tiny_draft.specs.View.{expr_tree}
+use Rattle.tiny_draft.specs.Prelude.{arguments_of, expr_tree}
 use Rattle.tiny_draft.specs.declared.token.Kind.TheVariants as kinds
 use Rattle.tiny_draft.specs.declared.token.Sign.TheVariants as signs
 use Rattle.tiny_grammar.specs.declared.refusal.Refusal.TheVariants as refusals
-use Rattle.tiny_grammar.specs.Tokens.{first_line}
-use Rattle.tiny_grammar.specs.Machine.{AfterName, Arguments, Want}
+use Rattle.tiny_grammar.specs.Prelude.{first_line, AfterName, Arguments, Want}
 use Rattle.tiny_grammar.proofs.Moving.{frame_stops, then_stops, too_deep_at}
 use Rattle.tiny_grammar.proofs.Exprs.{wanted}
 use Rattle.tiny_grammar.proofs.Blocks.{after_name_assigns, assign_says, call_opens, call_read, call_says}

@@ -1,7 +1,7 @@
 use Rattle.std.proofs.Common.{[], ◌∷◌, refl}
 use Rattle.std.proofs.lemmas.Result.{err_from_is_err_and}
 use Rattle.tiny_draft.specs.declared.token.Sign.TheVariants as signs
-use Rattle.tiny_grammar.specs.Machine.{AName}
+use Rattle.tiny_grammar.specs.Prelude.{AName}
 use Rattle.tiny_grammar.proofs.Moving.{frame_stops, then, then_stops}
 use Rattle.tiny_grammar.proofs.Exprs.{wanted}
 use Rattle.tiny_grammar.proofs.Blocks.{assigning, halt_begins, name_wanted, named_reads, no_statement, put_begins, return_begins, semicolon, statement_named, var_begins, var_named}

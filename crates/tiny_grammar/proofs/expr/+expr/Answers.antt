@@ -2,13 +2,11 @@ use Rattle.std.proofs.Common.{◌-◌, [], ◌∷◌, ◌++◌, refl, ap, sym, �
 use Rattle.std.specs.Prelude.{option_map}
 use Rattle.std.proofs.lemmas.List.{append-nil}
 use Rattle.std.proofs.lemmas.Result.{err_from_is_err_and}
-use Rattle.tiny_draft.specs.View.{term_tree}
+use Rattle.tiny_draft.specs.Prelude.{term_tree}
 use Rattle.tiny_draft.specs.declared.token.Kind.TheVariants as kinds
 use Rattle.tiny_draft.specs.declared.token.Sign.TheVariants as signs
 use Rattle.tiny_grammar.specs.declared.refusal.Refusal.TheVariants as refusals
-use Rattle.tiny_grammar.specs.Grammar.{spell_term}
-use Rattle.tiny_grammar.specs.Machine.{AnExpr, Arguments, ATerm, MaybeCall, Steps, Want, fault}
-use Rattle.tiny_grammar.specs.Tokens.{first_kind, first_line}
+use Rattle.tiny_grammar.specs.Prelude.{spell_term, AnExpr, Arguments, ATerm, MaybeCall, Steps, Want, fault, first_kind, first_line}
 use Rattle.tiny_grammar.proofs.Beginnings.{call_none, term_none}
 use Rattle.tiny_grammar.proofs.Moving.{closes_at, frame, frame_stops, levels_as, opens_at, skip_at, skipping, stays_at, stop_at, stops_as, text_as, then, then_stops, too_deep_at}
 use Rattle.tiny_grammar.proofs.Exprs.{closing, group_opens, name_at, number_at, arguments_begin, arguments_close, arguments_unended, expr_term, more_arguments, step_more, step_stops}

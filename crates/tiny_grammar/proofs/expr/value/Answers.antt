@@ -1,8 +1,8 @@
 use Rattle.std.proofs.Common.{[], ◌∷◌, refl}
 use Rattle.std.proofs.lemmas.Result.{err_from_is_err_and}
-use Rattle.tiny_draft.specs.View.{expr_tree}
+use Rattle.tiny_draft.specs.Prelude.{expr_tree}
 use Rattle.tiny_draft.specs.declared.token.Sign.TheVariants as signs
-use Rattle.tiny_grammar.specs.Machine.{Want}
+use Rattle.tiny_grammar.specs.Prelude.{Want}
 use Rattle.tiny_grammar.proofs.Moving.{frame, then_stops}
 use Rattle.tiny_grammar.proofs.Exprs.{value_reads, wanted}
 use Rattle.tiny_grammar.proofs.expr.value.Goals as goal

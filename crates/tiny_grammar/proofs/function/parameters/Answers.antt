@@ -2,7 +2,7 @@ use Rattle.std.proofs.Common.{[], refl}
 use Rattle.std.proofs.lemmas.Result.{err_from_is_err_and}
 use Rattle.tiny_draft.specs.declared.token.Kind.TheVariants as kinds
 use Rattle.tiny_draft.specs.declared.token.Sign.TheVariants as signs
-use Rattle.tiny_grammar.specs.Machine.{Parameters}
+use Rattle.tiny_grammar.specs.Prelude.{Parameters}
 use Rattle.tiny_grammar.proofs.Moving.{closes_at}
 use Rattle.tiny_grammar.proofs.Signatures.{more_parameters, parameter_stops, parameters_begin, parameters_close, parameters_unended}
 use Rattle.tiny_grammar.proofs.function.parameters.Goals as goal

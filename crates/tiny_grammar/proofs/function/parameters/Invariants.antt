@@ -1,6 +1,5 @@
 use Rattle.std.proofs.Common.{[], ◌∷◌, length}
-use Rattle.tiny_grammar.specs.Machine.{AName, MoreParameters, Parameters}
-use Rattle.tiny_grammar.specs.Reads.{Moves}
+use Rattle.tiny_grammar.specs.Prelude.{AName, MoreParameters, Parameters, Moves}
 use Rattle.tiny_grammar.proofs.Lists.{words_with_commas}
 use Rattle.tiny_grammar.proofs.function.parameters.Given as goal
 

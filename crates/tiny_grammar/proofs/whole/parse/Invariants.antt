@@ -1,8 +1,6 @@
 use Rattle.std.proofs.Common.{[], ◌∷◌, length, map}
-use Rattle.tiny_draft.specs.View.{function_tree}
-use Rattle.tiny_grammar.specs.Grammar.{spell_functions}
-use Rattle.tiny_grammar.specs.Machine.{Functions}
-use Rattle.tiny_grammar.specs.Reads.{Moves}
+use Rattle.tiny_draft.specs.Prelude.{function_tree}
+use Rattle.tiny_grammar.specs.Prelude.{spell_functions, Functions, Moves}
 use Rattle.tiny_grammar.proofs.whole.parse.Given as goal
 
 abbrev pub invariant-loop-after_fn : goal.invariant-loop-after_fn

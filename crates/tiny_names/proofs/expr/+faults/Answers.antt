@@ -1,7 +1,6 @@
 use Rattle.std.proofs.Common.{◌∙◌, ap, sym}
-use Rattle.tiny_draft.specs.View.{term_tree}
-use Rattle.tiny_names.specs.Faults.{first, term_faults}
-use Rattle.tiny_names.specs.Names.{lookup}
+use Rattle.tiny_draft.specs.Prelude.{term_tree}
+use Rattle.tiny_names.specs.Prelude.{first, term_faults, lookup}
 use Rattle.tiny_names.proofs.Firsts.{first_none, first_some, steps_at}
 use Rattle.tiny_names.proofs.expr.+faults.Goals as goal
 

@@ -1,6 +1,5 @@
 use Rattle.std.proofs.Common.{◌≡◌, ◌≤◌, ◌++◌, drop, length, map}
-use Rattle.tiny_names.specs.Faults.{first, parameter_faults}
-use Rattle.tiny_names.specs.Names.{name_of}
+use Rattle.tiny_names.specs.Prelude.{first, parameter_faults, name_of}
 use Rattle.tiny_names.proofs.program.declare_all.Given as goal
 
 abbrev pub invariant-loop-parameter : goal.invariant-loop-parameter

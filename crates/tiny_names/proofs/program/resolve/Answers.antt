@@ -3,13 +3,10 @@ use Rattle.std.specs.Prelude.{Option, Some}
 use Rattle.std.proofs.lemmas.Result.{err_from_is_err_and}
 use Rattle.tiny_draft.specs.declared.tree.Function.{Function}
 use Rattle.tiny_draft.specs.View as draft_view
-use Rattle.tiny_tree.specs.View.{function_tree}
+use Rattle.tiny_tree.specs.Prelude.{function_tree}
 use Rattle.tiny_names.specs.declared.fault.Fault.TheVariants as faults
 use Rattle.tiny_names.specs.declared.functions.Signature.{Signature}
-use Rattle.tiny_names.specs.Faults.{all_faults, first, function_faults}
-use Rattle.tiny_names.specs.Names.{lookup}
-use Rattle.tiny_names.specs.Resolved.{resolved}
-use Rattle.tiny_names.specs.Unresolved.{IsFirst}
+use Rattle.tiny_names.specs.Prelude.{all_faults, first, function_faults, lookup, resolved, IsFirst}
 use Rattle.tiny_names.proofs.Wholes.{fault_in, is_resolved, no_fault, no_main}
 use Rattle.tiny_names.proofs.program.resolve.Goals as goal
 

@@ -1,6 +1,5 @@
 use Rattle.std.proofs.Common.{sym, subst}
-use Rattle.tiny_tree.specs.Tree.{Program}
-use Rattle.tiny_tree.specs.Named.{IsNamed}
+use Rattle.tiny_tree.specs.Prelude.{Program, IsNamed}
 use Rattle.tiny_parser.proofs.Programs.{resolved_is_named}
 use Rattle.tiny_parser.proofs.Words.{written_words}
 use Rattle.tiny_parser.proofs.laws.programs_are_named.Goals as goal

@@ -1,7 +1,6 @@
 use Rattle.std.proofs.Common.{drop, map}
-use Rattle.tiny_tree.specs.Tree.{statements_of}
-use Rattle.tiny_tree.specs.View.{block_tree, statement_tree}
-use Rattle.tiny_code.specs.Code.{statements_numbers}
+use Rattle.tiny_tree.specs.Prelude.{statements_of, block_tree, statement_tree}
+use Rattle.tiny_code.specs.Prelude.{statements_numbers}
 use Rattle.tiny_pool.proofs.Walks.{IsOnTheWay}
 use Rattle.tiny_pool.proofs.numbers.+block.Given as goal
 

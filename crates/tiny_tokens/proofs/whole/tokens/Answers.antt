@@ -1,7 +1,6 @@
 use Rattle.std.proofs.Common.{subst}
-use Rattle.source_text.specs.Content.{contents}
-use Rattle.source_text.specs.Walk.{Leads}
-use Rattle.tiny_tokens.specs.Reading.{step}
+use Rattle.source_text.specs.Prelude.{contents, Leads}
+use Rattle.tiny_tokens.specs.Prelude.{step}
 use Rattle.tiny_tokens.proofs.Adding.{has_tokens}
 use Rattle.tiny_tokens.proofs.whole.tokens.Goals as goal
 

@@ -1,4 +1,4 @@
-use Rattle.verifier_locals.specs.Shortcut.{IsShort}
+use Rattle.verifier_locals.specs.Prelude.{IsShort}
 use Rattle.verifier_locals.proofs.shortcut.shorten.Given as goal
 
 abbrev pub invariant-loop-at : goal.invariant-loop-at

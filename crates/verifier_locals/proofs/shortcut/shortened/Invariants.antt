@@ -1,4 +1,4 @@
-use Rattle.verifier_locals.specs.Shortcut.{IsShort}
+use Rattle.verifier_locals.specs.Prelude.{IsShort}
 use Rattle.verifier_locals.proofs.shortcut.shortened.Given as goal
 
 abbrev pub invariant-loop-round : goal.invariant-loop-round

@@ -1,4 +1,4 @@
-use Rattle.verifier_notes.specs.Listed.{note_at}
+use Rattle.verifier_notes.specs.Prelude.{note_at}
 use Rattle.verifier_notes.proofs.Listed.{noted}
 use Rattle.verifier_notes.proofs.laws.listed_images_are_accepted.Goals as goal
 

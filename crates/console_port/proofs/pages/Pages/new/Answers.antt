@@ -1,7 +1,7 @@
 use Rattle.std.proofs.Common.{◌≡◌, ◌+◌, ◌-◌, ◌++◌, ◌∙◌, ℕ, List, [], ap, arith, cond, rules, take}
 use Rattle.std.specs.Prelude.{is_ok}
 use Rattle.std.specs.Int.{div_ceil}
-use Rattle.console_port.specs.Pages.{ArePaged, empty_frame}
+use Rattle.console_port.specs.Prelude.{ArePaged, empty_frame}
 use Rattle.console_port.proofs.Paging.{zeros, paged_zeros, resized, words_zero}
 use Rattle.console_port.proofs.pages.Pages.new.Goals as goal
 

@@ -1,6 +1,6 @@
 use Rattle.std.proofs.Common.{◌≡◌, ◌≢◌, ◌<◌, ◌+◌, ◌/◌, ◌%◌, ℕ, List, arith, ◌∙◌, sym, ap, subst, length, get_or, set}
 use Rattle.std.proofs.lemmas.List.{with_items_is}
-use Rattle.console_port.specs.Pages.{ArePaged, HasRoom, place_in_frames, words_of}
+use Rattle.console_port.specs.Prelude.{ArePaged, HasRoom, place_in_frames, words_of}
 use Rattle.console_port.proofs.Paging.{length-words_of, place_within, paged_write, words_write}
 use Rattle.console_port.proofs.pages.Pages.set.Goals as goal
 use Rattle.console_port.proofs.pages.Pages.set.Goals.{After-frame_of-start}

@@ -1,6 +1,6 @@
 use Rattle.std.proofs.Common.{[], sym, subst}
-use Rattle.ijvm_meaning.specs.Safe.{NeverStuck}
-use Rattle.ijvm_reference.specs.Machine.{MachineView, state_of}
+use Rattle.ijvm_meaning.specs.Prelude.{NeverStuck}
+use Rattle.ijvm_reference.specs.Prelude.{MachineView, state_of}
 use Rattle.ijvm_reference.proofs.SafeLemmas.{never_after, never_none, some_of}
 use Rattle.ijvm_reference.proofs.frames.Frames.step.Goals as goal
 

@@ -1,8 +1,7 @@
 use Rattle.std.proofs.Common.{◌≡◌, ◌≤◌, ◌+◌, ◌-◌, ℕ, List, [], ◌∷◌, ◌++◌, length, take, drop, reverse, sym, ap, subst, ◌∙◌, arith}
 use Rattle.std.proofs.lemmas.List.{reverse-append}
-use Rattle.ijvm_meaning.specs.Frames.{Frame, base, kept_words}
-use Rattle.ijvm_meaning.specs.Step.{called}
-use Rattle.ijvm_reference.specs.Machine.{MachineView, ArePlaced}
+use Rattle.ijvm_meaning.specs.Prelude.{Frame, base, kept_words, called}
+use Rattle.ijvm_reference.specs.Prelude.{MachineView, ArePlaced}
 use Rattle.ijvm_reference.proofs.Placed.{placed_call}
 use Rattle.ijvm_reference.proofs.machine.PlainMachine.call.Goals as goal
 

@@ -1,5 +1,5 @@
 use Rattle.std.proofs.Common.{◌≤◌, ◌<◌, ◌^◌, ◌+◌, reverse, length, arith}
-use Rattle.ijvm_meaning.specs.Frames.{base, kept_words}
+use Rattle.ijvm_meaning.specs.Prelude.{base, kept_words}
 use Rattle.ijvm_reference.proofs.Placed.{base_least}
 use Rattle.ijvm_reference.proofs.machine.PlainMachine.end.Goals as goal
 

@@ -2,10 +2,9 @@ use Rattle.std.proofs.Common.{◌≡◌, ◌∷◌, ◌++◌, [], ap, ◌∙◌,
 use Rattle.std.proofs.lemmas.Int.{to_z-of_z}
 use Rattle.std.proofs.lemmas.Result.{on_ok_weaker}
 use Rattle.ijvm_instr.specs.declared.instr.Instr.{Instr}
-use Rattle.ijvm_program.specs.Layout.{jump_by}
+use Rattle.ijvm_program.specs.Prelude.{jump_by}
 use Rattle.ijvm_text.specs.declared.text.Text.{Text}
-use Rattle.ijvm_text.specs.Adding.{jump_added}
-use Rattle.ijvm_text.specs.Bytes.{code_bytes}
+use Rattle.ijvm_text.specs.Prelude.{jump_added, code_bytes}
 use Rattle.ijvm_text.proofs.text.Text.add_jump.Goals as goal
 
 pub returns : goal.returns

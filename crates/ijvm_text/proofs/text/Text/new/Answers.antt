@@ -1,5 +1,5 @@
 use Rattle.std.proofs.Common.{None, refl}
-use Rattle.ijvm_text.specs.Adding.{empty_text}
+use Rattle.ijvm_text.specs.Prelude.{empty_text}
 use Rattle.ijvm_text.proofs.text.Text.new.Goals as goal
 
 pub returns-clause-nothing : goal.returns-clause-nothing

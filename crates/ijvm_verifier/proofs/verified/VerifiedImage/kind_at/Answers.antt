@@ -1,9 +1,7 @@
 use Rattle.std.proofs.Common.{◌≡◌, ◌≤◌, refl, length, Some, arith, subst}
 use Rattle.std.specs.Prelude.{slice_get}
 use Rattle.std.proofs.lemmas.Option.{slice_get_read}
-use Rattle.verifier_facts.specs.Accepted.{VerifiedView}
-use Rattle.verifier_facts.specs.Facts.{Piece, Covers}
-use Rattle.verifier_facts.specs.Kinds.{IsKind}
+use Rattle.verifier_facts.specs.Prelude.{VerifiedView, Piece, Covers, IsKind}
 use Rattle.ijvm_verifier.proofs.verified.VerifiedImage.kind_at.Goals as goal
 
 pub returns-then-at-len : goal.returns-then-at-len

@@ -1,9 +1,6 @@
 use Rattle.std.proofs.Common.{◌≡◌, sym, subst, ◌+◌, ◌/◌, ◌<◌, false, List, length, map, rules, Option, Some}
 use Rattle.mem_cache.specs.declared.lines.CacheLine.{CacheLine}
-use Rattle.mem_cache.specs.Accesses.{Read}
-use Rattle.mem_cache.specs.Lines.{AreLines, HasWords, block_in}
-use Rattle.mem_cache.specs.Tally.{has_block}
-use Rattle.mem_cache.specs.View.{CacheView, Counts}
+use Rattle.mem_cache.specs.Prelude.{Read, AreLines, HasWords, block_in, has_block, CacheView, Counts}
 use Rattle.mem_cache.proofs.Holding.{held_after, missed, whole_block}
 use Rattle.mem_cache.proofs.cached_bus.CachedBus.load.Goals as goal
 

@@ -1,7 +1,7 @@
 use Rattle.std.proofs.Common.{◌≡◌, ◌∙◌, sym, ap, subst, ℕ, List, map, replicate, rules, Option, None}
 use Rattle.mem_cache.specs.declared.counts.CacheCounts.{CacheCounts}
 use Rattle.mem_cache.specs.declared.lines.CacheLine.{CacheLine}
-use Rattle.mem_cache.specs.Lines.{AreLines, block_in}
+use Rattle.mem_cache.specs.Prelude.{AreLines, block_in}
 use Rattle.mem_cache.proofs.Holding.{empty_lines, empty_blocks}
 use Rattle.mem_cache.proofs.cached_bus.CachedBus.new.Goals as goal
 

@@ -1,9 +1,6 @@
 use Rattle.std.proofs.Common.{◌≡◌, ap, subst, length}
-use Rattle.console_port.specs.Access.{IsByMap}
-use Rattle.console_port.specs.Console.{IsFault}
-use Rattle.console_port.specs.World.{read_refusal}
-use Rattle.console_port.specs.View.{BusView}
-use Rattle.mem_cache.specs.View.{CacheView}
+use Rattle.console_port.specs.Prelude.{IsByMap, IsFault, read_refusal, BusView}
+use Rattle.mem_cache.specs.Prelude.{CacheView}
 use Rattle.mem_cache.proofs.cached_bus.CachedBus.read_word.Goals as goal
 
 pub returns-then-not-has-clause-map : goal.returns-then-not-has-clause-map

@@ -1,8 +1,6 @@
 use Rattle.std.proofs.Common.{◌≡◌, ◌∙◌, sym, ap, subst, ℕ, List, length, map, rules, Some, None}
-use Rattle.console_port.specs.View.{BusView}
-use Rattle.console_port.specs.World.{write_refusal}
-use Rattle.mem_cache.specs.Lines.{AreLines, block_in}
-use Rattle.mem_cache.specs.View.{CacheView}
+use Rattle.console_port.specs.Prelude.{BusView, write_refusal}
+use Rattle.mem_cache.specs.Prelude.{AreLines, block_in, CacheView}
 use Rattle.mem_cache.proofs.cached_bus.CachedBus.write_word.Goals as goal
 
 pub invariant_of-self : goal.invariant_of-self

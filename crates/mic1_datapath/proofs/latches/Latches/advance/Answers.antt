@@ -1,14 +1,10 @@
 use Rattle.std.proofs.Common.{◌≡◌, ◌≢◌, ℕ, ◌<◌, true, None, subst, sym, ap, ◌∙◌, arith}
-use Rattle.mic_words.specs.Arithmetic.{signed_byte}
+use Rattle.mic_words.specs.Prelude.{signed_byte}
 use Rattle.mic_words.specs.declared.machine.Machine.TheVariants.{Mic1}
-use Rattle.micro_word.specs.Coding.{statement_of}
-use Rattle.micro_word.specs.Operation.{shifted}
+use Rattle.micro_word.specs.Prelude.{statement_of, shifted}
 use Rattle.micro_word.specs.declared.layout.Fields.{Fields}
-use Rattle.mic_datapath.specs.Places.{registers_at}
-use Rattle.mic_datapath.specs.Registers.{NineRegisters, arrived, loaded}
-use Rattle.mic_datapath.specs.Next.{next_address}
-use Rattle.mic1_datapath.specs.Microstep.{result_of, registers_in}
-use Rattle.mic1_datapath.specs.Latches.{micro_in, reads, fetches, under_way}
+use Rattle.mic_datapath.specs.Prelude.{registers_at, NineRegisters, arrived, loaded, next_address}
+use Rattle.mic1_datapath.specs.Prelude.{result_of, registers_in, micro_in, reads, fetches, under_way}
 use Rattle.mic1_datapath.proofs.UnderWay.{kept_under_way}
 use Rattle.mic1_datapath.proofs.latches.Latches.advance.Goals as goal
 

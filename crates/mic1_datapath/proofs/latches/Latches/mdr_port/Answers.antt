@@ -1,6 +1,5 @@
 use Rattle.std.proofs.Common.{ℕ, ◌∙◌, ap}
-use Rattle.mic_datapath.specs.Places.{place_loaded}
-use Rattle.mic_datapath.specs.Registers.{arrived}
+use Rattle.mic_datapath.specs.Prelude.{place_loaded, arrived}
 use Rattle.mic1_datapath.proofs.latches.Latches.mdr_port.Goals as goal
 
 pub returns : goal.returns

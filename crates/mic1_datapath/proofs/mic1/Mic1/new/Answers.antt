@@ -1,6 +1,5 @@
 use Rattle.std.proofs.Common.{refl, rules}
-use Rattle.micro_word.specs.Words.{is_canonical}
-use Rattle.micro_word.specs.Coding.{statement_of}
+use Rattle.micro_word.specs.Prelude.{is_canonical, statement_of}
 use Rattle.mic1_datapath.proofs.mic1.Mic1.new.Goals as goal
 
 pub invariant_of-result-clause-decoded : goal.invariant_of-result-clause-decoded

@@ -1,9 +1,8 @@
 use Rattle.std.proofs.Common.{Ok, refl, sym, subst}
 use Rattle.std.specs.Prelude.{⊤}
-use Rattle.mic_clock.specs.Edge.{IsEdgeOver}
-use Rattle.mic_datapath.specs.Edges.{over_failed, over_told}
-use Rattle.mic1_datapath.specs.Mic1.{driven, mic1_meaning}
-use Rattle.mic1_datapath.specs.Latches.{micro_in}
+use Rattle.mic_clock.specs.Prelude.{IsEdgeOver}
+use Rattle.mic_datapath.specs.Prelude.{over_failed, over_told}
+use Rattle.mic1_datapath.specs.Prelude.{driven, mic1_meaning, micro_in}
 use Rattle.mic1_datapath.specs.declared.latches.Latches.{Latches}
 use Rattle.mic1_datapath.proofs.Seen.{seen_last}
 use Rattle.mic1_datapath.proofs.mic1.Mic1Clocked.clock.Goals as goal

@@ -1,7 +1,6 @@
 use Rattle.std.proofs.Common.{ℕ, refl, sym, subst}
-use Rattle.mic_clock.specs.Edge.{IsEdgeInside}
-use Rattle.mic1_datapath.specs.Mic1.{driven, mic1_meaning}
-use Rattle.mic1_datapath.specs.Latches.{micro_in}
+use Rattle.mic_clock.specs.Prelude.{IsEdgeInside}
+use Rattle.mic1_datapath.specs.Prelude.{driven, mic1_meaning, micro_in}
 use Rattle.mic1_datapath.specs.declared.latches.Latches.{Latches}
 use Rattle.mic1_datapath.proofs.Seen.{seen_last}
 use Rattle.mic1_datapath.proofs.mic1.Mic1Clocked.clock_inside.Goals as goal

@@ -1,6 +1,6 @@
 use Rattle.mic_words.specs.declared.machine.Machine.TheVariants.{Mic1}
-use Rattle.ijvm_meaning.specs.Cost.{timing_of}
-use Rattle.ijvm_simulation.specs.Stack.{StackLaw}
+use Rattle.ijvm_meaning.specs.Prelude.{timing_of}
+use Rattle.ijvm_simulation.specs.Prelude.{StackLaw}
 use Rattle.mic1_interpreter.proofs.Store.{HasStatements, has_statements}
 use Rattle.mic1_interpreter.proofs.Boundaries.{shows}
 use Rattle.mic1_interpreter.proofs.Boot.{boots}

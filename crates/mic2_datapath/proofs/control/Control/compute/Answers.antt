@@ -1,6 +1,6 @@
 use Rattle.std.proofs.Common.{◌∙◌}
 use Rattle.mic_words.specs.declared.machine.Machine.TheVariants as machines
-use Rattle.micro_word.specs.Coding.{statement_of}
+use Rattle.micro_word.specs.Prelude.{statement_of}
 use Rattle.mic2_datapath.proofs.Buses.{flagged_on, nothing_on}
 use Rattle.mic2_datapath.proofs.control.Control.compute.Goals as goal
 

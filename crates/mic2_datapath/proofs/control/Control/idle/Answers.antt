@@ -1,10 +1,7 @@
 use Rattle.std.proofs.Common.{refl, subst, ◌∙◌}
 use Rattle.mic_words.specs.declared.machine.Machine.TheVariants as machines
-use Rattle.micro_word.specs.Layout.{fields_of}
-use Rattle.micro_word.specs.Lines.{AreLines, bytes_taken}
+use Rattle.micro_word.specs.Prelude.{fields_of, AreLines, bytes_taken, is_canonical, statement_of}
 use Rattle.micro_word.specs.declared.layout.Fields.{Fields}
-use Rattle.micro_word.specs.Words.{is_canonical}
-use Rattle.micro_word.specs.Coding.{statement_of}
 use Rattle.mic2_datapath.proofs.control.Control.idle.Goals as goal
 
 pub invariant_of-result-clause-canonical : goal.invariant_of-result-clause-canonical

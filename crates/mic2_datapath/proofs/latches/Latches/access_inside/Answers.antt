@@ -1,11 +1,10 @@
 use Rattle.std.proofs.Common.{◌≡◌, Bool, true, length, refl, sym, ap, subst, ◌∙◌, arith}
 use Rattle.std.specs.Prelude.{is_some}
 use Rattle.std.proofs.lemmas.Grind.{common_steps}
-use Rattle.console_port.specs.World.{World}
+use Rattle.console_port.specs.Prelude.{World}
 use Rattle.micro_word.specs.declared.statement.Mem.TheVariants as mems
-use Rattle.mic_datapath.specs.Access.{IsTransfer}
-use Rattle.mic_datapath.specs.Memory.{memory_refusal, ports_with}
-use Rattle.mic2_datapath.specs.Latches.{access_by}
+use Rattle.mic_datapath.specs.Prelude.{IsTransfer, memory_refusal, ports_with}
+use Rattle.mic2_datapath.specs.Prelude.{access_by}
 use Rattle.mic2_datapath.proofs.Inside.{first_clear, led_same}
 use Rattle.mic2_datapath.proofs.latches.Latches.access_inside.Goals as goal
 

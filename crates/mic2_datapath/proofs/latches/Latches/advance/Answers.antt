@@ -1,13 +1,10 @@
 use Rattle.std.proofs.Common.{◌≡◌, ℕ, ap, sym, subst, ◌∙◌, ◌≤◌, Option, length}
 use Rattle.mic_words.specs.declared.machine.Machine.TheVariants as machines
-use Rattle.micro_word.specs.Coding.{statement_of}
-use Rattle.micro_word.specs.Operation.{shifted}
+use Rattle.micro_word.specs.Prelude.{statement_of, shifted}
 use Rattle.micro_word.specs.declared.layout.Fields.{Fields}
-use Rattle.mic_datapath.specs.Places.{registers_at}
-use Rattle.mic_datapath.specs.Registers.{loaded}
-use Rattle.mic2_fetch_unit.specs.FetchUnit.{sample_refusal}
-use Rattle.mic2_datapath.specs.Microstep.{advanced, jumps, operand_bytes, registers_in, result_of, settled}
-use Rattle.mic2_datapath.specs.Latches.{micro_in}
+use Rattle.mic_datapath.specs.Prelude.{registers_at, loaded}
+use Rattle.mic2_fetch_unit.specs.Prelude.{sample_refusal}
+use Rattle.mic2_datapath.specs.Prelude.{advanced, jumps, operand_bytes, registers_in, result_of, settled, micro_in}
 use Rattle.mic2_datapath.proofs.Demands.{dispatch_takes, is_dispatch}
 use Rattle.mic2_datapath.proofs.Steps.{sampled_there, unit_there}
 use Rattle.mic2_datapath.proofs.latches.Latches.advance.Goals as goal

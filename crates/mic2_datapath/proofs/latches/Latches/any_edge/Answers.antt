@@ -1,10 +1,9 @@
 use Rattle.std.proofs.Common.{ℕ, inl, refl, sym, ◌∙◌, ap}
-use Rattle.mic_datapath.specs.Edges.{unrefused}
+use Rattle.mic_datapath.specs.Prelude.{unrefused}
 use Rattle.mic2_datapath.proofs.Demands.{are_there}
-use Rattle.micro_word.specs.Coding.{statement_of}
+use Rattle.micro_word.specs.Prelude.{statement_of}
 use Rattle.mic_words.specs.declared.machine.Machine.TheVariants as machines
-use Rattle.mic2_datapath.specs.Latches.{micro_in}
-use Rattle.mic2_datapath.specs.Microstep.{moved_on}
+use Rattle.mic2_datapath.specs.Prelude.{micro_in, moved_on}
 use Rattle.mic2_datapath.proofs.Steps.{edge_done, edge_fails, edge_waits, is_asked, samples_clear, stall_edge, streams_stay}
 use Rattle.mic2_datapath.proofs.latches.Latches.any_edge.Goals as goal
 

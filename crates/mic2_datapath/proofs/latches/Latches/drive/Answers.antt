@@ -1,8 +1,7 @@
 use Rattle.std.proofs.Common.{Bool, false, sym, ap, ◌∙◌}
 use Rattle.mic_words.specs.declared.machine.Machine.TheVariants as machines
-use Rattle.micro_word.specs.Coding.{statement_of}
-use Rattle.mic2_datapath.specs.Mic2.{driven}
-use Rattle.mic2_datapath.specs.Latches.{micro_in}
+use Rattle.micro_word.specs.Prelude.{statement_of}
+use Rattle.mic2_datapath.specs.Prelude.{driven, micro_in}
 use Rattle.mic2_datapath.proofs.Buses.{drive_if}
 use Rattle.mic2_datapath.proofs.latches.Latches.drive.Goals as goal
 

@@ -1,9 +1,7 @@
 use Rattle.std.proofs.Common.{◌≡◌, ap, inl, refl, subst, ◌∙◌}
-use Rattle.console_port.specs.View.{BusView}
-use Rattle.mic_clock.specs.Edge.{IsEdgeOver}
-use Rattle.mic2_datapath.specs.Latches.{micro_in}
-use Rattle.mic2_datapath.specs.Mic2.{mic2_meaning}
-use Rattle.mic2_datapath.specs.Micro.{Micro}
+use Rattle.console_port.specs.Prelude.{BusView}
+use Rattle.mic_clock.specs.Prelude.{IsEdgeOver}
+use Rattle.mic2_datapath.specs.Prelude.{micro_in, mic2_meaning, Micro}
 use Rattle.mic2_datapath.proofs.latches.Latches.edge.Goals as goal
 use Rattle.mic2_datapath.proofs.latches.Latches.edge.Goals.{else-not-stalled-via-then-not-stalled+else-edge_inside, else-not-stalled-via-else-not-stalled}
 

@@ -1,16 +1,13 @@
 use Rattle.std.proofs.Common.{◌≡◌, length, ℕ, None, Some, Option, refl, sym, ◌∙◌, ap, subst}
 use Rattle.std.specs.Prelude.{is_some, IfErr, OnErr, OnOk}
-use Rattle.console_port.specs.Bus.{refused_by, ChangesOnly}
-use Rattle.console_port.specs.World.{Refusal}
+use Rattle.console_port.specs.Prelude.{refused_by, ChangesOnly, Refusal}
 use Rattle.console_port.specs.declared.fault.BusFault.{BusFault}
-use Rattle.micro_word.specs.Coding.{statement_of}
-use Rattle.micro_word.specs.Operation.{shifted}
+use Rattle.micro_word.specs.Prelude.{statement_of, shifted}
 use Rattle.micro_word.specs.declared.statement.Mem.TheVariants as mems
 use Rattle.mic_words.specs.declared.machine.Machine.TheVariants as machines
-use Rattle.mic_datapath.specs.Memory.{memory_refusal}
-use Rattle.mic2_fetch_unit.specs.FetchUnit.{sample_refusal}
-use Rattle.mic2_datapath.specs.Microstep.{jumps, moved_on}
-use Rattle.mic2_datapath.specs.Latches.{access_by, micro_in}
+use Rattle.mic_datapath.specs.Prelude.{memory_refusal}
+use Rattle.mic2_fetch_unit.specs.Prelude.{sample_refusal}
+use Rattle.mic2_datapath.specs.Prelude.{jumps, moved_on, access_by, micro_in}
 use Rattle.mic2_datapath.proofs.Inside.{led_same}
 use Rattle.mic2_datapath.proofs.Steps.{IsAsked, asked_for, edge_either, is_for, it_reads, mar_there, mdr_there, on_each_err, refusal_left, sampled_there}
 use Rattle.mic2_datapath.proofs.Tried.{tried}

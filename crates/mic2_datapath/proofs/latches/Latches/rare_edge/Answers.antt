@@ -1,10 +1,9 @@
 use Rattle.std.proofs.Common.{subst, Result}
 use Rattle.std.specs.Prelude.{⊤}
 use Rattle.console_port.specs.declared.fault.BusFault.{BusFault}
-use Rattle.mic_clock.specs.Edge.{IsEdgeOver}
-use Rattle.mic_datapath.specs.Edges.{handed_on}
-use Rattle.mic2_datapath.specs.Latches.{micro_in}
-use Rattle.mic2_datapath.specs.Mic2.{mic2_meaning}
+use Rattle.mic_clock.specs.Prelude.{IsEdgeOver}
+use Rattle.mic_datapath.specs.Prelude.{handed_on}
+use Rattle.mic2_datapath.specs.Prelude.{micro_in, mic2_meaning}
 use Rattle.mic2_datapath.proofs.latches.Latches.rare_edge.Goals as goal
 
 pub returns-in_err-any_edge-clause-edge : goal.returns-in_err-any_edge-clause-edge

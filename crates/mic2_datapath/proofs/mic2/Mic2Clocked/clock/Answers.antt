@@ -1,8 +1,7 @@
 use Rattle.std.proofs.Common.{refl, sym, ap}
-use Rattle.mic_clock.specs.Run.{Buses}
-use Rattle.mic_datapath.specs.Edges.{over_failed, over_told}
-use Rattle.mic2_datapath.specs.Latches.{micro_in}
-use Rattle.mic2_datapath.specs.Mic2.{mic2_meaning}
+use Rattle.mic_clock.specs.Prelude.{Buses}
+use Rattle.mic_datapath.specs.Prelude.{over_failed, over_told}
+use Rattle.mic2_datapath.specs.Prelude.{micro_in, mic2_meaning}
 use Rattle.mic2_datapath.proofs.Buses.{at_edge, at_stall, buses_clocked, buses_stalled, nothing_on_side}
 use Rattle.mic2_datapath.proofs.mic2.Mic2Clocked.clock.Goals as goal
 

@@ -1,9 +1,6 @@
 use Rattle.std.proofs.Common.{ℕ, ap, subst, sym}
-use Rattle.mic_clock.specs.Edge.{IsEdgeInside}
-use Rattle.mic_clock.specs.Run.{Buses}
-use Rattle.mic2_datapath.specs.Latches.{micro_in}
-use Rattle.mic2_datapath.specs.Mic2.{mic2_meaning}
-use Rattle.mic2_datapath.specs.Micro.{Micro}
+use Rattle.mic_clock.specs.Prelude.{IsEdgeInside, Buses}
+use Rattle.mic2_datapath.specs.Prelude.{micro_in, mic2_meaning, Micro}
 use Rattle.mic2_datapath.proofs.Buses.{buses_clocked}
 use Rattle.mic2_datapath.proofs.mic2.Mic2Clocked.clock_inside.Goals as goal
 

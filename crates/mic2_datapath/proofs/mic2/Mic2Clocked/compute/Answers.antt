@@ -1,5 +1,5 @@
 use Rattle.std.proofs.Common.{◌∙◌}
-use Rattle.mic2_datapath.specs.Latches.{micro_in}
+use Rattle.mic2_datapath.specs.Prelude.{micro_in}
 use Rattle.mic2_datapath.proofs.Buses.{computed_there, has_computed, nothing_on_b}
 use Rattle.mic2_datapath.proofs.mic2.Mic2Clocked.compute.Goals as goal
 

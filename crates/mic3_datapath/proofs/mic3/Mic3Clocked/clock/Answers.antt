@@ -1,10 +1,8 @@
 use Rattle.std.proofs.Common.{◌∙◌, sym, ap}
 use Rattle.mic_words.specs.declared.machine.Machine.TheVariants as machines
-use Rattle.micro_word.specs.Coding.{statement_of}
-use Rattle.mic_datapath.specs.Edges.{over_failed, over_told}
-use Rattle.mic3_datapath.specs.Cycle.{issued}
-use Rattle.mic3_datapath.specs.Mic3.{mic3_meaning}
-use Rattle.mic3_datapath.specs.Slots.{in_operand, pipeline_in}
+use Rattle.micro_word.specs.Prelude.{statement_of}
+use Rattle.mic_datapath.specs.Prelude.{over_failed, over_told}
+use Rattle.mic3_datapath.specs.Prelude.{issued, mic3_meaning, in_operand, pipeline_in}
 use Rattle.mic3_datapath.proofs.Steps.{seen_after, seen_kept, stalled_by}
 use Rattle.mic3_datapath.proofs.mic3.Mic3Clocked.clock.Goals as goal
 

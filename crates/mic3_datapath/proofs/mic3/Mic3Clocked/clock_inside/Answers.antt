@@ -1,11 +1,8 @@
 use Rattle.std.proofs.Common.{◌∙◌, ℕ, sym, ap, subst}
 use Rattle.mic_words.specs.declared.machine.Machine.TheVariants as machines
-use Rattle.micro_word.specs.Coding.{statement_of}
-use Rattle.mic_clock.specs.Edge.{IsEdgeInside}
-use Rattle.mic3_datapath.specs.Pipeline.{Pipeline}
-use Rattle.mic3_datapath.specs.Cycle.{issued}
-use Rattle.mic3_datapath.specs.Mic3.{mic3_meaning}
-use Rattle.mic3_datapath.specs.Slots.{in_operand, pipeline_in}
+use Rattle.micro_word.specs.Prelude.{statement_of}
+use Rattle.mic_clock.specs.Prelude.{IsEdgeInside}
+use Rattle.mic3_datapath.specs.Prelude.{Pipeline, issued, mic3_meaning, in_operand, pipeline_in}
 use Rattle.mic3_datapath.proofs.Steps.{seen_after, stalled_by}
 use Rattle.mic3_datapath.proofs.mic3.Mic3Clocked.clock_inside.Goals as goal
 

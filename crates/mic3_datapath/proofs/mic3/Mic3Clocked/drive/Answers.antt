@@ -1,5 +1,5 @@
 use Rattle.std.proofs.Common.{ap, ◌∙◌}
-use Rattle.mic3_datapath.specs.Mic3.{driven, driven_by}
+use Rattle.mic3_datapath.specs.Prelude.{driven, driven_by}
 use Rattle.mic3_datapath.proofs.mic3.Mic3Clocked.drive.Goals as goal
 
 pub returns-clause-value : goal.returns-clause-value

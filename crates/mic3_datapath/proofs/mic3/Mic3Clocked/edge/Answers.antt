@@ -1,9 +1,7 @@
 use Rattle.std.proofs.Common.{◌≤◌, length, Option, sym, subst}
 use Rattle.mic_words.specs.declared.machine.Machine.TheVariants as machines
-use Rattle.micro_word.specs.Coding.{statement_of}
-use Rattle.mic3_datapath.specs.Pipeline.{Issued}
-use Rattle.mic3_datapath.specs.Cycle.{bytes_leaving}
-use Rattle.mic3_datapath.specs.Slots.{pipeline_in}
+use Rattle.micro_word.specs.Prelude.{statement_of}
+use Rattle.mic3_datapath.specs.Prelude.{Issued, bytes_leaving, pipeline_in}
 use Rattle.mic3_datapath.proofs.Steps.{issued_there}
 use Rattle.mic3_datapath.proofs.mic3.Mic3Clocked.edge.Goals as goal
 

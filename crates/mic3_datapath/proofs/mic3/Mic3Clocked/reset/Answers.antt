@@ -1,5 +1,5 @@
 use Rattle.std.proofs.Common.{false, ap}
-use Rattle.mic3_datapath.specs.View.{buses_before}
+use Rattle.mic3_datapath.specs.Prelude.{buses_before}
 use Rattle.mic3_datapath.proofs.mic3.Mic3Clocked.reset.Goals as goal
 
 pub returns-clause-seen : goal.returns-clause-seen

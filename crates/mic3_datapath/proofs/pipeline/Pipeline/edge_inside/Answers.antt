@@ -1,6 +1,6 @@
 use Rattle.std.proofs.Common.{sym}
-use Rattle.mic_datapath.specs.Edges.{unrefused}
-use Rattle.mic3_datapath.specs.Slots.{in_operand, pipeline_in}
+use Rattle.mic_datapath.specs.Prelude.{unrefused}
+use Rattle.mic3_datapath.specs.Prelude.{in_operand, pipeline_in}
 use Rattle.mic3_datapath.proofs.Steps.{edge_done, moved, samples_clear}
 use Rattle.mic3_datapath.proofs.pipeline.Pipeline.edge_inside.Goals as goal
 

@@ -1,10 +1,8 @@
 use Rattle.std.proofs.Common.{◌≡◌, ◌≤◌, ℕ, Bool, false, length, Some, None, if◌then◌else◌, subst, sym, ap, ◌∙◌}
 use Rattle.mic_words.specs.declared.machine.Machine.TheVariants as machines
-use Rattle.micro_word.specs.Coding.{statement_of}
-use Rattle.mic2_datapath.specs.Micro.{Micro}
-use Rattle.mic2_datapath.specs.Microstep.{demand}
-use Rattle.mic3_datapath.specs.Cycle.{issued_by, waits}
-use Rattle.mic3_datapath.specs.Slots.{pipeline_in}
+use Rattle.micro_word.specs.Prelude.{statement_of}
+use Rattle.mic2_datapath.specs.Prelude.{Micro, demand}
+use Rattle.mic3_datapath.specs.Prelude.{issued_by, waits, pipeline_in}
 use Rattle.mic3_datapath.proofs.Steps.{enough}
 use Rattle.mic3_datapath.proofs.pipeline.Pipeline.issue.Goals as goal
 

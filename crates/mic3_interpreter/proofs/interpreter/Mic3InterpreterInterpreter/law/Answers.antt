@@ -6,7 +6,7 @@ use Rattle.mic3_interpreter.proofs.Jumps.{jumping}
 use Rattle.mic3_interpreter.proofs.Calls.{calls}
 use Rattle.mic3_interpreter.proofs.Ends.{ends}
 use Rattle.mic3_interpreter.proofs.Output.{step_grows}
-use Rattle.mic3_interpreter.specs.Timing.{mic3_timing}
+use Rattle.mic3_interpreter.specs.Prelude.{mic3_timing}
 use Rattle.mic3_interpreter.proofs.interpreter.Mic3InterpreterInterpreter.law.Goals as goal
 
 pub returns-clause-law : goal.returns-clause-law

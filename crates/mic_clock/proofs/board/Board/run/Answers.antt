@@ -1,10 +1,8 @@
 use Rattle.std.proofs.Common.{◌≡◌, ◌≤◌, ℕ, max, [], Option, None, Some, IsSome, inl, inr, refl, sym, ◌∙◌, ap, subst, rules, arith}
 use Rattle.console_port.specs.declared.fault.BusFault.TheVariants as faults
-use Rattle.micro_word.specs.ControlStore.{ControlStore}
+use Rattle.micro_word.specs.Prelude.{ControlStore}
 use Rattle.mic_clock.specs.declared.end.End.TheVariants as ends
-use Rattle.mic_clock.specs.View.{BoardView}
-use Rattle.mic_clock.specs.Run.{MicroRun, last_cycles}
-use Rattle.mic_clock.specs.Board.{ShowsRun, NoFault, IsCutByRead, IsCutByWrite}
+use Rattle.mic_clock.specs.Prelude.{BoardView, MicroRun, last_cycles, ShowsRun, NoFault, IsCutByRead, IsCutByWrite}
 use Rattle.mic_clock.proofs.GoesOn.{GoesOn-step, GoesOn-finish}
 use Rattle.mic_clock.proofs.Reach.{IsLedTo-map, Leads-on, Leads-flushed, Leads-lost, by_done, no_err, if_err, fault_cases}
 use Rattle.mic_clock.proofs.board.Board.run.Goals as goal

@@ -1,7 +1,6 @@
 use Rattle.std.proofs.Common.{◌≡◌, ℕ, ◌+◌, ◌-◌, max, None, Some, is_some, if◌then◌else◌}
 use Rattle.mic_clock.specs.declared.end.End.TheVariants as ends
-use Rattle.mic_clock.specs.Run.{last_cycles}
-use Rattle.mic_clock.specs.Board.{ShowsRun, IsLedTo, IsCutByRead, IsCutByWrite, Leads, NoFault, GoesOn, InTime}
+use Rattle.mic_clock.specs.Prelude.{last_cycles, ShowsRun, IsLedTo, IsCutByRead, IsCutByWrite, Leads, NoFault, GoesOn, InTime}
 use Rattle.mic_clock.proofs.board.Board.run.Given as goal
 
 -- the turns so far lead here or are cut here, and the cycles stay within 1,024 of the last boundary

@@ -1,6 +1,5 @@
 use Rattle.std.proofs.Common.{◌≡◌, None, Some, IsSome, refl, ap, ◌∙◌, sym, rules}
-use Rattle.mic_clock.specs.View.{BoardView}
-use Rattle.mic_clock.specs.Run.{bounded}
+use Rattle.mic_clock.specs.Prelude.{BoardView, bounded}
 use Rattle.mic_clock.proofs.Reach.{IsCutByWrite-lost, by_done, no_err, if_err}
 use Rattle.mic_clock.proofs.board.Board.stop_at.Goals as goal
 

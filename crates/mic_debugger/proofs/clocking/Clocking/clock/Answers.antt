@@ -1,10 +1,8 @@
 use Rattle.std.proofs.Common.{◌≡◌, ◌⊎◌, ◌+◌, ◌<◌, ◌++◌, ◌∙◌, ◌^◌, ℕ, [], None, Ok, IsSome, refl, sym, ap, rules}
-use Rattle.micro_word.specs.ControlStore.{ControlStore}
-use Rattle.mic_debugger.specs.Obeys.{session_at}
-use Rattle.mic_debugger.specs.Outcome.{streams}
-use Rattle.mic_debugger.specs.Session.{text_between}
-use Rattle.mic_base.specs.Putting.{puts_nothing, puts_then}
-use Rattle.cli_session.specs.Fronts.{on_err_of}
+use Rattle.micro_word.specs.Prelude.{ControlStore}
+use Rattle.mic_debugger.specs.Prelude.{session_at, streams, text_between}
+use Rattle.mic_base.specs.Prelude.{puts_nothing, puts_then}
+use Rattle.cli_session.specs.Prelude.{on_err_of}
 use Rattle.mic_debugger.proofs.Breaking.{broken_more, either_end, no_fault}
 use Rattle.mic_debugger.proofs.Underway.{underway_start, underway_more, underway_stopped, clocked_of}
 use Rattle.mic_debugger.proofs.Carrying.{clocked_broken, failed_after}

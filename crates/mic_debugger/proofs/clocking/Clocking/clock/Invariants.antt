@@ -1,9 +1,7 @@
 use Rattle.std.proofs.Common.{◌≡◌, ℕ, ◌+◌, ◌-◌, ◌^◌, None, is_some, if◌then◌else◌}
-use Rattle.mic_clock.specs.Board.{InTime}
+use Rattle.mic_clock.specs.Prelude.{InTime}
 use Rattle.mic_debugger.specs.declared.plan.Plan.TheVariants as plans
-use Rattle.mic_debugger.specs.Obeys.{StopsTo, session_at}
-use Rattle.mic_debugger.specs.Outcome.{GoesThrough, KeepFronts, streams}
-use Rattle.mic_debugger.specs.Session.{HasReadCause, IsUnderway}
+use Rattle.mic_debugger.specs.Prelude.{StopsTo, session_at, GoesThrough, KeepFronts, streams, HasReadCause, IsUnderway}
 use Rattle.mic_debugger.proofs.clocking.Clocking.clock.Given as goal
 
 -- the turns so far lead here, or are stopped here

@@ -1,10 +1,9 @@
 use Rattle.std.proofs.Common.{◌≡◌, ℕ, List, ◌++◌, codes, Some, refl, ◌∙◌, ap, subst, append_assoc, rules}
-use Rattle.mic_base.specs.Digits.{hex_text}
-use Rattle.ijvm_instr.specs.Instructions.{instr_at}
-use Rattle.ijvm_instr.specs.Text.{instr_text}
-use Rattle.verifier_facts.specs.Kinds.{IsKind}
+use Rattle.mic_base.specs.Prelude.{hex_text}
+use Rattle.ijvm_instr.specs.Prelude.{instr_at, instr_text}
+use Rattle.verifier_facts.specs.Prelude.{IsKind}
 use Rattle.verifier_facts.specs.declared.kind.Kind.TheVariants.{Start}
-use Rattle.mic_debugger.specs.View.{ListingView}
+use Rattle.mic_debugger.specs.Prelude.{ListingView}
 use Rattle.mic_debugger.proofs.listing.Listing.instruction.Goals as goal
 
 pub returns-in-Some : goal.returns-in-Some

@@ -1,11 +1,9 @@
 use Rattle.std.proofs.Common.{subst}
 use Rattle.std.proofs.lemmas.Result.{on_err_weaker, on_ok_weaker}
-use Rattle.cli_outside.specs.Outside.{sink_of}
+use Rattle.cli_outside.specs.Prelude.{sink_of}
 use Rattle.mic_debugger.specs.declared.plan.Plan.{Plan}
 use Rattle.mic_debugger.specs.declared.plan.Plan.TheVariants as plans
-use Rattle.mic_debugger.specs.Obeys.{IsCarriedOut, IsPlanBroken}
-use Rattle.mic_debugger.specs.Outcome.{Streams, streams}
-use Rattle.mic_debugger.specs.View.{SessionView}
+use Rattle.mic_debugger.specs.Prelude.{IsCarriedOut, IsPlanBroken, Streams, streams, SessionView}
 use Rattle.mic_debugger.proofs.Breaking.{shown_in_part, shown_whole}
 use Rattle.mic_debugger.proofs.session.Session.carry_out.Given.{Over}
 use Rattle.mic_debugger.proofs.session.Session.carry_out.Goals as goal

@@ -1,5 +1,5 @@
 use Rattle.std.proofs.Common.{◌∙◌, sym, ap, arith, length, ℕ, ◌-◌}
-use Rattle.mic_rewind.specs.View.{HistoryView, begun_at, first_in, kept_in}
+use Rattle.mic_rewind.specs.Prelude.{HistoryView, begun_at, first_in, kept_in}
 use Rattle.mic_rewind.proofs.Begun.{begun-length}
 use Rattle.mic_rewind.proofs.Zipping.{kept-length}
 use Rattle.mic_rewind.proofs.history.History.kept.Goals as goal

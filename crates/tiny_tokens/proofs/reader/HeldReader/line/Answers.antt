@@ -1,9 +1,7 @@
 use Rattle.std.proofs.Common.{◌≡◌, ◌∙◌, ap, false, None, Ok, Some, subst, sym, true}
-use Rattle.source_text.specs.Reading.{lex}
-use Rattle.source_text.specs.Tokens.{is_blank}
-use Rattle.source_text.specs.Table.{token_of}
-use Rattle.tiny_lexemes.specs.Lexemes.{read, tiny}
-use Rattle.tiny_tokens.specs.Reading.{add_read}
+use Rattle.source_text.specs.Prelude.{lex, is_blank, token_of}
+use Rattle.tiny_lexemes.specs.Prelude.{read, tiny}
+use Rattle.tiny_tokens.specs.Prelude.{add_read}
 use Rattle.tiny_tokens.proofs.Adding.{line_begins, line_blank, line_end, line_none, line_token}
 use Rattle.tiny_tokens.proofs.reader.HeldReader.line.Goals as goal
 

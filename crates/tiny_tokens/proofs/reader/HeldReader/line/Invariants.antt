@@ -1,7 +1,7 @@
 use Rattle.std.proofs.Common.{◌≡◌, length}
-use Rattle.source_text.specs.Reading.{lex}
-use Rattle.tiny_lexemes.specs.Lexemes.{read, tiny}
-use Rattle.tiny_tokens.specs.Reading.{add_read}
+use Rattle.source_text.specs.Prelude.{lex}
+use Rattle.tiny_lexemes.specs.Prelude.{read, tiny}
+use Rattle.tiny_tokens.specs.Prelude.{add_read}
 use Rattle.tiny_tokens.proofs.reader.HeldReader.line.Given as goal
 
 abbrev pub invariant-loop-first : goal.invariant-loop-first

@@ -3,7 +3,7 @@ use Rattle.std.specs.Prelude.{slice_get, slice_index_or}
 use Rattle.std.specs.Int.{bit_at}
 use Rattle.std.proofs.lemmas.Option.{slice_get-get_or}
 use Rattle.verifier_locals.specs.declared.graph.Node.{Node}
-use Rattle.verifier_locals.specs.LocalSet.{IsIn}
+use Rattle.verifier_locals.specs.Prelude.{IsIn}
 use Rattle.verifier_locals.proofs.trace.Trace.visit.Goals as goal
 
 abbrev nowhere : Node

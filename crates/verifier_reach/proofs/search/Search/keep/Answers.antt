@@ -1,6 +1,6 @@
 use Rattle.std.proofs.Common.{◌≡◌, [], ◌∷◌, ◌++◌, Some, None}
 use Rattle.std.proofs.lemmas.Option.{slice_get_within}
-use Rattle.verifier_reach.specs.Places.{get_set_same}
+use Rattle.verifier_reach.specs.Prelude.{get_set_same}
 use Rattle.verifier_reach.proofs.Keeping.{search_set, grows_set}
 use Rattle.verifier_reach.proofs.search.Search.keep.Goals as goal
 

@@ -1,0 +1,2 @@
+-- The words of this crate, for those that use it.
+pub use Rattle.mic1_interpreter.specs.Stands.{Stands}
