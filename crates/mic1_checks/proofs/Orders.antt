@@ -1,8 +1,10 @@
 -- Writes in another order.
-use Rattle.std.proofs.Common.{◌≡◌, ◌≢◌, ℕ, zero, suc, ◌<◌, ◌+◌, List, [], ◌∷◌, ◌++◌, length, take, get_or, refl, ap, ◌∙◌, arith}
-use Rattle.std.specs.Prelude.{slice_set}
-use Rattle.std.specs.List.{All, remove}
-use Rattle.std.proofs.lemmas.List.{take_more}
+use Rattle.std.proofs.Common.{◌≡◌, ◌≢◌, ◌==◌, ℕ, true, false, inl, inr, sym, zero, suc, ◌<◌, ◌+◌, List, [], ◌∷◌, ◌++◌, length, take, get_or, refl, ap, ◌∙◌, arith}
+use Rattle.std.specs.Prelude.{slice_index_or, slice_set}
+use Rattle.std.specs.List.{All, Any, remove}
+use Rattle.std.proofs.lemmas.Bool.{cases_Bool}
+use Rattle.std.proofs.lemmas.Bool.Decides.{Decides-eqb}
+use Rattle.std.proofs.lemmas.List.{set-set, take_more}
 use Rattle.std.proofs.lemmas.List.Elements.{All-head, All-tail}
 use Rattle.mic1_cycles.specs.declared.symbols.Write.{Write}
 use Rattle.mic1_cycles.specs.Trail.{written_by}
@@ -14,6 +16,9 @@ exchanged (x ∷ xs) zero zero a b h = absurd (h refl)
 exchanged (x ∷ xs) zero (suc j) a b h = refl
 exchanged (x ∷ xs) (suc i) zero a b h = refl
 exchanged (x ∷ xs) (suc i) (suc j) a b h = ap (λ (ys : List ℕ). x ∷ ys) (exchanged xs i j a b (λ e. h (ap suc e)))
+
+again : (words : List ℕ) (i j a b : ℕ) → i ≡ j → slice_set (slice_set words i a) j b ≡ slice_set words j b
+again words i j a b e = ap (λ (k : ℕ). slice_set (slice_set words k a) j b) e ∙ set-set words j a b
 
 module _ (word : ℕ → ℕ) where
   abbrev pub IsApart : Write → Write → Type 0
@@ -29,7 +34,7 @@ module _ (word : ℕ → ℕ) where
       ∙ ap (λ (ys : List ℕ). written_by word (remove xs i) ys)
       (exchanged words (word x.at) (word w.at) (word x.value) (word w.value) (All-head (IsApart w) x (take i xs) apart))
 
-  written_append : (xs ys : List Write) (words : List ℕ) → written_by word (xs ++ ys) words ≡ written_by word ys (written_by word xs words)
+  pub written_append : (xs ys : List Write) (words : List ℕ) → written_by word (xs ++ ys) words ≡ written_by word ys (written_by word xs words)
   written_append [] ys words = refl
   written_append (x ∷ xs) ys words = written_append xs ys (slice_set words (word x.at) (word x.value))
 
@@ -38,3 +43,20 @@ module _ (word : ℕ → ℕ) where
       written_by word (take (i + 1) ws) words ≡ written_by word (get_or ws i d ∷ []) (written_by word (take i ws) words)
   one_more ws i d within words =
       ap (λ (xs : List Write). written_by word xs words) (take_more ws i d within) ∙ written_append (take i ws) (get_or ws i d ∷ []) words
+
+  -- a write that a later one undoes
+  undone : (at v : ℕ) (xs : List Write) (k : ℕ) (x : Write) → k < length xs → slice_index_or xs k x ≡ x → x.at ≡ at → (words : List ℕ) →
+      written_by word xs (slice_set words (word at) v) ≡ written_by word xs words
+  undone at v [] k x inside is same words = absurd (omega (arith, inside))
+  undone at v (y ∷ ys) zero x inside is same words =
+      ap (λ (m : List ℕ). written_by word ys m) (again words (word at) (word y.at) v (word y.value) (ap word (sym same ∙ ap (λ (w : Write). w.at) (sym is))))
+  undone at v (y ∷ ys) (suc k) x inside is same words = elim (cases_Bool (word at == word y.at)) [
+    | inl hit ↦ ap (λ (m : List ℕ). written_by word ys m) (again words (word at) (word y.at) v (word y.value) ((Decides-eqb (word at) (word y.at)).0 hit))
+    | inr not_hit ↦
+        let other : word at ≢ word y.at = λ e. let both : true ≡ false = sym ((Decides-eqb (word at) (word y.at)).1 e) ∙ not_hit in cc in
+        ap (λ (m : List ℕ). written_by word ys m) (exchanged words (word at) (word y.at) v (word y.value) other)
+        ∙ undone at v ys k x (omega (arith, inside)) is same (slice_set words (word y.at) (word y.value))
+  ]
+
+  pub without : (at v : ℕ) (xs : List Write) → Any (λ w. w.at ≡ at) xs → (words : List ℕ) → written_by word xs (slice_set words (word at) v) ≡ written_by word xs words
+  without at v xs any words = undone at v xs any.0 any.1 any.2 any.3 any.4 words

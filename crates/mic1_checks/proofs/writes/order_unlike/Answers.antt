@@ -7,7 +7,7 @@ use Rattle.mic1_cycles.specs.Known.{Knows}
 use Rattle.mic1_cycles.specs.Trail.{written_by}
 use Rattle.mic1_checks.specs.Transfer.{LeaveAlike}
 use Rattle.mic1_checks.proofs.Orders.{one_more}
-use Rattle.mic1_checks.proofs.writes.writes_unlike.Goals as goal
+use Rattle.mic1_checks.proofs.writes.order_unlike.Goals as goal
 
 pub loop-place-preserved : goal.loop-place-preserved
 loop-place-preserved c e fits knows words =
