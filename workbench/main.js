@@ -15,7 +15,7 @@ import { handOut, openLink } from "./page/hand_out.js";
 import { buildFiles } from "./page/intake.js";
 import { buildMemory, renderMemory } from "./page/memory_view.js";
 import { buildPaper } from "./page/paper.js";
-import { showPart } from "./page/parts.js";
+import { showChosenTab, showPart } from "./page/parts.js";
 import { buildProfile, renderProfile } from "./page/profile_view.js";
 import { buildProof, renderProof, saidOf } from "./page/proof_view.js";
 import { RecordedEngine, showRecorded } from "./page/recorded.js";
@@ -55,9 +55,10 @@ function renderViews(bench, boxes) {
   for (const [name, , , render] of VIEWS) {
     const isOn = name === bench.view;
     boxes[name].hidden = !isOn;
-    const tab = byId(`tab-${name}`);
+    const tab = byId(`tab-${name}`), isChosenNow = isOn && tab.tabIndex !== 0;
     tab.setAttribute("aria-selected", String(isOn));
     tab.tabIndex = isOn ? 0 : -1;
+    if (isChosenNow) showChosenTab();
     if (isOn) render(bench, boxes[name]);
   }
 }

@@ -379,6 +379,23 @@ def exercises(results, page, is_long):
             if browser.value("typeof workbench.exercise.proved === 'string'") and NO_CHECK not in page.text("#exercise"):
                 results.check("%s: the %s is proved" % (name, what), page.text("#exercise-proof").startswith("Proved"), page.text("#exercise-proof"))
         browser.value("workbench.removeFile(workbench.current.name)")
+    small_window(results, page)
+
+
+def small_window(results, page):
+    """On a small window a task is shown when its exercise is chosen, and the editor when it is begun"""
+    browser, part = page.browser, "document.body.dataset.part"
+    browser.size(390, 844)
+    browser.value("document.querySelector('#exercises button').click()")
+    results.check("on a small window the task is shown", browser.value(part) == "run", browser.value(part))
+    in_view = "(tab => tab.left >= 0 && tab.right <= innerWidth)(document.getElementById('tab-exercise').getBoundingClientRect())"
+    results.check("and the tab of its view", browser.value(in_view))
+    browser.click("#begin-exercise")
+    results.check("and the editor for its file", browser.wait("%s === 'editor'" % part, 10), browser.value(part))
+    page.run(steps=True)
+    results.check("and the steps of a run by a key", browser.value("document.activeElement.id") == "step-on", page.text("#where"))
+    browser.value("workbench.removeFile(workbench.current.name)")
+    browser.size(1440, 900)
 
 
 def recorded(results, page, mic, path):

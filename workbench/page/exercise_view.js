@@ -5,6 +5,7 @@ import { textOfBytes } from "../program/bytes.js";
 import { exerciseOptions, gradeCase } from "../program/exercise.js";
 import { button, byId, cell, element, fill, headRow, link, soft, tableRow } from "./dom.js";
 import { markdown } from "./markdown.js";
+import { showPart } from "./parts.js";
 import { verdictParts } from "./proof_view.js";
 
 const SHOWN = 300;              // letters of an input or output
@@ -86,6 +87,7 @@ function begin(bench, exercise, exists) {
   if (exists) bench.openFile(file);
   else bench.newFile(file, exercise.start || "");
   bench.changed("all");
+  showPart("editor");
   byId("editor").querySelector("textarea").focus();
 }
 function anew(bench, exercise) {

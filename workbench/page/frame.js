@@ -25,7 +25,7 @@ export function buildFrame(bench) {
   byId("files-panel").addEventListener("click", event => {
     if (!event.target.closest("li button")) return;
     showFiles(false);
-    showPart(event.target.closest("#exercises") ? "run" : "editor");
+    showPart(event.composedPath().includes(byId("exercises")) ? "run" : "editor"); // the list was drawn anew, without the target
   });
   showPart("editor");
   addEventListener("keydown", event => {
@@ -81,6 +81,7 @@ function keys(bench, event) {
 
 // After a step the keys of the steps are at hand: the caret leaves the editor
 async function runByKey(bench, withSteps) {
+  showPart("run");
   await bench.run(withSteps);
   if (withSteps && bench.stepping) byId("step-on").focus();
 }
