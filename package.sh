@@ -1,7 +1,7 @@
 #!/bin/sh
 # package.sh [--released] [VERSION]: makes in the folder out/ a tarball and a Debian package of what install.sh installs,
 # with the documents as HTML too. The programs are the proved ones, or with --released those of release/. VERSION is the
-# day and the name of its commit where none is given. The same sources give the same two files.
+# day, the time and the name of its commit where none is given. The same sources give the same two files.
 # Needs git, binutils, cmark-gfm, dpkg and Python 3.9.
 set -eu
 umask 022
@@ -29,7 +29,10 @@ else
     about=$(scripts/version)
 fi
 said() { echo "$about" | sed -n "s/^$1 //p"; }
-version=${1-$(said day | tr -d -)+git$(said commit | cut -c 1-8)}
+commit=$(said commit | cut -c 1-40)
+# the time puts two packages of one day in their order
+time=$(TZ=UTC0 git log -1 --format=%cd --date=format-local:.%H%M "$commit" 2>/dev/null) || time=
+version=${1-$(said day | tr -d -)$time+git$(echo "$commit" | cut -c 1-8)}
 case $version in
 [!0-9]* | '') refuse "$usage (a version begins with a digit)" 64 ;;
 *[!A-Za-z0-9.+~]*) refuse "a version has letters, digits and . + ~ alone: $version" 64 ;;
