@@ -76,7 +76,7 @@ program=$("scripts/$what-program") || exit 1
 
 room=$(mktemp -d)
 trap 'rm -rf "$room"' EXIT
-# a release that was made before mic-check is installed without it
+# a release may leave mic-check out
 judge=
 case $what in
 proved) judge=$(scripts/proved-program mic_check) || exit 1 ;;
