@@ -249,10 +249,6 @@ def other_views(results, page, program, is_long):
     browser.value("workbench.removeFile('quick_jumps.mal')")
 
 
-NO_CHECK = "has no mic_check_call"  # of a module that was made before there was mic-check
-HAS_PROOFS = "!!document.getElementById('prove')"  # which a page of that time has not either
-
-
 def prove(page):
     """Has the microprogram in the editor proved, by the key, and returns what is shown"""
     page.browser.value("workbench.say('')")
@@ -265,10 +261,7 @@ def proofs(results, page, program, is_long):
     """A microprogram is proved; of one that is not shown a statement is gone to by keys alone"""
     browser = page.browser
     page.open_file("quick_jumps.mal")
-    shown = prove(page) if browser.value(HAS_PROOFS) else None
-    if shown is None or NO_CHECK in browser.value("workbench.notice"):
-        results.skip("the module of this page has no mic-check: nothing is proved in it")
-        return
+    shown = prove(page)
     results.check("a microprogram is proved, with fewer cycles", shown.startswith("Proved") and re.search(r"GOTO\s+6\s+7\s+1 fewer", shown)
                   and re.search(r"IADD\s+4\s+4\s*\n", shown), shown)
     rows = "[...document.querySelectorAll('table.costs tr.other td:first-child')].map(cell => cell.textContent)"
@@ -376,7 +369,7 @@ def exercises(results, page, is_long):
             points = re.search(r"([\d.]+) of ([\d.]+) points", page.text("#exercise"))
             right = points and (points[1] == points[2]) == (what == "solution")
             results.check("%s: the %s" % (name, what), right, page.text("#exercise")[-300:])
-            if browser.value("typeof workbench.exercise.proved === 'string'") and NO_CHECK not in page.text("#exercise"):
+            if browser.value("typeof workbench.exercise.proved === 'string'"):
                 results.check("%s: the %s is proved" % (name, what), page.text("#exercise-proof").startswith("Proved"), page.text("#exercise-proof"))
         browser.value("workbench.removeFile(workbench.current.name)")
     small_window(results, page)
