@@ -2,11 +2,6 @@
 use Rattle.std.proofs.Common.{◌≡◌, ℕ, List, Option, refl, sym, subst}
 use Rattle.console_port.specs.Prelude.{World, BusView, ConsoleView, Untaken, Given, Shows, IsLed}
 
--- what leads each shown world to itself
-pub led_same : (left held : Option (List ℕ)) (bus : BusView) (leads : World → World → Type 0) →
-    ((w : World) → Shows left held bus w → leads w w) → IsLed left held bus left held bus leads
-led_same left held bus leads f rest fits = (rest, fits, λ w shows same. (w, f w shows, shows, same))
-
 -- what leads each shown world to the same with the new words
 pub led_inside : (left held : Option (List ℕ)) (bus bus' : BusView) → bus'.console ≡ bus.console → (leads : World → World → Type 0) →
     ((w : World) → Shows left held bus w → leads w (record w { words = bus'.words })) → IsLed left held bus left held bus' leads

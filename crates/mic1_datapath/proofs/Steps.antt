@@ -1,16 +1,14 @@
 -- What is asked of the bus for a statement, with its accesses, is its microstep or its refusal.
-use Rattle.std.proofs.Common.{◌≡◌, ℕ, ◌==◌, Bool, List, Option, None, Result, Ok, Err, length, sym, ap, ◌∙◌}
-use Rattle.std.specs.Prelude.{⊤, IsErrAnd}
+use Rattle.std.proofs.Common.{◌≡◌, ℕ, ◌==◌, Bool, List, Option, None, Ok, length, sym, ap, ◌∙◌}
+use Rattle.std.specs.Prelude.{⊤}
 use Rattle.console_port.specs.Prelude.{World, Refusal, ChangesOnly, IsLed, refused_by, BusView}
-use Rattle.console_port.specs.declared.fault.BusFault.{BusFault}
 use Rattle.mic_words.specs.declared.machine.Machine.TheVariants as machines
 use Rattle.micro_word.specs.Prelude.{statement_of, mem_of, fields_of, shifted}
 use Rattle.micro_word.specs.declared.statement.Mem.{Mem}
 use Rattle.micro_word.specs.declared.statement.Placed.{Placed}
-use Rattle.mic_clock.specs.Prelude.{IsEdge, LetsBytesWait, Outcome, Done}
-use Rattle.mic_datapath.specs.Prelude.{access_refusal, word_under_way, byte_under_way, written, sampled, outcome, AtConsole, HasAccessed, IsAccess, Asks, answered}
+use Rattle.mic_clock.specs.Prelude.{IsEdge, Outcome, Done}
+use Rattle.mic_datapath.specs.Prelude.{access_refusal, word_under_way, byte_under_way, written, sampled, outcome, IsAccess, Asks, answered}
 use Rattle.mic1_datapath.specs.Prelude.{ports_at, ports_of, result_of, settled, next_micro, refusal, clock, world_after, microstep, step_of_word, mic1_meaning, Micro}
-use Rattle.mic_datapath.specs.Access.{LetsBytesWait as LetsWait}
 use Rattle.mic_datapath.specs.Edges as edges
 use Rattle.mic_datapath.specs.declared.ports.Ports.{Ports}
 
@@ -66,7 +64,7 @@ is_done s m p h w v n size word byte clear a t moves =
     ∙ ap (λ (x : Micro). Done x v) (sym moves)
 
 -- a statement asks for its accesses
-asks : (word : ℕ) (m : Micro) (p : Asked) → IsAsked (statement_of machines.Mic1 word) m p →
+pub asks : (word : ℕ) (m : Micro) (p : Asked) → IsAsked (statement_of machines.Mic1 word) m p →
     Asks mic1_meaning word m p.ports p.mem (λ n. access_refusal n p.mem p.fetch p.ports)
 unfolding step_of_word
 asks word m p h =
@@ -98,13 +96,3 @@ module _ (word : ℕ) (m : Micro) (p : Asked) (h : IsAsked (statement_of machine
         (ap (λ (q : Ports). q.mar) h.given ∙ sym (ap (λ (n : Micro). n.mar) moves))
         (λ w v shows shown a.
         is_done (statement_of machines.Mic1 word) m p h w v _ (edges.size_of mic1_meaning word m left held bus w shows) read byte clear a t moves)
-
-    pub edge_fails : {T U : Type 0} (law : AtConsole) (Does : T → World → World → Type 0) (e : BusFault) (r : Result U BusFault) → IsErrAnd r (λ f. f ≡ e) →
-        HasAccessed (why (length bus.words)) p.mem p.ports.mar Does left held bus left' held' bus' (Err e) →
-        IsEdge mic1_meaning word m left held bus {T = U} m left' held' bus' r
-    edge_fails law Does e r hands a =
-        edges.edge_fails mic1_meaning word m left held bus p.ports p.mem why (asks word m p h) law Does left' held' bus' e r hands a
-
-  pub edge_waits : {K : Type 0} (law : AtConsole) (sink sink' : K) → LetsWait (length bus.words) p.mem p.ports.mar (why (length bus.words)) bus.console.kept sink sink' →
-      LetsBytesWait mic1_meaning word m left held bus sink sink'
-  edge_waits = edges.edge_waits mic1_meaning word m left held bus p.ports p.mem why (asks word m p h)

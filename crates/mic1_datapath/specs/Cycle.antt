@@ -1,10 +1,10 @@
--- What a cycle of Mic-1 has before its edge: a word with its control lines, and what leaves the ALU and the shifter.
--- And an edge that needs no source and no sink.
-use Rattle.std.specs.Prelude.{◌≡◌, ℕ, Bool, true, false, IsTrue, Option}
+-- What the edge of Mic-1 is handed: a word with its control lines, and what leaves the ALU and the shifter. And an edge that
+-- needs no source and no sink.
+use Rattle.std.specs.Prelude.{◌≡◌, ℕ, Bool, true, false, Option}
 use Rattle.console_port.specs.Prelude.{BusView}
-use Rattle.mic_clock.specs.Prelude.{IsEdgeInside}
+use Rattle.mic_clock.specs.Prelude.{IsDecoded, IsEdgeInside}
 use Rattle.mic_words.specs.declared.machine.Machine.TheVariants as machines
-use Rattle.micro_word.specs.Prelude.{mem_of, statement_of, fields_of, AreLines, shifted, is_canonical}
+use Rattle.micro_word.specs.Prelude.{mem_of, statement_of, fields_of, shifted}
 use Rattle.micro_word.specs.declared.lines.Lines.{Lines}
 use Rattle.micro_word.specs.declared.statement.Mem.TheVariants as mems
 use Rattle.mic_datapath.specs.declared.ports.Ports.{Ports}
@@ -16,20 +16,15 @@ use Rattle.mic1_datapath.specs.declared.edge.Try.{Try}
 use Rattle.mic1_datapath.specs.declared.edge.Try.TheVariants as tries
 use Rattle.mic1_datapath.specs.declared.latches.Latches.{Latches}
 
--- a canonical word, with its control lines
-pub record IsDecoded (word : ℕ) (lines : Lines) : Type 0 where
-  pub canonical : IsTrue (is_canonical machines.Mic1 word)
-  pub decoded : AreLines machines.Mic1 (fields_of machines.Mic1 word) lines
-
 -- what leaves the ALU, and what is on the C bus
 pub record HasComputed (word : ℕ) (m : Micro) (value c : ℕ) : Type 0 where
   pub value_is : value ≡ result_of (statement_of machines.Mic1 word).part m
   pub c_is : c ≡ shifted (statement_of machines.Mic1 word).part.shift value
 
--- what a cycle has before its edge
+-- what an edge is handed
 pub record IsAtEdge (l : Latches) (word : ℕ) (lines : Lines) (value c : ℕ) : Type 0 where
   pub latches : AreLatches l
-  pub decoded : IsDecoded word lines
+  pub decoded : IsDecoded machines.Mic1 word lines
   pub computed : HasComputed word (micro_in l) value c
 
 -- the state after a word that has this value out of the ALU, with what its accesses sampled under way

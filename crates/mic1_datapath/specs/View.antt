@@ -1,7 +1,6 @@
 -- What contracts see of a Mic-1.
 use Rattle.std.specs.Prelude.{ℕ, false, if◌then◌else◌}
-use Rattle.mic_clock.specs.Prelude.{Phase, Buses, start_buses}
-use Rattle.mic_datapath.specs.Prelude.{phase_of}
+use Rattle.mic_clock.specs.Prelude.{Buses, start_buses}
 use Rattle.mic1_datapath.specs.Mic1.{computed_on}
 use Rattle.mic1_datapath.specs.Micro.{Micro}
 use Rattle.mic1_datapath.specs.Latches.{micro_in}
@@ -9,13 +8,6 @@ use Rattle.mic1_datapath.specs.declared.mic1.Mic1.{Mic1}
 
 abbrev pub micro_of : Mic1 → Micro
 micro_of t = micro_in t.latches
-
-abbrev pub phase : Mic1 → Phase
-phase t = phase_of t.stage
-
--- the microinstruction that was set up last
-abbrev pub microinstruction_of : Mic1 → ℕ
-microinstruction_of t = t.word
 
 -- what a word has on the buses for these operands
 abbrev pub buses_by : ℕ → ℕ → ℕ → Buses

@@ -3,7 +3,7 @@
 ghost use Rattle.std.specs.Prelude.{◌≡◌, IsTrue};
 ghost use Rattle.mic_words.specs.declared.machine.Machine.TheVariants.{Mic1};
 ghost use Rattle.micro_word.specs.Prelude.{shift_of, statement_of, fields_of, shifted, is_canonical};
-ghost use Rattle.mic1_datapath.specs.Cycle.{HasComputed, IsDecoded};
+ghost use Rattle.mic_clock.specs.Prelude.{IsDecoded};
 ghost use Rattle.mic1_datapath.specs.Latches.{AreLatches, micro_in};
 ghost use Rattle.mic1_datapath.specs.Mic1.{computed, computed_on, driven};
 ghost use Rattle.mic1_datapath.specs.Microstep.{source};
@@ -51,9 +51,8 @@ pub fn computed_of(word: u64, a: u32, b: u32) -> Computed
 #[inline(always)]
 pub fn driven_by(latches: &Latches, _word: u64, lines: &Lines) -> Drive
     requires latches { AreLatches latches.now }
-    requires decoded { IsDecoded _word lines.now }
-    ensures value { result ≡ driven _word (micro_in latches.now) }
-    ensures b { result.b ≡ source (statement_of Mic1 _word).part.b (micro_in latches.now) }
+    requires decoded { IsDecoded Mic1 _word lines.now }
+    ensures { result ≡ driven _word (micro_in latches.now) }
 {
     word_law(Machine::Mic1);
     statement_law(Machine::Mic1);
@@ -67,10 +66,9 @@ pub fn driven_by(latches: &Latches, _word: u64, lines: &Lines) -> Drive
 /// What the ALU and the shifter give for what is on the B bus.
 #[inline(always)]
 pub fn computed_by(latches: &Latches, word: u64, lines: &Lines, b: u32) -> Computed
-    requires decoded { IsDecoded word lines.now }
+    requires decoded { IsDecoded Mic1 word lines.now }
     requires b { b ≡ source (statement_of Mic1 word).part.b (micro_in latches.now) }
-    ensures value { result ≡ computed word (micro_in latches.now) }
-    ensures edge { HasComputed word (micro_in latches.now) result.alu.value result.c }
+    ensures { result ≡ computed word (micro_in latches.now) }
 {
     word_law(Machine::Mic1);
     statement_law(Machine::Mic1);

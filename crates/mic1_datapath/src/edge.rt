@@ -1,21 +1,14 @@
-//! The clock edge of a cycle, after what the cycle computed.
+//! The clock edge of a cycle whose accesses need neither a source nor a sink.
 
-ghost use Rattle.std.specs.Prelude.{◌≡◌, ◌≢◌, true, false, OnOk, OnErr};
-ghost use Rattle.console_port.specs.Prelude.{StreamsGoOn};
+ghost use Rattle.std.specs.Prelude.{◌≡◌, ◌≢◌, true, false};
 ghost use Rattle.mic_words.specs.declared.machine.Machine.TheVariants.{Mic1};
 ghost use Rattle.micro_word.specs.Prelude.{fields_of};
-ghost use Rattle.mic_clock.specs.Prelude.{IsEdgeOver};
-ghost use Rattle.mic1_datapath.specs.Cycle.{IsAtEdge, IsLast, IsQuiet, IsTried, is_done};
-ghost use Rattle.mic1_datapath.specs.Latches.{AreLatches, fetches, micro_in};
-ghost use Rattle.mic1_datapath.specs.Mic1.{mic1_meaning};
+ghost use Rattle.mic1_datapath.specs.Cycle.{IsAtEdge, IsQuiet, IsTried, is_done};
+ghost use Rattle.mic1_datapath.specs.Latches.{fetches};
 
 use crate::latches::{Latches, is_read};
-use console_port::{Bus, BusFault};
-use mic_base::{Sink, Source};
-use mic_datapath::{
-    Sampled, access_memory, access_tested, console_law, fetch_alone, is_in_memory, read_alone,
-    write_alone,
-};
+use console_port::Bus;
+use mic_datapath::{Sampled, access_memory, fetch_alone, is_in_memory, read_alone, write_alone};
 use micro_word::{Lines, Machine, Mem, bits};
 
 /// What is sampled where nothing is read and nothing fetched.
@@ -127,88 +120,4 @@ pub fn edge_inside(
     let sampled = access_memory(mem, fetch, &ports, bus);
     latches.advance(word, lines, value, c, sampled);
     true
-}
-
-/// The edge of any word. Few words access something else than memory, or are refused.
-#[cold]
-fn any_edge<S: Source, K: Sink>(
-    latches: &mut Latches,
-    word: u64,
-    lines: &Lines,
-    value: u32,
-    c: u32,
-    bus: &mut Bus,
-    source: &mut S,
-    sink: &mut K,
-) -> Result<(), BusFault>
-    requires { IsAtEdge latches.old word lines.now value c }
-    ensures latches { AreLatches latches.new }
-    ensures edge { IsEdgeOver mic1_meaning S.left K.held word (micro_in latches.old) bus.old source.old sink.old
-        (micro_in latches.new) bus.new source.new sink.new result }
-    ensures streams { StreamsGoOn S.left S.faults K.held K.passed K.faults bus.old source.old sink.old
-        bus.new source.new sink.new result }
-    ensures last { OnOk result (IsLast word latches.new) }
-    ensures stays { OnErr result (latches.new ≡ latches.old) }
-{
-    console_law();
-    let mem = Mem::of_bits(bits::mem(Machine::Mic1, word));
-    let fetch = bits::fetch(Machine::Mic1, word);
-    let ports = latches.ports(word, c);
-    let sampled = access_tested(
-        mem, fetch, ports.mar, ports.mdr, ports.pc, bus, source, sink,
-    )?;
-    latches.advance(word, lines, value, c, sampled);
-    Ok(())
-}
-
-/// `any_edge` in a function of its own: the space for its result is made here, and not in each cycle.
-#[inline(always)]
-fn edge_outside<S: Source, K: Sink>(
-    latches: &mut Latches,
-    word: u64,
-    lines: &Lines,
-    value: u32,
-    c: u32,
-    bus: &mut Bus,
-    source: &mut S,
-    sink: &mut K,
-) -> Result<(), BusFault>
-    requires { IsAtEdge latches.old word lines.now value c }
-    ensures latches { AreLatches latches.new }
-    ensures edge { IsEdgeOver mic1_meaning S.left K.held word (micro_in latches.old) bus.old source.old sink.old
-        (micro_in latches.new) bus.new source.new sink.new result }
-    ensures streams { StreamsGoOn S.left S.faults K.held K.passed K.faults bus.old source.old sink.old
-        bus.new source.new sink.new result }
-    ensures last { OnOk result (IsLast word latches.new) }
-    ensures stays { OnErr result (latches.new ≡ latches.old) }
-{
-    any_edge(latches, word, lines, value, c, bus, source, sink)?;
-    Ok(())
-}
-
-/// The clock edge. An Err leaves the latches as they were.
-#[inline(always)]
-pub fn edge<S: Source, K: Sink>(
-    latches: &mut Latches,
-    word: u64,
-    lines: &Lines,
-    value: u32,
-    c: u32,
-    bus: &mut Bus,
-    source: &mut S,
-    sink: &mut K,
-) -> Result<(), BusFault>
-    requires { IsAtEdge latches.old word lines.now value c }
-    ensures latches { AreLatches latches.new }
-    ensures edge { IsEdgeOver mic1_meaning S.left K.held word (micro_in latches.old) bus.old source.old sink.old
-        (micro_in latches.new) bus.new source.new sink.new result }
-    ensures streams { StreamsGoOn S.left S.faults K.held K.passed K.faults bus.old source.old sink.old
-        bus.new source.new sink.new result }
-    ensures last { OnOk result (IsLast word latches.new) }
-    ensures stays { OnErr result (latches.new ≡ latches.old) }
-{
-    if edge_inside(latches, word, lines, value, c, bus) {
-        return Ok(());
-    }
-    edge_outside(latches, word, lines, value, c, bus, source, sink)
 }

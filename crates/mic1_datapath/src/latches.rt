@@ -17,7 +17,7 @@ use mic_datapath::{
 use micro_word::{Lines, Machine, Mem, bits, statement_law, word_law};
 
 /// The word of `goto 0x000`, which reads and fetches nothing.
-pub const IDLE: u64 = 0x10_0009;
+const IDLE: u64 = 0x10_0009;
 
 /// The places of the registers that the memory's ports are given, and of the two forms of MBR.
 const MAR: u8 = 0;

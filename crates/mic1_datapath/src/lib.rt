@@ -1,5 +1,5 @@
-//! Mic-1 as a clocked machine: control lines, buses, latches, and loads that arrive a cycle later. Its four calls are
-//! one microstep, which assigns whole words.
+//! Mic-1 as a clocked machine: control lines, buses, latches, and loads that arrive a cycle later. Its cycle is one
+//! microstep, which assigns whole words.
 #![tactic(auto)]
 
 mod buses;

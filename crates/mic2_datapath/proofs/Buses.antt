@@ -1,13 +1,13 @@
--- What is on the buses, by the word that was set up.
-use Rattle.std.proofs.Common.{◌≡◌, ℕ, Bool, true, false, if◌then◌else◌, Option, None, refl, sym, ap, subst, ◌∙◌}
+-- What is on the buses in a cycle of a word.
+use Rattle.std.proofs.Common.{◌≡◌, ℕ, Bool, true, false, if◌then◌else◌, Option, None, refl, sym, ap, ◌∙◌}
 use Rattle.mic_words.specs.declared.machine.Machine.TheVariants as machines
 use Rattle.micro_word.specs.Prelude.{statement_of, alu, shifted}
 use Rattle.micro_word.specs.declared.statement.BusSource.{BusSource}
 use Rattle.micro_word.specs.declared.statement.Placed.{Placed}
-use Rattle.mic_clock.specs.Prelude.{Buses}
+use Rattle.mic_clock.specs.Prelude.{buses_in}
 use Rattle.mic_clock.specs.declared.buses.Drive.{Drive}
 use Rattle.mic_clock.specs.declared.buses.Computed.{Computed}
-use Rattle.mic2_datapath.specs.Prelude.{Micro, is_stalled, result_of, source, computed, computed_on, driven, flagged, stalled_drive, stalled_value, value_of, HasComputed, buses_by}
+use Rattle.mic2_datapath.specs.Prelude.{Micro, is_stalled, result_of, source, computed, computed_on, driven, flagged, stalled_drive, stalled_value, value_of, HasComputed, buses_by, buses_on, mic2_meaning}
 use Rattle.mic2_datapath.specs.declared.mic2.Past.TheVariants as pasts
 
 module _ (s : Placed) (m : Micro) where
@@ -67,44 +67,13 @@ module _ (word : ℕ) (m : Micro) (d : Drive) (is : d ≡ driven word m) where
         shifter = λ not. ap (λ (x : Computed). x.c) (goes not) ∙ sym (ap (λ (x : Computed). shifted s.part.shift x.alu.value) (goes not));
       }
 
--- what is on the buses in a cycle of a word
-abbrev pub buses_there : ℕ → Micro → Buses
-buses_there word m = record { drive = driven word m; computed = computed word m }
+  -- what was on them, by what the machine keeps of the cycle
 
--- a cycle that stalls
-module _ (word : ℕ) (m : Micro) (waits : is_stalled (statement_of machines.Mic2 word) m ≡ true) where
-  pub at_stall : HasComputed (statement_of machines.Mic2 word) m true 0 0
-  at_stall = record { waits = sym waits; alu = λ is. absurd (cc); shifter = λ is. absurd (cc) }
-
-  pub buses_stalled : (word' : ℕ) → word ≡ word' → buses_by pasts.Stalled word 0 0 ≡ buses_there word' m
+  pub buses_stalled : (last a b : ℕ) → d.stalled ≡ true → buses_by pasts.Stalled last a b ≡ buses_in mic2_meaning word m
   unfolding driven computed
-  buses_stalled word' same =
-      let s = statement_of machines.Mic2 word in
-      sym (ap (λ (b : Bool). record { drive = drive_if s m b; computed = value_if s m b }) waits) ∙ ap (λ (w : ℕ). buses_there w m) same
+  buses_stalled last a b stalls =
+      sym (ap (λ (b : Bool). record { drive = drive_if its_statement m b; computed = value_if its_statement m b }) (sym waits_there ∙ stalls))
 
--- any other, with this on its sides
-module _ (word : ℕ) (m : Micro) (a b : ℕ) (goes : is_stalled (statement_of machines.Mic2 word) m ≡ false)
-    (a_is : a ≡ source (statement_of machines.Mic2 word).part.a m) (b_is : b ≡ source (statement_of machines.Mic2 word).part.b m) where
-  abbrev the_statement : Placed
-  the_statement = statement_of machines.Mic2 word
-
-  pub nothing_on_side : the_statement.part.b ≡ None → b ≡ 0
-  nothing_on_side none = b_is ∙ ap (λ (o : Option BusSource). source o m) none
-
-  pub at_edge : (m' : Micro) → m' ≡ m → (value c : ℕ) → value ≡ alu the_statement.part.op a b → c ≡ shifted the_statement.part.shift value →
-      HasComputed the_statement m' false value c
-  at_edge m' stays value c value_is c_is =
-      subst (λ (n : Micro). HasComputed the_statement n false value c) (sym stays)
-      (record {
-        waits = sym goes;
-        alu = λ is. value_is ∙ (λ i. alu the_statement.part.op (a_is i) (b_is i));
-        shifter = λ is. c_is;
-      })
-
-  pub buses_clocked : (word' : ℕ) → word ≡ word' → buses_by pasts.Clocked word a b ≡ buses_there word' m
-  unfolding driven computed
-  buses_clocked word' same =
-      let s = the_statement in
-      (λ i. buses_by pasts.Clocked word (a_is i) (b_is i))
-      ∙ sym (ap (λ (x : Bool). record { drive = drive_if s m x; computed = value_if s m x }) goes)
-      ∙ ap (λ (w : ℕ). buses_there w m) same
+  pub buses_clocked : d.stalled ≡ false → buses_by pasts.Clocked word d.a d.b ≡ buses_in mic2_meaning word m
+  buses_clocked goes =
+      (λ i. buses_on word (record { a = d.a; b = d.b; stalled = sym goes i })) ∙ (λ i. record { drive = is i; computed = computed_there i })

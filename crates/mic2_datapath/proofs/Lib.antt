@@ -1,4 +1,3 @@
-pub mod Inside
 pub mod Buses
 pub mod Demands
 pub mod Sources

@@ -1,6 +1,6 @@
 -- What is asked of the bus for a statement, with its accesses, is its microstep or its refusal.
 use Rattle.std.proofs.Common.{◌≡◌, ℕ, Bool, true, false, if◌then◌else◌, List, Option, Some, None, Result, Ok, Err, length, refl, sym, ap, subst, ◌∙◌, arith}
-use Rattle.std.specs.Prelude.{⊤, IfErr, IsErrAnd, OnErr, OnOk}
+use Rattle.std.specs.Prelude.{⊤, IfErr, OnErr, OnOk}
 use Rattle.console_port.specs.Prelude.{World, Refusal, ChangesOnly, IsLed, Shows, refused_by, HasFaultCause, IsFault, StillTells, StreamsGoOn, BusView}
 use Rattle.console_port.specs.declared.fault.BusFault.{BusFault}
 use Rattle.console_port.specs.declared.fault.BusFault.TheVariants as faults
@@ -8,14 +8,12 @@ use Rattle.mic_words.specs.declared.machine.Machine.TheVariants as machines
 use Rattle.micro_word.specs.Prelude.{statement_of, mem_of, fields_of, names, shifted}
 use Rattle.micro_word.specs.declared.statement.Mem.{Mem}
 use Rattle.micro_word.specs.declared.statement.Placed.{Placed}
-use Rattle.mic_clock.specs.Prelude.{IsEdge, LetsBytesWait, Outcome, Done, refusal_in}
-use Rattle.mic_datapath.specs.Access.{LetsBytesWait as LetsWait}
-use Rattle.mic_datapath.specs.Prelude.{AtConsole, HasAccessed, IsTransfer, Asks, answered, refused_no_fault, second_clear, first_refusal, memory_refusal, word_under_way, written, sampled, outcome, loaded, ports_given}
+use Rattle.mic_clock.specs.Prelude.{IsEdge, Outcome, Done, refusal_in}
+use Rattle.mic_datapath.specs.Prelude.{IsTransfer, Asks, answered, led_same, refused_no_fault, second_clear, first_refusal, memory_refusal, word_under_way, written, sampled, outcome, loaded, ports_given}
 use Rattle.mic_datapath.specs.Edges as edges
 use Rattle.mic_datapath.specs.declared.ports.Ports.{Ports}
 use Rattle.mic2_fetch_unit.specs.Prelude.{Prefetch, edge_refusal, sample_refusal}
 use Rattle.mic2_datapath.proofs.Demands.{same_sample, same_unit}
-use Rattle.mic2_datapath.proofs.Inside.{led_same}
 use Rattle.mic2_datapath.specs.Prelude.{access_refusal, advanced, clock, demand, is_stalled, jumps, microstep, moved_on, refusal, registers_in, result_of, settled, stalled, step_if, unit_after, unit_refusal, unit_samples, world_after, HasComputed, mic2_meaning, step_of_word, Micro}
 
 -- what a cycle asks of the bus: an access, and the word that the fetch unit samples
@@ -140,7 +138,7 @@ is_done s m p h w v n size word words clear a shown t moves =
     ∙ ap (λ (x : Micro). Done x v) (sym moves)
 
 -- a statement asks for its accesses, in a cycle that does not stall
-asks : (word : ℕ) (m : Micro) (p : Asked) → IsAsked (statement_of machines.Mic2 word) m p → Asks mic2_meaning word m p.ports p.mem (λ n. refusal_on n p)
+pub asks : (word : ℕ) (m : Micro) (p : Asked) → IsAsked (statement_of machines.Mic2 word) m p → Asks mic2_meaning word m p.ports p.mem (λ n. refusal_on n p)
 unfolding step_of_word
 asks word m p h =
     let s = statement_of machines.Mic2 word in
@@ -276,13 +274,3 @@ module _ (word : ℕ) (m : Micro) (left held : Option (List ℕ)) (bus : BusView
     edge_either bus' read t (Ok done) led others clear moves same stays fails = edge_done left held bus' read clear led others t moves
     edge_either bus' read t (Err e) led others clear moves same stays fails =
         edges.edge_refused mic2_meaning word m left held bus p.ports p.mem why (asks word m p h) bus' same t stays e fails
-
-    pub edge_fails : {T U : Type 0} (law : AtConsole) (Does : T → World → World → Type 0) (left' held' : Option (List ℕ)) (bus' : BusView) (e : BusFault)
-        (r : Result U BusFault) → IsErrAnd r (λ f. f ≡ e) → HasAccessed (why (length bus.words)) p.mem p.ports.mar Does left held bus left' held' bus' (Err e) →
-        IsEdge mic2_meaning word m left held bus {T = U} m left' held' bus' r
-    edge_fails law Does left' held' bus' e r hands a =
-        edges.edge_fails mic2_meaning word m left held bus p.ports p.mem why (asks word m p h) law Does left' held' bus' e r hands a
-
-    pub edge_waits : {K : Type 0} (law : AtConsole) (sink sink' : K) → LetsWait (length bus.words) p.mem p.ports.mar (why (length bus.words)) bus.console.kept sink sink' →
-        LetsBytesWait mic2_meaning word m left held bus sink sink'
-    edge_waits = edges.edge_waits mic2_meaning word m left held bus p.ports p.mem why (asks word m p h)

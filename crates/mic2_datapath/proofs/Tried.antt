@@ -3,12 +3,12 @@ use Rattle.std.proofs.Common.{◌≡◌, ℕ, Bool, List, Option, None, Result, 
 use Rattle.std.specs.Prelude.{⊤, OnErr, is_ok}
 use Rattle.console_port.specs.Prelude.{BusView}
 use Rattle.console_port.specs.declared.fault.BusFault.{BusFault}
-use Rattle.mic_clock.specs.Prelude.{IsEdge}
-use Rattle.mic2_datapath.specs.Prelude.{IsTried, mic2_meaning, Micro}
+use Rattle.mic_clock.specs.Prelude.{IsEdge, IsTried}
+use Rattle.mic2_datapath.specs.Prelude.{mic2_meaning, Micro}
 
 pub tried : (word : ℕ) (m m' : Micro) (bus bus' : BusView) (r : Result ⊤ BusFault) (done : Bool) → done ≡ is_ok r →
     ((left held : Option (List ℕ)) → IsEdge mic2_meaning word m left held bus {T = ⊤} m' left held bus' r) →
-    bus'.console.ended ≡ bus.console.ended → OnErr r (bus' ≡ bus) → IsTried word m bus m' bus' done
+    bus'.console.ended ≡ bus.console.ended → OnErr r (bus' ≡ bus) → IsTried mic2_meaning word m bus m' bus' done
 tried word m m' bus bus' (Ok x) done is edge ended same =
     record { edge = λ yes. edge; ended = ended; none = λ no. absurd (cc) }
 tried word m m' bus bus' (Err e) done is edge ended same =

@@ -1,7 +1,6 @@
--- What the latches of Mic-2 mean: the microstep's state, and what its buses carry between its calls.
+-- What the latches of Mic-2 mean: the microstep's state, and what its edge is handed.
 use Rattle.std.specs.Prelude.{◌≡◌, ℕ, ◌*◌, ◌+◌, ◌<◌, ◌≤◌, Bool, true, false, IsTrue, length, slice_index, Option, None, is_some}
 use Rattle.console_port.specs.Prelude.{BusView}
-use Rattle.mic_clock.specs.Prelude.{IsEdgeInside}
 use Rattle.mic_words.specs.Prelude.{signed_byte, signed_pair}
 use Rattle.mic_words.specs.declared.machine.Machine.TheVariants.{Mic2}
 use Rattle.micro_word.specs.Prelude.{mem_of, statement_of, fields_of, AreLines, names, shifted, is_canonical}
@@ -13,7 +12,6 @@ use Rattle.micro_word.specs.declared.statement.Placed.{Placed}
 use Rattle.mic_datapath.specs.Prelude.{IsTransfer, LeadsInside, memory_refusal, registers_at, NineRegisters, loaded}
 use Rattle.mic_datapath.specs.declared.ports.Ports.{Ports}
 use Rattle.mic2_fetch_unit.specs.Prelude.{sample_refusal}
-use Rattle.mic2_datapath.specs.Mic2.{mic2_meaning}
 use Rattle.mic2_datapath.specs.Micro.{Micro}
 use Rattle.mic2_datapath.specs.Microstep.{demand, is_stalled, result_of, unit_samples}
 use Rattle.mic2_datapath.specs.declared.latches.Latches.{Latches}
@@ -58,7 +56,7 @@ pub record HasFront (operands : ℕ) (l : Latches) : Type 0 where
   pub pair : 2 ≤ operands → slice_index l.places 11 ≡ signed_pair (slice_index l.unit.bytes 0) (slice_index l.unit.bytes 1)
   pub unsigned_pair : 2 ≤ operands → slice_index l.places 12 ≡ 256 * slice_index l.unit.bytes 0 + slice_index l.unit.bytes 1
 
--- after the call that lets ALU and shifter work: what leaves them
+-- what left the ALU and the shifter, where the cycle does not stall
 pub record HasComputed (s : Placed) (m : Micro) (stalled : Bool) (value c : ℕ) : Type 0 where
   pub waits : stalled ≡ is_stalled s m
   pub alu : stalled ≡ false → value ≡ result_of s.part m
@@ -82,9 +80,3 @@ pub record IsInside (word c taken : ℕ) (l : Latches) (bus bus' : BusView) (wor
       LeadsInside bus bus' (λ w v. IsTransfer (length bus.words) (access_by (is_some word_read)) p w word_read v)
   pub samples : is_some word_read ≡ false → sample_refusal (length bus.words) (unit_samples (names (fields_of Mic2 word).c 2) c taken l.unit) ≡ None
   pub same : is_some word_read ≡ true → bus' ≡ bus
-
--- an edge that needs no source and no sink is done, or all is as it was
-pub record IsTried (word : ℕ) (m : Micro) (bus : BusView) (m' : Micro) (bus' : BusView) (done : Bool) : Type 0 where
-  pub edge : done ≡ true → IsEdgeInside mic2_meaning word m bus m' bus'
-  pub ended : bus'.console.ended ≡ bus.console.ended
-  pub none : done ≡ false → (m' ≡ m) × (bus' ≡ bus)

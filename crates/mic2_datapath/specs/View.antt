@@ -2,9 +2,8 @@
 use Rattle.std.specs.Prelude.{ℕ, false}
 use Rattle.mic_words.specs.declared.machine.Machine.TheVariants as machines
 use Rattle.micro_word.specs.Prelude.{statement_of}
-use Rattle.mic_clock.specs.Prelude.{Phase, Buses, start_buses}
+use Rattle.mic_clock.specs.Prelude.{Buses, start_buses}
 use Rattle.mic_clock.specs.declared.buses.Drive.{Drive}
-use Rattle.mic_datapath.specs.Prelude.{phase_of}
 use Rattle.mic2_datapath.specs.Micro.{Micro}
 use Rattle.mic2_datapath.specs.Latches.{micro_in}
 use Rattle.mic2_datapath.specs.Mic2.{computed_on, stalled_drive}
@@ -14,13 +13,6 @@ use Rattle.mic2_datapath.specs.declared.mic2.Past.TheVariants as pasts
 
 abbrev pub micro_of : Mic2 → Micro
 micro_of t = micro_in t.latches
-
-abbrev pub phase : Mic2 → Phase
-phase t = phase_of t.stage
-
--- the microinstruction that was set up last
-abbrev pub microinstruction_of : Mic2 → ℕ
-microinstruction_of t = t.control.word
 
 -- what is on the buses in a cycle of a word that drives them so
 abbrev pub buses_on : ℕ → Drive → Buses

@@ -1,23 +1,21 @@
 //! The word that is clocked.
 
-ghost use Rattle.std.specs.Prelude.{◌≡◌, ◌≢◌, ◌≤◌, ◌<◌, IsTrue, None, slice_index, true, false};
+ghost use Rattle.std.specs.Prelude.{◌≡◌, ◌≢◌, ◌≤◌, ◌<◌, IsTrue, None, true, false};
 ghost use Rattle.mic_words.specs.declared.machine.Machine.TheVariants.{Mic2};
 ghost use Rattle.micro_word.specs.Prelude.{is_canonical, addr_bits, jam_bits, mem_of, statement_of, fields_of, AreLines, AreSlots, names, alu, shifted};
+ghost use Rattle.mic_clock.specs.Prelude.{IsDecoded as IsDecodedFor};
 ghost use Rattle.mic_datapath.specs.Prelude.{next_address};
 ghost use Rattle.mic2_datapath.specs.Latches.{IsDecoded, access_by, jam_in};
-ghost use Rattle.mic2_datapath.specs.Mic2.{computed_on, flagged, value_of};
+ghost use Rattle.mic2_datapath.specs.Mic2.{flagged, value_of};
 ghost use Rattle.mic2_datapath.specs.Microstep.{demand};
 
-use mic_clock::{Computed, Drive};
+use mic_clock::Computed;
 use mic_datapath::{next_address, operate, shift_by, side_law};
 use mic1_alu::{AluOut, Controls, alu, each_row_computes};
-use micro_word::{Lines, Machine, Mem, Store, bits, fields2, statement_law, word_law};
+use micro_word::{Lines, Machine, Mem, bits, statement_law, word_law};
 
 /// JMPC.
 pub const JMPC: u8 = 4;
-
-/// The word of `goto 0x000`, which demands nothing.
-const IDLE: u64 = 0x80_00CC;
 
 /// A word with its control lines, which have the number of bytes of the queue that it demands.
 #[derive(Clone, Copy, Debug, PartialEq, Eq)]
@@ -43,19 +41,14 @@ const MDR: u64 = 0x800;
 
 const PC: u64 = 0x1000;
 
-/// The word at an address, with its control lines.
+/// The lines of a decoded word have the number of bytes that it demands.
 #[inline(always)]
-pub fn decoded_at(store: &Store, address: u16) -> (u64, &Lines)
-    requires machine { store.now.machine ≡ Mic2 }
-    requires address { address < 512 }
-    ensures word { result.0 ≡ slice_index store.now.words address }
-    ensures decoded { IsDecoded result.0 result.1.now }
+pub fn demand_law(_word: u64, _lines: &Lines)
+    requires { IsDecodedFor Mic2 _word _lines.now }
+    ensures { IsDecoded _word _lines.now }
 {
     word_law(Machine::Mic2);
     statement_law(Machine::Mic2);
-    let word = store.word(address);
-    let lines = store.lines_at(address);
-    (word, lines)
 }
 
 /// What leaves the ALU for the words on both sides.
@@ -87,7 +80,7 @@ pub fn shift_for(word: u64, value: u32) -> u32
 
 /// The result with N and Z, and the shifted result.
 #[inline(always)]
-pub fn values_of(value: u32, c: u32) -> Computed
+pub fn flagged(value: u32, c: u32) -> Computed
     ensures { result ≡ flagged value c }
 {
     let n = value >= 0x8000_0000;
@@ -168,58 +161,14 @@ pub fn computed_of(word: u64, a: u32, b: u32) -> Computed
     each_row_computes();
     let controls = Controls::from_bits(bits::gates(Machine::Mic2, word));
     let value = alu(controls, a, b).value;
-    values_of(value, shift_for(word, value))
+    flagged(value, shift_for(word, value))
 }
 
 impl Control {
-    /// The word at an address.
-    pub fn of(store: &Store, address: u16) -> Control
-        requires machine { store.now.machine ≡ Mic2 }
-        requires address { address < 512 }
-        ensures { result.word ≡ slice_index store.now.words address }
-    {
-        let (word, lines) = decoded_at(store, address);
-        Control {
-            word,
-            lines: *lines,
-        }
-    }
-
     /// Its word, with its control lines.
     pub fn is_decoded(&self)
         ensures { IsDecoded self.now.word self.now.lines }
     {}
-
-    /// What leaves the ALU for the words on both sides.
-    #[inline(always)]
-    pub fn operate(&self, a: u32, b: u32) -> u32
-        requires { (statement_of Mic2 self.now.word).part.b ≡ None → b ≡ 0 }
-        ensures { result ≡ alu (statement_of Mic2 self.now.word).part.op a b }
-    {
-        self.is_decoded();
-        operate_for(self.word, &self.lines, a, b)
-    }
-
-    /// What the shifter puts on the C bus.
-    #[inline(always)]
-    pub fn shift(&self, value: u32) -> u32
-        ensures { result ≡ shifted (statement_of Mic2 self.now.word).part.shift value }
-    {
-        shift_for(self.word, value)
-    }
-
-    /// What leaves the ALU and the shifter for what is on the operand buses.
-    #[inline(always)]
-    pub fn compute(&self, drive: Drive) -> Computed
-        requires { (statement_of Mic2 self.now.word).part.b ≡ None → drive.b ≡ 0 }
-        ensures { result ≡ computed_on (statement_of Mic2 self.now.word) drive }
-    {
-        if drive.stalled {
-            return Computed::ZERO;
-        }
-        let value = self.operate(drive.a, drive.b);
-        values_of(value, self.shift(value))
-    }
 
     /// Its destinations, a bit for each register.
     #[inline(always)]
@@ -230,14 +179,6 @@ impl Control {
         ensures slots { AreSlots result self.now.lines.first self.now.lines.second self.now.lines.further }
     {
         bits::destinations(Machine::Mic2, self.word)
-    }
-
-    /// Its access of memory.
-    #[inline(always)]
-    pub fn mem(&self) -> Mem
-        ensures { result ≡ (statement_of Mic2 self.now.word).part.mem }
-    {
-        mem_for(self.word)
     }
 
     /// JMPC JAMN JAMZ
@@ -259,11 +200,5 @@ impl Control {
         word_law(Machine::Mic2);
         statement_law(Machine::Mic2);
         next_address(self.lines.addr, self.jam(), value, byte)
-    }
-
-    /// `goto 0x000`, which demands nothing.
-    pub fn idle() -> Control {
-        let lines = Lines::of_fields(Machine::Mic2, &fields2(IDLE));
-        Control { word: IDLE, lines }
     }
 }

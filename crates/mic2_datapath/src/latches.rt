@@ -1,21 +1,21 @@
 //! What Mic-2 keeps between cycles.
 
 ghost use Rattle.std.specs.Prelude.{◌≡◌, ◌≢◌, ◌≤◌, ◌<◌, ◌*◌, ◌+◌, ℕ, None, OnOk, OnErr, IfNone, IfSome, IsTrue, length, slice_index, true};
-ghost use Rattle.mic_words.specs.Prelude.{signed_byte, signed_pair};
+ghost use Rattle.mic_words.specs.Prelude.{before, signed_byte, signed_pair};
 ghost use Rattle.mic_words.specs.declared.machine.Machine.TheVariants.{Mic2};
 ghost use Rattle.micro_word.specs.declared.statement.PlacedNext.{PlacedNext};
 ghost use Rattle.micro_word.specs.Prelude.{addr_bits, jam_bits, statement_of, fields_of, is_canonical, is_next, AreSlots, shifted};
 ghost use Rattle.console_port.specs.Prelude.{ChangesOnly, FailsAsRefused};
 ghost use Rattle.mic_datapath.specs.Prelude.{GoesTo, next_address, registers_at, loaded, ports_given};
 ghost use Rattle.mic2_fetch_unit.specs.Prelude.{edge_refusal, sample_refusal};
-ghost use Rattle.mic2_datapath.specs.Mic2.{initial as initial_of};
+ghost use Rattle.mic2_datapath.specs.Mic2.{initial as initial_of, registers_of};
 ghost use Rattle.mic2_datapath.specs.Microstep.{HasUnitEdge, advanced, byte_at, dispatch_bytes, is_to_instruction, moved_on, past, result_of, source, stalled, unit_refusal, unit_refused, unit_samples};
 ghost use Rattle.mic2_datapath.specs.Latches.{AreLatches, HasFront, IsDecoded, IsInside, jam_in, loaded_in, micro_in};
 
 use crate::accesses::is_there;
 use crate::control::{JMPC, dispatches, is_plain, loads_mar, loads_mdr, loads_pc, reads};
 use console_port::{Bus, BusFault};
-use mic_clock::Start;
+use mic_clock::{Registers, Start, Tail};
 use mic_datapath::{
     Places, Ports, arrived, next_address, port, read_alone, settle, sign_extended, write_alone,
 };
@@ -173,6 +173,39 @@ impl Latches {
             mpc: start.entry,
             begins: false,
         }
+    }
+
+    #[inline(always)]
+    pub fn registers(&self) -> Registers
+        requires { AreLatches self.now }
+        ensures value { result ≡ registers_of (micro_in self.now) }
+        ensures mpc { result.mpc < 512 }
+    {
+        let places = self.places;
+        Registers {
+            mar: places[0],
+            mdr: places[1],
+            pc: places[2],
+            sp: places[3],
+            lv: places[4],
+            cpp: places[5],
+            tos: places[6],
+            opc: places[7],
+            h: places[8],
+            mpc: self.mpc,
+            tail: Tail::Queue {
+                bytes: self.unit.bytes(),
+                imar: self.unit.imar(),
+            },
+        }
+    }
+
+    /// The byte address of the instruction at a boundary.
+    #[tactic(auto, unfolding(mic_words::specs::Arithmetic::wrap))]
+    pub fn instruction_address(&self) -> u32
+        ensures { result ≡ before (micro_in self.now).pc }
+    {
+        self.places[PC as usize].wrapping_sub(1)
     }
 
     /// Shows the front of the queue on its places: one byte where at least one is taken, and two where more are.

@@ -1,4 +1,4 @@
-//! Mic-2 as a clocked machine: control lines, two operand buses, latches and a fetch unit. Its four calls are one
+//! Mic-2 as a clocked machine: control lines, two operand buses, latches and a fetch unit. Its cycle is one
 //! microstep, which assigns whole words or stalls.
 #![tactic(auto)]
 
@@ -10,7 +10,7 @@ mod laws;
 mod mic2;
 
 pub use accesses::access;
-pub use control::Control;
+pub use control::{Control, demand_law, flagged, mem_for, operate_for, shift_for};
 pub use latches::{Latches, Operands, go, go_past, load, pc_after};
 pub use laws::step_law;
 pub use mic2::Mic2;

@@ -1,24 +1,21 @@
-//! The machine: its four calls, which are the book's subcycles.
+//! The machine: the parts of its cycle, which are the book's subcycles.
 
 ghost use Rattle.std.specs.Prelude.{◌≡◌, IsTrue, refl};
 ghost use Rattle.mic_words.specs.declared.machine.Machine.TheVariants.{Mic2 as Mic2Machine};
 ghost use Rattle.micro_word.specs.Prelude.{is_canonical};
-ghost use Rattle.mic_clock.specs.Prelude.{Driven, AtEdge};
-ghost use Rattle.mic_datapath.specs.Prelude.{phase_of};
-ghost use Rattle.mic2_datapath.specs.Latches.{AreLatches, HasComputed, micro_in};
-ghost use Rattle.mic2_datapath.specs.Mic2.{driven};
-ghost use Rattle.mic2_datapath.specs.Spelled.{spelled};
+ghost use Rattle.mic2_datapath.specs.Latches.{AreLatches};
 ghost use Rattle.mic2_datapath.specs.declared.mic2.Past.TheVariants.{Clocked as WasClocked};
 
-use crate::control::{Control, computed_of, decoded_at, operate_for, shift_for};
-use crate::latches::{Latches, Operands};
+use crate::accesses::access;
+use crate::control::{computed_of, demand_law, flagged, mem_for, operate_for, shift_for};
+use crate::latches::{Latches, Operands, PC};
 use console_port::{Bus, BusFault};
 use mic_base::{Sink, Source};
-use mic_clock::{Clocked, Computed, Drive, Registers, Start, Tail};
-use mic_datapath::Stage;
-use micro_word::{Machine, Store, Word2};
+use mic_clock::{Clocked, Computed, Drive, Registers, Start};
+use mic_datapath::console_law;
+use micro_word::{Lines, Machine, Word2, bits, is_named};
 
-/// What the cycle that `clock` or `clock_inside` did last was.
+/// What the cycle was that was clocked last.
 #[derive(Clone, Copy, Debug, PartialEq, Eq)]
 enum Past {
     /// There was none since the reset.
@@ -30,13 +27,6 @@ enum Past {
 /// Mic-2.
 #[derive(Drop)]
 pub struct Mic2 {
-    stage: Stage,
-    /// The word that was set up last.
-    control: Control,
-    /// What is on the operand buses for it.
-    buses: Drive,
-    /// What leaves the ALU and the shifter.
-    values: Computed,
     latches: Latches,
     past: Past,
     /// The word of the last clocked cycle that did not stall, and what was on its sides.
@@ -44,21 +34,16 @@ pub struct Mic2 {
     last_a: u32,
     last_b: u32,
     ghost kept: { AreLatches latches },
-    ghost drove: { phase_of stage ≡ Driven → buses ≡ driven control.word (micro_in latches) },
-    ghost computed: { phase_of stage ≡ AtEdge →
-        HasComputed (spelled control) (micro_in latches) buses.stalled values.alu.value values.c },
     ghost last: { past ≡ WasClocked → IsTrue (is_canonical Mic2Machine last_word) },
 }
 
 impl Mic2 {
-    ghost use Rattle.mic_clock.specs.Prelude.{AtRest};
     ghost use Rattle.mic2_datapath.specs.Mic2.{at_zero, initial as initial_of};
-    ghost use Rattle.mic2_datapath.specs.View.{micro_of, phase};
+    ghost use Rattle.mic2_datapath.specs.View.{micro_of};
 
     /// As a reset at entry 0 with SP 0 leaves it, where the memory's first word is 0.
     pub fn new() -> Mic2
-        ensures micro { micro_of result ≡ initial_of at_zero }
-        ensures phase { phase result ≡ AtRest }
+        ensures { micro_of result ≡ initial_of at_zero }
     {
         Mic2 {
             latches: Latches::initial(&Start {
@@ -66,10 +51,6 @@ impl Mic2 {
                 sp: 0,
                 first: 0,
             }),
-            stage: Stage::Setup,
-            control: Control::idle(),
-            buses: Drive::ZERO,
-            values: Computed::ZERO,
             past: Past::Nothing,
             last_word: 0,
             last_a: 0,
@@ -81,7 +62,7 @@ impl Mic2 {
 impl Clocked for Mic2 {
     ghost use Rattle.mic2_datapath.specs.Micro.{Micro};
     ghost use Rattle.mic2_datapath.specs.Mic2.{mic2_meaning, IsReady as IsReadyAt};
-    ghost use Rattle.mic2_datapath.specs.View.{micro_of, phase, microinstruction_of, seen};
+    ghost use Rattle.mic2_datapath.specs.View.{micro_of, seen};
 
     type Word = Word2;
 
@@ -93,10 +74,6 @@ impl Clocked for Mic2 {
 
     ghost state = { micro_of };
 
-    ghost phase = { phase };
-
-    ghost word = { microinstruction_of };
-
     ghost seen = { seen };
 
     fn machine(&self) -> Machine {
@@ -104,109 +81,102 @@ impl Clocked for Mic2 {
     }
 
     fn reset(&mut self, start: &Start) {
-        self.stage = Stage::Setup;
         self.latches = Latches::initial(start);
         self.past = Past::Nothing;
     }
 
     #[inline(always)]
-    fn setup(&mut self, store: &Store) {
-        self.stage = Stage::Drive;
-        self.control = Control::of(store, self.latches.mpc);
+    fn drive(&mut self, word: u64, lines: &Lines) -> Drive {
+        demand_law(word, lines);
+        if self.latches.waits(word, lines) {
+            return Drive::STALLED;
+        }
+        let Operands { a, b } = self.latches.operands(word, lines);
+        Drive {
+            a,
+            b,
+            stalled: false,
+        }
     }
 
     #[inline(always)]
-    fn drive(&mut self) -> Drive {
-        self.control.is_decoded();
-        let buses = self.latches.drive(self.control.word, &self.control.lines);
-        self.buses = buses;
-        self.stage = Stage::Compute;
-        buses
+    fn compute(&self, word: u64, lines: &Lines, drive: Drive) -> Computed {
+        if drive.stalled {
+            return Computed::ZERO;
+        }
+        demand_law(word, lines);
+        let value = operate_for(word, lines, drive.a, drive.b);
+        flagged(value, shift_for(word, value))
     }
 
+    /// No edge of a stall is done here.
     #[inline(always)]
-    fn compute(&mut self) -> Computed {
-        let values = self.control.compute(self.buses);
-        self.values = values;
-        self.stage = Stage::Edge;
-        values
+    fn edge_inside(
+        &mut self,
+        word: u64,
+        lines: &Lines,
+        drive: Drive,
+        computed: Computed,
+        bus: &mut Bus,
+    ) -> bool {
+        if drive.stalled {
+            return false;
+        }
+        demand_law(word, lines);
+        let value = computed.alu.value;
+        if !self
+            .latches
+            .edge_inside(word, lines, value, computed.c, bus)
+        {
+            return false;
+        }
+        self.past = Past::Clocked;
+        self.last_word = word;
+        self.last_a = drive.a;
+        self.last_b = drive.b;
+        true
     }
 
-    #[inline(always)]
+    #[cold]
     fn edge<S: Source, K: Sink>(
         &mut self,
+        word: u64,
+        lines: &Lines,
+        drive: Drive,
+        computed: Computed,
         bus: &mut Bus,
         source: &mut S,
         sink: &mut K,
     ) -> Result<(), BusFault> {
-        self.stage = Stage::Setup;
-        self.control.is_decoded();
-        self.latches.edge(
-            self.control.word,
-            &self.control.lines,
-            self.buses.stalled,
-            self.values.alu.value,
-            self.values.c,
-            bus,
-            source,
-            sink,
-        )
-    }
-
-    #[inline(always)]
-    fn clock<S: Source, K: Sink>(
-        &mut self,
-        store: &Store,
-        bus: &mut Bus,
-        source: &mut S,
-        sink: &mut K,
-    ) -> Result<bool, BusFault> {
-        let (word, lines) = decoded_at(store, self.latches.mpc);
-        if self.latches.waits(word, lines) {
-            self.latches
-                .edge(word, lines, true, 0, 0, bus, source, sink)?;
+        console_law();
+        demand_law(word, lines);
+        if drive.stalled {
+            self.latches.stall(bus)?;
             self.past = Past::Stalled;
-            return Ok(true);
+            return Ok(());
         }
-        let Operands { a, b } = self.latches.operands(word, lines);
-        let value = operate_for(word, lines, a, b);
-        let c = shift_for(word, value);
-        self.latches
-            .edge(word, lines, false, value, c, bus, source, sink)?;
+        let takes = lines.takes;
+        let Computed { alu, c } = computed;
+        let destinations = bits::destinations(Machine::Mic2, word);
+        let ports = self.latches.ports(destinations, c, takes);
+        let jumps = is_named(destinations, PC);
+        let at = self.latches.will_fetch(jumps, ports.pc, takes);
+        let sampled = access(mem_for(word), at, &ports, bus, source, sink)?;
+        // What the fetch unit samples was tested before the access.
+        let _ = self
+            .latches
+            .advance(word, lines, alu.value, c, sampled, bus);
         self.past = Past::Clocked;
         self.last_word = word;
-        self.last_a = a;
-        self.last_b = b;
-        Ok(false)
-    }
-
-    #[inline(always)]
-    fn clock_inside(&mut self, store: &Store, bus: &mut Bus) -> Option<bool> {
-        let (word, lines) = decoded_at(store, self.latches.mpc);
-        if self.latches.waits(word, lines) {
-            return None;
-        }
-        let Operands { a, b } = self.latches.operands(word, lines);
-        let value = operate_for(word, lines, a, b);
-        let c = shift_for(word, value);
-        if !self.latches.edge_inside(word, lines, value, c, bus) {
-            return None;
-        }
-        self.past = Past::Clocked;
-        self.last_word = word;
-        self.last_a = a;
-        self.last_b = b;
-        Some(false)
+        self.last_a = drive.a;
+        self.last_b = drive.b;
+        Ok(())
     }
 
     fn last_drive(&self) -> Drive {
         match self.past {
             Past::Nothing => Drive::ZERO,
-            Past::Stalled => Drive {
-                a: 0,
-                b: 0,
-                stalled: true,
-            },
+            Past::Stalled => Drive::STALLED,
             Past::Clocked => Drive {
                 a: self.last_a,
                 b: self.last_b,
@@ -224,23 +194,7 @@ impl Clocked for Mic2 {
 
     #[inline(always)]
     fn registers(&self) -> Registers {
-        let places = self.latches.places;
-        Registers {
-            mar: places[0],
-            mdr: places[1],
-            pc: places[2],
-            sp: places[3],
-            lv: places[4],
-            cpp: places[5],
-            tos: places[6],
-            opc: places[7],
-            h: places[8],
-            mpc: self.latches.mpc,
-            tail: Tail::Queue {
-                bytes: self.latches.unit.bytes(),
-                imar: self.latches.unit.imar(),
-            },
-        }
+        self.latches.registers()
     }
 
     fn at_boundary(&self) -> bool {
@@ -248,7 +202,7 @@ impl Clocked for Mic2 {
     }
 
     fn instruction_address(&self) -> u32 {
-        self.latches.places[2].wrapping_sub(1)
+        self.latches.instruction_address()
     }
 
     fn mpc(&self) -> u16 {

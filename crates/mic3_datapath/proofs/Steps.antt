@@ -1,23 +1,22 @@
 -- What is asked of the bus for the statement that retires, with its access, is the cycle or its refusal.
-use Rattle.std.proofs.Common.{arith, ◌≡◌, ℕ, ◌≤◌, Bool, true, false, if◌then◌else◌, List, Option, Some, None, Result, Ok, Err, length, refl, sym, ap, ap₂, ◌∙◌}
-use Rattle.std.specs.Prelude.{⊤, IsErrAnd, OnErr, nat_lt, ◌||◌}
+use Rattle.std.proofs.Common.{arith, ◌≡◌, ℕ, ◌≤◌, Bool, true, false, if◌then◌else◌, List, Option, Some, None, Ok, length, refl, sym, ap, ap₂, ◌∙◌}
+use Rattle.std.specs.Prelude.{⊤, nat_lt, ◌||◌}
 use Rattle.std.proofs.lemmas.Bool.Decides.{nat_tests}
 use Rattle.console_port.specs.Prelude.{World, Refusal, ChangesOnly, IsLed, refused_by, BusView}
-use Rattle.console_port.specs.declared.fault.BusFault.{BusFault}
 use Rattle.mic_clock.specs.declared.buses.Computed.{Computed as Values}
 use Rattle.mic_clock.specs.declared.buses.Drive.{Drive}
 use Rattle.mic_words.specs.declared.machine.Machine.TheVariants as machines
 use Rattle.micro_word.specs.Prelude.{statement_of}
+use Rattle.micro_word.specs.declared.statement.BusSource.{BusSource}
 use Rattle.micro_word.specs.declared.statement.Placed.{Placed}
-use Rattle.mic_clock.specs.Prelude.{IsEdge, LetsBytesWait, Done, refusal_in}
-use Rattle.mic_datapath.specs.Access.{LetsBytesWait as LetsWait}
-use Rattle.mic_datapath.specs.Prelude.{AtConsole, HasAccessed, IsTransfer, Asks, answered, second_clear, first_refusal, memory_refusal, word_under_way, written, sampled, outcome, NineRegisters, ports_given}
+use Rattle.mic_clock.specs.Prelude.{IsEdge, Done, buses_in, refusal_in}
+use Rattle.mic_datapath.specs.Prelude.{IsTransfer, Asks, answered, second_clear, first_refusal, memory_refusal, word_under_way, written, sampled, outcome, NineRegisters, ports_given}
 use Rattle.mic_datapath.specs.Edges as edges
 use Rattle.mic_datapath.specs.declared.ports.Ports.{Ports}
 use Rattle.mic2_fetch_unit.specs.Prelude.{sample_refusal}
-use Rattle.mic2_datapath.specs.Prelude.{access_refusal, demand, next_micro, unit_after, unit_refusal, unit_samples}
+use Rattle.mic2_datapath.specs.Prelude.{access_refusal, demand, next_micro, source, unit_after, unit_refusal, unit_samples}
 use Rattle.mic3_datapath.specs.declared.pipeline.Asked.{Asked}
-use Rattle.mic3_datapath.specs.Prelude.{Pipeline, Issued, Computed, begins, clock, computed, computed_in, cycle, cycle_with, is_held_up, is_jump_coming, issued, issued_by, issued_in, mem_in, mpc_after, refusal, settled, bytes_leaving, waits, word_after, world_after, driven, driven_by, mic3_meaning, step_of_word, values_of, HasMoved, IsAsked, edged, word_held, buses_before, values_by}
+use Rattle.mic3_datapath.specs.Prelude.{Pipeline, Issued, Computed, begins, clock, computed, computed_in, cycle, cycle_with, dispatched_from, is_held_up, is_jump_coming, issued, issued_by, issued_in, mem_in, mpc_after, refusal, settled, bytes_leaving, waits, word_after, world_after, driven, driven_by, mic3_meaning, step_of_word, values_of, HasMoved, IsAsked, edged, word_held, buses_before, values_by}
 
 abbrev refusal_on : ℕ → Asked → Option Refusal
 refusal_on n q = access_refusal n q.mem q.ports.mar q.at
@@ -59,7 +58,7 @@ is_done s i p q is h w v n size word words clear a shown t moves =
     ∙ ap (λ (x : Pipeline). Done x v) (sym moves)))
 
 -- what retires asks for its access
-asks : (word : ℕ) (i : Option Issued) (p : Pipeline) (q : Asked) → issued (statement_of machines.Mic2 word) p ≡ i → IsAsked i p q →
+pub asks : (word : ℕ) (i : Option Issued) (p : Pipeline) (q : Asked) → issued (statement_of machines.Mic2 word) p ≡ i → IsAsked i p q →
     Asks mic3_meaning word p q.ports q.mem (λ n. refusal_on n q)
 unfolding step_of_word
 asks word i p q is h =
@@ -98,16 +97,6 @@ module _ (word : ℕ) (i : Option Issued) (p : Pipeline) (q : Asked) (is : issue
       (λ w v shows shown a.
       is_done (statement_of machines.Mic2 word) i p q is h w v _ (edges.size_of mic3_meaning word p left held bus w shows) read bus'.words clear a shown.words t moves)
 
-  pub edge_fails : {T U : Type 0} (law : AtConsole) (Does : T → World → World → Type 0) (left' held' : Option (List ℕ)) (bus' : BusView) (e : BusFault)
-      (r : Result U BusFault) → IsErrAnd r (λ f. f ≡ e) → HasAccessed (why (length bus.words)) q.mem q.ports.mar Does left held bus left' held' bus' (Err e) →
-      IsEdge mic3_meaning word p left held bus {T = U} p left' held' bus' r
-  edge_fails law Does left' held' bus' e r hands a =
-      edges.edge_fails mic3_meaning word p left held bus q.ports q.mem why (asks word i p q is h) law Does left' held' bus' e r hands a
-
-  pub edge_waits : {K : Type 0} (law : AtConsole) (sink sink' : K) → LetsWait (length bus.words) q.mem q.ports.mar (why (length bus.words)) bus.console.kept sink sink' →
-      LetsBytesWait mic3_meaning word p left held bus sink sink'
-  edge_waits = edges.edge_waits mic3_meaning word p left held bus q.ports q.mem why (asks word i p q is h)
-
 -- the edge that is done has moved both slots on
 pub moved : (i : Option Issued) (p : Pipeline) (words : List ℕ) (read : Option ℕ) (t : Pipeline) → t ≡ edged i p words read → HasMoved i p t
 moved i p words read t moves = record { operand = ap (λ (q : Pipeline). q.operand) moves; result = ap (λ (q : Pipeline). q.result) moves }
@@ -117,44 +106,17 @@ values_moved : (o : Option Issued) (v : Values) (c : Option Computed) → v ≡ 
 values_moved None v c v_is c_is = λ j. values_by (v_is j).alu.value (c_is j)
 values_moved (Some i) v c v_is c_is = λ j. values_by (v_is j).alu.value (c_is j)
 
--- whether a cycle is a stall, by what it drives
-pub stalled_by : (word word' : ℕ) → word' ≡ word → (p : Pipeline) (i : Option Issued) (d : Drive) → i ≡ issued (statement_of machines.Mic2 word') p → d ≡ driven_by i →
-    d.stalled ≡ (driven word p).stalled
-unfolding driven
-stalled_by word word' same p i d issues drove =
-    ap (λ (x : Drive). x.stalled) (drove ∙ ap driven_by issues ∙ ap (λ (w : ℕ). driven_by (issued (statement_of machines.Mic2 w) p)) same)
-
 -- what was on the buses in a cycle that is done, by what the slots hold after it
-pub seen_after : (word word' : ℕ) → word' ≡ word → (p q t : Pipeline) (i : Option Issued) (d : Drive) (v : Values) → i ≡ issued (statement_of machines.Mic2 word') p → q ≡ p →
-    d ≡ driven_by i → v ≡ values_of q.operand → HasMoved i q t → buses_before d.stalled v.alu.value t ≡ record { drive = driven word p; computed = values_of p.operand }
+pub seen_after : (word : ℕ) (p t : Pipeline) (i : Option Issued) (d : Drive) (v : Values) → i ≡ issued (statement_of machines.Mic2 word) p →
+    d ≡ driven word p → v ≡ values_of p.operand → HasMoved i p t → buses_before d.stalled v.alu.value t ≡ buses_in mic3_meaning word p
 unfolding driven
-seen_after word word' same p q t i d v issues stays drove gives moves =
+seen_after word p t i d v issues drove gives moves =
     (λ j. record {
-      drive = record (driven_by (moves.operand j)) { stalled = (drove j).stalled };
-      computed = values_moved q.operand v t.result gives moves.result j;
+      drive = record (driven_by ((moves.operand ∙ issues) j)) { stalled = (drove j).stalled };
+      computed = values_moved p.operand v t.result gives moves.result j;
     })
-    ∙ (λ j. record {
-      drive = (ap driven_by issues ∙ ap (λ (w : ℕ). driven_by (issued (statement_of machines.Mic2 w) p)) same) j;
-      computed = values_of (stays j).operand;
-    })
-
--- a cycle that is refused leaves what was on the buses before it
-pub seen_kept : {T : Type 0} (r : Result T BusFault) (stalled : Bool) (value : ℕ) (p q : Pipeline) → q ≡ p → OnErr r (buses_before stalled value q ≡ buses_before stalled value p)
-seen_kept (Ok told) stalled value p q same = tt
-seen_kept (Err e) stalled value p q same = ap (buses_before stalled value) same
 
 -- what issues finds the bytes that it takes
-
-abbrev issued_if : Bool → Placed → Pipeline → Option Issued
-issued_if b s p = if b then None else Some (issued_by s p)
-
-pub issued_there : (s : Placed) (p : Pipeline) → bytes_leaving (issued s p) ≤ length p.micro.unit.bytes
-issued_there s p = by_tests (is_held_up s p.micro.word (issued_in p.operand) (computed_in p.result)) (nat_lt (length p.micro.unit.bytes) (demand s)) refl
-  where
-    by_tests : (a b : Bool) → nat_lt (length p.micro.unit.bytes) (demand s) ≡ b → bytes_leaving (issued_if (a || b) s p) ≤ length p.micro.unit.bytes
-    by_tests true b e = omega arith
-    by_tests false true e = omega arith
-    by_tests false false e = grind (arith, nat_tests)
 
 pub enough : (s : Placed) (p : Pipeline) → waits s p ≡ false → demand s ≤ length p.micro.unit.bytes
 enough s p goes = by_tests (is_held_up s p.micro.word (issued_in p.operand) (computed_in p.result)) (nat_lt (length p.micro.unit.bytes) (demand s)) refl goes
@@ -163,3 +125,36 @@ enough s p goes = by_tests (is_held_up s p.micro.word (issued_in p.operand) (com
     by_tests true b is h = absurd (cc)
     by_tests false true is h = absurd (cc)
     by_tests false false is h = grind (arith, nat_tests)
+
+-- what issues, by whether it waits
+abbrev pub issued_if : Placed → Pipeline → Bool → Option Issued
+issued_if s p b = if b then None else Some (issued_by s p)
+
+-- what issues, by what was driven
+module _ (word : ℕ) (p : Pipeline) (d : Drive) (drove : d ≡ driven word p) where
+  abbrev s : Placed
+  s = statement_of machines.Mic2 word
+
+  stalls_if : (b : Bool) → (driven_by (issued_if s p b)).stalled ≡ b
+  stalls_if true = refl
+  stalls_if false = refl
+
+  pub waits_there : d.stalled ≡ waits s p
+  unfolding driven
+  waits_there = ap (λ (x : Drive). x.stalled) drove ∙ stalls_if (waits s p)
+
+  pub none_issued : d.stalled ≡ true → None ≡ issued s p
+  none_issued stalls = sym (ap (issued_if s p) (sym waits_there ∙ stalls))
+
+  pub one_issued : d.stalled ≡ false → (byte : ℕ) → byte ≡ dispatched_from s p.micro.unit → Some (record { statement = s; a = d.a; b = d.b; byte = byte }) ≡ issued s p
+  unfolding driven
+  one_issued goes byte byte_is =
+      let none = sym waits_there ∙ goes in
+      let drives : d ≡ driven_by (issued_if s p false) = drove ∙ ap (λ (b : Bool). driven_by (issued_if s p b)) none in
+      (λ j. Some (record { statement = s; a = (drives j).a; b = (drives j).b; byte = byte_is j })) ∙ sym (ap (issued_if s p) none)
+
+  -- an operation that does not use its side B finds 0 there
+  pub nothing_on_b : d.stalled ≡ false → s.part.b ≡ None → d.b ≡ 0
+  unfolding driven
+  nothing_on_b goes none =
+      ap (λ (x : Drive). x.b) (drove ∙ ap (λ (b : Bool). driven_by (issued_if s p b)) (sym waits_there ∙ goes)) ∙ ap (λ (side : Option BusSource). source side p.micro) none

@@ -4,7 +4,6 @@ use Rattle.mic_words.specs.declared.machine.Machine.TheVariants.{Mic2}
 use Rattle.micro_word.specs.Prelude.{statement_of}
 use Rattle.micro_word.specs.declared.statement.Placed.{Placed}
 use Rattle.console_port.specs.Prelude.{Refusal}
-use Rattle.mic_clock.specs.declared.buses.Computed.{Computed as Values}
 use Rattle.mic_datapath.specs.Prelude.{registers_at, NineRegisters, ports_given}
 use Rattle.mic2_fetch_unit.specs.Prelude.{Prefetch, sample_refusal}
 use Rattle.mic2_datapath.specs.Prelude.{micro_in, next_micro, past, unit_after, unit_refusal, unit_samples}
@@ -13,8 +12,7 @@ use Rattle.mic3_datapath.specs.declared.slots.ResultSlot.{ResultSlot}
 use Rattle.mic3_datapath.specs.declared.pipeline.Asked.{Asked}
 use Rattle.mic3_datapath.specs.declared.pipeline.Pipeline.{Pipeline as Latched}
 use Rattle.mic3_datapath.specs.Pipeline.{Pipeline, Issued, Computed}
-use Rattle.mic3_datapath.specs.Cycle.{begins, computed, computed_in, is_jump_coming, issued, issued_in, mem_in, mpc_after, retired, settled, bytes_leaving}
-use Rattle.mic3_datapath.specs.Mic3.{values_of}
+use Rattle.mic3_datapath.specs.Cycle.{begins, computed, computed_in, is_jump_coming, issued_in, mem_in, mpc_after, retired, settled, bytes_leaving}
 
 abbrev pub in_operand : Option OperandSlot → Option Issued
 in_operand None = None
@@ -65,11 +63,6 @@ edged to_issue p words sampled =
       operand = to_issue;
       result = computed p.operand;
     }
-
--- after the call that lets ALU and shifter work: what issues, and what leaves them for the statement in the operand slot
-pub record HasComputed (s : Placed) (p : Pipeline) (to_issue : Option Issued) (given : Values) : Type 0 where
-  pub issues : to_issue ≡ issued s p
-  pub values : given ≡ values_of p.operand
 
 -- after an edge that is done: what issued is in the operand slot, and what was there has computed
 pub record HasMoved (to_issue : Option Issued) (p p' : Pipeline) : Type 0 where

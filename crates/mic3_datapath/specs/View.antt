@@ -1,8 +1,7 @@
 -- What contracts see of a Mic-3.
 use Rattle.std.specs.Prelude.{ℕ, Bool, Option, Some, None}
 use Rattle.mic_clock.specs.declared.buses.Computed.{Computed as Values}
-use Rattle.mic_clock.specs.Prelude.{Phase, Buses}
-use Rattle.mic_datapath.specs.Prelude.{phase_of}
+use Rattle.mic_clock.specs.Prelude.{Buses}
 use Rattle.mic2_datapath.specs.Prelude.{flagged, stalled_value}
 use Rattle.mic3_datapath.specs.Mic3.{driven_by}
 use Rattle.mic3_datapath.specs.Pipeline.{Pipeline, Computed}
@@ -11,13 +10,6 @@ use Rattle.mic3_datapath.specs.declared.mic3.Mic3.{Mic3}
 
 abbrev pub pipeline_of : Mic3 → Pipeline
 pipeline_of t = pipeline_in t.pipeline
-
-abbrev pub phase : Mic3 → Phase
-phase t = phase_of t.stage
-
--- the microinstruction that was set up last
-abbrev pub microinstruction_of : Mic3 → ℕ
-microinstruction_of t = t.control.word
 
 -- what left the ALU and the shifter for the statement in the result slot, with this result
 abbrev pub values_by : ℕ → Option Computed → Values

@@ -6,7 +6,7 @@ ghost use Rattle.mic3_datapath.specs.Cycle.{awaits, is_branch, is_destination, i
 ghost use Rattle.mic3_datapath.specs.Slots.{computing, retiring};
 
 use crate::slots::{OperandSlot, ResultSlot};
-use mic2_datapath::Control;
+use mic2_datapath::{Control, mem_for};
 use micro_word::{Mem, is_named};
 
 /// MDR as the only destination.
@@ -122,7 +122,8 @@ fn is_word_coming(
     ensures { result ≡ is_word_coming word (computing operand) (retiring behind) }
 {
     match behind {
-        Some(slot) => word.is_some() || (operand.is_some() && slot.control.mem() == Mem::Read),
+        Some(slot) => word.is_some()
+            || (operand.is_some() && mem_for(slot.control.word) == Mem::Read),
         None => word.is_some() && operand.is_some(),
     }
 }

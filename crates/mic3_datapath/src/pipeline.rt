@@ -1,27 +1,27 @@
 //! What Mic-3 keeps between cycles.
 
-ghost use Rattle.std.specs.Prelude.{◌≡◌, ◌<◌, ◌≤◌, ℕ, OnOk, OnErr, length, slice_index, true, false};
-ghost use Rattle.console_port.specs.Prelude.{FailsAsRefused, StreamsGoOn};
+ghost use Rattle.std.specs.Prelude.{◌≡◌, ◌<◌, ◌≤◌, ℕ, OnOk, OnErr, length, slice_index};
+ghost use Rattle.console_port.specs.Prelude.{FailsAsRefused};
 ghost use Rattle.mic_words.specs.declared.machine.Machine.TheVariants.{Mic2};
 ghost use Rattle.micro_word.specs.Prelude.{statement_of};
-ghost use Rattle.mic_clock.specs.Prelude.{IsEdgeInside, IsEdgeOver};
+ghost use Rattle.mic_clock.specs.Prelude.{IsDecoded};
 ghost use Rattle.mic_datapath.specs.Prelude.{registers_at, ports_given};
-ghost use Rattle.mic2_datapath.specs.Prelude.{AreLatches, flagged, demand, past, unit_after, spelled};
+ghost use Rattle.mic2_datapath.specs.Prelude.{AreLatches, demand, past, unit_after, spelled};
 ghost use Rattle.mic3_datapath.specs.Cycle.{begins, bytes_leaving, computed, dispatched_from, from_computed, from_issued, from_retired, is_jump_coming, issued, mem_in, mpc_after, retired, settled, waits};
-ghost use Rattle.mic3_datapath.specs.Mic3.{driven_by, initial as initial_of, mic3_meaning, values_of};
-ghost use Rattle.mic3_datapath.specs.Slots.{HasMoved, IsAsked, edged, in_operand, in_result, pipeline_in, retired_in, retiring, unit_refused, word_held};
+ghost use Rattle.mic3_datapath.specs.Mic3.{driven, driven_by, initial as initial_of, values_of};
+ghost use Rattle.mic3_datapath.specs.Slots.{IsAsked, edged, in_operand, in_result, pipeline_in, retired_in, retiring, unit_refused, word_held};
 
-use crate::accesses::access_inside;
 use crate::hazards::{is_branch, is_held_up, is_to_instruction, jumps_now};
 use crate::slots::{OperandSlot, ResultSlot};
 use console_port::{Bus, BusFault};
-use mic_base::{Sink, Source};
 use mic_clock::{Computed, Drive, Start};
-use mic_datapath::{Places, Ports, console_law};
-use mic1_alu::AluOut;
-use mic2_datapath::{Control, Latches, Operands, access, go, go_past, load, pc_after};
+use mic_datapath::{Places, Ports};
+use mic2_datapath::{
+    Control, Latches, Operands, demand_law, flagged, go, go_past, load, mem_for, operate_for,
+    pc_after, shift_for,
+};
 use mic2_fetch_unit::FetchUnit;
-use micro_word::Mem;
+use micro_word::{Lines, Mem};
 
 /// JMPC
 const JMPC: u8 = 4;
@@ -43,10 +43,10 @@ pub struct Pipeline {
 
 /// What a cycle asks of the bus: the access of the word that retires, and the word address that the fetch unit samples.
 #[derive(Clone, Copy)]
-struct Asked {
-    mem: Mem,
-    ports: Ports,
-    at: Option<u32>,
+pub struct Asked {
+    pub mem: Mem,
+    pub ports: Ports,
+    pub at: Option<u32>,
 }
 
 /// How many bytes leave the queue.
@@ -66,7 +66,7 @@ fn mem_in(slot: Option<ResultSlot>) -> Mem
     ensures { result ≡ mem_in (in_result slot) }
 {
     match slot {
-        Some(slot) => slot.control.mem(),
+        Some(slot) => mem_for(slot.control.word),
         None => Mem::None,
     }
 }
@@ -252,25 +252,7 @@ pub fn driven_by(to_issue: Option<OperandSlot>) -> Drive
             b: slot.b,
             stalled: false,
         },
-        None => Drive {
-            a: 0,
-            b: 0,
-            stalled: true,
-        },
-    }
-}
-
-/// A result with N and Z, and the shifted result.
-pub fn flagged(value: u32, c: u32) -> Computed
-    ensures { result ≡ flagged value c }
-{
-    Computed {
-        alu: AluOut {
-            value,
-            n: value >= 0x8000_0000,
-            z: value == 0,
-        },
-        c,
+        None => Drive::STALLED,
     }
 }
 
@@ -281,9 +263,10 @@ pub fn values_of(operand: Option<OperandSlot>) -> Computed
 {
     match operand {
         Some(slot) => {
-            let value = slot.control.operate(slot.a, slot.b);
-            let c = slot.control.shift(value);
-            flagged(value, c)
+            let Control { word, lines } = slot.control;
+            slot.control.is_decoded();
+            let value = operate_for(word, &lines, slot.a, slot.b);
+            flagged(value, shift_for(word, value))
         }
         None => Computed::ZERO,
     }
@@ -303,26 +286,53 @@ impl Pipeline {
         }
     }
 
-    /// A word issues, or waits.
+    /// What is on the operand buses: the words on the sides of a word that issues.
     #[inline(always)]
-    pub fn issue(&mut self, control: &Control) -> Option<OperandSlot>
-        requires { AreLatches self.old.latches }
-        ensures value { in_operand result ≡ issued (spelled control.now) (pipeline_in self.old) }
-        ensures there { bytes_leaving (in_operand result) ≤ length self.new.latches.unit.bytes }
+    pub fn drive(&mut self, word: u64, lines: &Lines) -> Drive
+        requires latches { AreLatches self.old.latches }
+        requires decoded { IsDecoded Mic2 word lines.now }
+        ensures value { result ≡ driven word (pipeline_in self.old) }
         ensures pipeline { pipeline_in self.new ≡ pipeline_in self.old }
         ensures latches { AreLatches self.new.latches }
     {
-        let waits = waits(control, self);
+        demand_law(word, lines);
+        let control = Control {
+            word,
+            lines: *lines,
+        };
+        let waits = waits(&control, self);
         if waits {
-            return None;
+            return Drive::STALLED;
         }
-        let byte = dispatched(control, &self.latches.unit);
-        control.is_decoded();
-        let Operands { a, b } = self.latches.operands(control.word, &control.lines);
-        Some(OperandSlot {
-            control: *control,
+        let Operands { a, b } = self.latches.operands(word, lines);
+        Drive {
             a,
             b,
+            stalled: false,
+        }
+    }
+
+    /// A word that has driven this issues, unless it waits.
+    #[inline(always)]
+    pub fn issue(&self, word: u64, lines: &Lines, drive: Drive) -> Option<OperandSlot>
+        requires decoded { IsDecoded Mic2 word lines.now }
+        requires drive { drive ≡ driven word (pipeline_in self.now) }
+        ensures value { in_operand result ≡ issued (statement_of Mic2 word) (pipeline_in self.now) }
+        ensures there { bytes_leaving (in_operand result) ≤ length self.now.latches.unit.bytes }
+    {
+        if drive.stalled {
+            return None;
+        }
+        demand_law(word, lines);
+        let control = Control {
+            word,
+            lines: *lines,
+        };
+        let byte = dispatched(&control, &self.latches.unit);
+        Some(OperandSlot {
+            control,
+            a: drive.a,
+            b: drive.b,
             byte,
         })
     }
@@ -346,7 +356,7 @@ impl Pipeline {
 
     /// What the cycle asks of the bus in which this issues.
     #[inline(always)]
-    fn asked(&self, to_issue: Option<OperandSlot>) -> Asked
+    pub fn asked(&self, to_issue: Option<OperandSlot>) -> Asked
         requires { bytes_leaving (in_operand to_issue) ≤ length self.now.latches.unit.bytes }
         ensures { IsAsked (in_operand to_issue) (pipeline_in self.now) result }
     {
@@ -393,61 +403,5 @@ impl Pipeline {
         self.result = moved_on(self.operand, values.c);
         self.operand = to_issue;
         Ok(())
-    }
-
-    /// The edge, with the access of the word that retires. An Err leaves everything as it was.
-    #[inline(always)]
-    pub fn edge<S: Source, K: Sink>(
-        &mut self,
-        to_issue: Option<OperandSlot>,
-        values: &Computed,
-        bus: &mut Bus,
-        source: &mut S,
-        sink: &mut K,
-    ) -> Result<(), BusFault>
-        requires latches { AreLatches self.old.latches }
-        requires there { bytes_leaving (in_operand to_issue) ≤ length self.old.latches.unit.bytes }
-        requires values { values.now ≡ values_of (in_operand self.old.operand) }
-        ensures latches { AreLatches self.new.latches }
-        ensures edge { (word : ℕ) → in_operand to_issue ≡ issued (statement_of Mic2 word) (pipeline_in self.old) →
-            IsEdgeOver mic3_meaning S.left K.held word (pipeline_in self.old) bus.old source.old sink.old
-            (pipeline_in self.new) bus.new source.new sink.new result }
-        ensures moved { OnOk result (HasMoved (in_operand to_issue) (pipeline_in self.old) (pipeline_in self.new)) }
-        ensures state { OnErr result (pipeline_in self.new ≡ pipeline_in self.old) }
-        ensures streams { StreamsGoOn S.left S.faults K.held K.passed K.faults bus.old source.old sink.old
-            bus.new source.new sink.new result }
-    {
-        console_law();
-        let asked = self.asked(to_issue);
-        let sampled = access(asked.mem, asked.at, &asked.ports, bus, source, sink)?;
-        // What the fetch unit samples was tested before the access.
-        let _ = self.advance(to_issue, values, asked.ports.pc, sampled, bus);
-        Ok(())
-    }
-
-    /// The edge where it needs neither a source nor a sink. Returns whether it was done; otherwise nothing was.
-    #[inline(always)]
-    pub fn edge_inside(
-        &mut self,
-        to_issue: Option<OperandSlot>,
-        values: &Computed,
-        bus: &mut Bus,
-    ) -> bool
-        requires latches { AreLatches self.old.latches }
-        requires there { bytes_leaving (in_operand to_issue) ≤ length self.old.latches.unit.bytes }
-        requires values { values.now ≡ values_of (in_operand self.old.operand) }
-        ensures latches { AreLatches self.new.latches }
-        ensures edge { result ≡ true → (word : ℕ) → in_operand to_issue ≡ issued (statement_of Mic2 word) (pipeline_in self.old) →
-            IsEdgeInside mic3_meaning word (pipeline_in self.old) bus.old (pipeline_in self.new) bus.new }
-        ensures moved { result ≡ true → HasMoved (in_operand to_issue) (pipeline_in self.old) (pipeline_in self.new) }
-        ensures ended { bus.new.console.ended ≡ bus.old.console.ended }
-        ensures none { result ≡ false → (pipeline_in self.new ≡ pipeline_in self.old) × (bus.new ≡ bus.old) }
-    {
-        let asked = self.asked(to_issue);
-        let Some(sampled) = access_inside(asked.mem, asked.at, &asked.ports, bus) else {
-            return false;
-        };
-        let _ = self.advance(to_issue, values, asked.ports.pc, sampled, bus);
-        true
     }
 }

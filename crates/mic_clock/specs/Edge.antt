@@ -1,5 +1,5 @@
 -- What a clock edge comes to between a source and a sink, by the step of the word that was set up.
-use Rattle.std.specs.Prelude.{◌≡◌, ◌≢◌, ◌⊎◌, ◌<◌, ℕ, ⊤, List, [], length, Option, Some, Result, Ok, Err, OnOk, OnErr, IfErr}
+use Rattle.std.specs.Prelude.{◌≡◌, ◌≢◌, ◌⊎◌, ◌<◌, ℕ, ⊤, Bool, true, false, List, [], length, Option, Some, Result, Ok, Err, OnOk, OnErr, IfErr}
 use Rattle.console_port.specs.Prelude.{BusView, World, Shows, Stands, IsLed, ChangesOnly, IsFault, most_kept}
 use Rattle.console_port.specs.declared.fault.BusFault.{BusFault}
 use Rattle.console_port.specs.declared.fault.BusFault.TheVariants.{ReadFault, WriteFault}
@@ -46,3 +46,9 @@ module _ {State S K : Type 0} (m : Meaning State) (left : S → Option (List ℕ
 abbrev pub IsEdgeInside : {State : Type 0} → Meaning State → ℕ → State → BusView → State → BusView → Type 0
 IsEdgeInside m word s bus s' bus' =
     (left held : Option (List ℕ)) → IsEdge m word s left held bus {T = ⊤} s' left held bus' (Ok tt)
+
+-- such an edge was done, or nothing was
+pub record IsTried {State : Type 0} (m : Meaning State) (word : ℕ) (s : State) (bus : BusView) (s' : State) (bus' : BusView) (done : Bool) : Type 0 where
+  pub edge : done ≡ true → IsEdgeInside m word s bus s' bus'
+  pub ended : bus'.console.ended ≡ bus.console.ended
+  pub none : done ≡ false → (s' ≡ s) × (bus' ≡ bus)

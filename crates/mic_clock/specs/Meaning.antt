@@ -8,13 +8,6 @@ use Rattle.mic_clock.specs.declared.buses.Computed.{Computed}
 use Rattle.mic_clock.specs.declared.registers.Registers.{Registers}
 use Rattle.mic_clock.specs.declared.registers.Start.{Start}
 
--- a machine is at rest between cycles, and goes through its four calls in order
-pub data Phase : Type 0 where
-  AtRest : Phase
-  SetUp : Phase
-  Driven : Phase
-  AtEdge : Phase
-
 -- a microstep is done, or refused with all as it was
 pub data Outcome (State : Type 0) : Type 0 where
   Done : State → World → Outcome State

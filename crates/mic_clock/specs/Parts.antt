@@ -5,7 +5,7 @@ use Rattle.micro_word.specs.Prelude.{ControlStore}
 use Rattle.mic_clock.specs.declared.counts.Counts.{Counts}
 use Rattle.mic_clock.specs.declared.running.Running.{Running}
 use Rattle.mic_clock.specs.declared.running.Tally.{Tally}
-use Rattle.mic_clock.specs.Meaning.{Meaning, Phase, AtRest}
+use Rattle.mic_clock.specs.Meaning.{Meaning}
 use Rattle.mic_clock.specs.Rule.{CountsCycle}
 use Rattle.mic_clock.specs.Run.{Buses}
 use Rattle.mic_clock.specs.View.{BoardView}
@@ -32,10 +32,8 @@ board_of seen machine store bus running tally =
 abbrev pub CountsOn : {State : Type 0} → Meaning State → Running → Tally → Bool → State → Running → Tally → Type 0
 CountsOn m running tally stalled s running' tally' = CountsCycle m (counts_of running tally) stalled s (counts_of running' tally')
 
--- The parts of a board: the machine is at rest, the store is one of its kind, and the counts are a board's.
-pub record AreParts {M State : Type 0} (phase : M → Phase) (m : Meaning State) (machine : M) (store : ControlStore)
-    (running : Running) (tally : Tally) : Type 0 where
-  pub rest : phase machine ≡ AtRest
+-- The parts of a board: the store is one of its machine's kind, and the counts are a board's.
+pub record AreParts {State : Type 0} (m : Meaning State) (store : ControlStore) (running : Running) (tally : Tally) : Type 0 where
   pub store_machine : store.machine ≡ m.machine
   pub counts : AreCounts (counts_of running tally) running.end
   pub limit : IsLimit (counts_of running tally) tally.limit

@@ -87,6 +87,10 @@ start_buses =
     }
 
 module _ {State : Type 0} (m : Meaning State) where
+  -- the bus values in the step of a word
+  abbrev pub buses_in : ℕ → State → Buses
+  buses_in word s = record { drive = m.drives word s; computed = m.computes word s }
+
   -- a run at its reset, whose first MPC is `first`
   abbrev pub start_run : ℕ → ℕ → World → MicroRun State
   start_run first sp w =
@@ -160,7 +164,7 @@ module _ {State : Type 0} (m : Meaning State) (words : List ℕ) where
   -- the bus values after a turn from this state: an end leaves them
   abbrev pub buses_of : State → Buses → Option End → Buses
   buses_of s old (Some e) = old
-  buses_of s old None = record { drive = m.drives (word_at s) s; computed = m.computes (word_at s) s }
+  buses_of s old None = buses_in m (word_at s) s
 
   -- the bus values after this many turns
   abbrev pub buses : Option ℕ → ℕ → MicroRun State → Buses → Buses

@@ -39,7 +39,7 @@ impl<M: Clocked> Model for Board<M> {
 
     ghost view = { λ b. board_of M.seen b.machine b.store b.bus b.running b.tally };
 
-    ghost invariant = { λ b. AreParts M.phase M.meaning b.machine b.store b.running b.tally };
+    ghost invariant = { λ b. AreParts M.meaning b.store b.running b.tally };
 }
 
 impl<M: Clocked> Board<M> {

@@ -24,6 +24,13 @@ impl Drive {
         b: 0,
         stalled: false,
     };
+
+    /// So in a stall.
+    pub const STALLED: Drive = Drive {
+        a: 0,
+        b: 0,
+        stalled: true,
+    };
 }
 
 impl Computed {

@@ -1,19 +1,21 @@
-//! What a board asks of a machine.
+//! What is asked of a machine: its state, and the parts of its cycle.
 
-ghost use Rattle.std.specs.Prelude.{◌≡◌, None, IfNone, IfOk, IfSome, OnOk, OnErr, ◌<◌, ℕ, List, slice_index};
+ghost use Rattle.std.specs.Prelude.{◌≡◌, ◌<◌, OnOk, OnErr, ℕ, List, true, false};
 ghost use Rattle.console_port.specs.Prelude.{StreamsGoOn, World};
-ghost use Rattle.mic_clock.specs.Edge.{IsEdgeInside, IsEdgeOver};
-ghost use Rattle.mic_clock.specs.Meaning.{Meaning, Phase, AtRest, SetUp, Driven, AtEdge};
-ghost use Rattle.mic_clock.specs.Run.{Buses, buses_of, start_buses, word_at};
+ghost use Rattle.mic_clock.specs.Cycle.{IsAtEdge, IsDecoded};
+ghost use Rattle.mic_clock.specs.Edge.{IsEdgeOver, IsTried};
+ghost use Rattle.mic_clock.specs.Meaning.{Meaning};
+ghost use Rattle.mic_clock.specs.Run.{Buses, buses_in, start_buses};
 
 use crate::buses::{Computed, Drive};
 use crate::registers::{Registers, Start};
 use crate::word::MicroWord;
 use console_port::{Bus, BusFault};
 use mic_base::{Sink, Source};
-use micro_word::{Machine, Store};
+use micro_word::{Lines, Machine};
 
-/// A machine that is clocked in four calls: `setup`, `drive`, `compute` and `edge`, in this order, are one microstep.
+/// A machine that is clocked. It keeps nothing of a cycle before its edge, but is handed it: the word at MPC with its
+/// control lines, and what that has driven and computed.
 pub trait Clocked {
     /// The words of its control store, which are those of its machine.
     type Word: MicroWord;
@@ -21,7 +23,7 @@ pub trait Clocked {
     /// What a machine is between cycles.
     ghost State: { Type 0 };
 
-    /// What its calls mean.
+    /// What its cycles mean.
     ghost meaning: { Meaning State };
 
     /// That the instruction at a byte address of a memory comes next in this state and this world, where a microprogram
@@ -30,12 +32,7 @@ pub trait Clocked {
 
     ghost state: { Self → State };
 
-    ghost phase: { Self → Phase };
-
-    /// The word that was set up last.
-    ghost word: { Self → ℕ };
-
-    /// What was on the buses in the cycle that `clock` or `clock_inside` did last. The four calls do not keep it.
+    /// What was on the buses in the cycle that was clocked last.
     ghost seen: { Self → Buses };
 
     fn machine(&self) -> Machine
@@ -44,84 +41,60 @@ pub trait Clocked {
     fn reset(&mut self, start: &Start)
         requires { start.now.entry < 512 }
         ensures state { state self.new ≡ meaning.initial start.now }
-        ensures phase { phase self.new ≡ AtRest }
         ensures seen { seen self.new ≡ start_buses };
 
-    /// Takes over the word at MPC.
-    fn setup(&mut self, store: &Store)
-        requires phase { phase self.old ≡ AtRest }
-        requires machine { store.now.machine ≡ meaning.machine }
-        ensures state { state self.new ≡ state self.old }
-        ensures phase { phase self.new ≡ SetUp }
-        ensures word { word self.new ≡ slice_index store.now.words (meaning.registers (state self.old)).mpc };
-
     /// Drives the operand buses.
-    fn drive(&mut self) -> Drive
-        requires { phase self.old ≡ SetUp }
+    fn drive(&mut self, word: u64, lines: &Lines) -> Drive
+        requires { IsDecoded meaning.machine word lines.now }
         ensures state { state self.new ≡ state self.old }
-        ensures phase { phase self.new ≡ Driven }
-        ensures word { word self.new ≡ word self.old }
-        ensures value { result ≡ meaning.drives (word self.old) (state self.old) };
+        ensures seen { seen self.new ≡ seen self.old }
+        ensures value { result ≡ meaning.drives word (state self.old) };
 
     /// Lets the ALU and the shifter work.
-    fn compute(&mut self) -> Computed
-        requires { phase self.old ≡ Driven }
-        ensures state { state self.new ≡ state self.old }
-        ensures phase { phase self.new ≡ AtEdge }
-        ensures word { word self.new ≡ word self.old }
-        ensures value { result ≡ meaning.computes (word self.old) (state self.old) };
+    fn compute(&self, word: u64, lines: &Lines, drive: Drive) -> Computed
+        requires decoded { IsDecoded meaning.machine word lines.now }
+        requires drive { drive ≡ meaning.drives word (state self.now) }
+        ensures { result ≡ meaning.computes word (state self.now) };
 
-    /// The clock edge. An Err leaves the machine's state as it was.
+    /// The clock edge of a cycle that needs neither a source nor a sink, because it reaches only memory, or writes to a
+    /// console that has room. Returns whether it was done; for any cycle it may do nothing.
+    fn edge_inside(
+        &mut self,
+        word: u64,
+        lines: &Lines,
+        drive: Drive,
+        computed: Computed,
+        bus: &mut Bus,
+    ) -> bool
+        requires { IsAtEdge meaning word lines.now (state self.old) drive computed }
+        ensures tried { IsTried meaning word (state self.old) bus.old (state self.new) bus.new result }
+        ensures seen { result ≡ true → seen self.new ≡ buses_in meaning word (state self.old) }
+        ensures kept { result ≡ false → seen self.new ≡ seen self.old };
+
+    /// The clock edge of any cycle. Few cycles come to it, because `edge_inside` does most. An Err leaves the state.
     fn edge<S: Source, K: Sink>(
         &mut self,
+        word: u64,
+        lines: &Lines,
+        drive: Drive,
+        computed: Computed,
         bus: &mut Bus,
         source: &mut S,
         sink: &mut K,
     ) -> Result<(), BusFault>
-        requires { phase self.old ≡ AtEdge }
-        ensures phase { phase self.new ≡ AtRest }
-        ensures edge { IsEdgeOver meaning S.left K.held (word self.old) (state self.old) bus.old source.old sink.old
+        requires { IsAtEdge meaning word lines.now (state self.old) drive computed }
+        ensures seen { OnOk result (seen self.new ≡ buses_in meaning word (state self.old)) }
+        ensures kept { OnErr result (seen self.new ≡ seen self.old) }
+        ensures edge { IsEdgeOver meaning S.left K.held word (state self.old) bus.old source.old sink.old
             (state self.new) bus.new source.new sink.new result }
         ensures streams { StreamsGoOn S.left S.faults K.held K.passed K.faults bus.old source.old sink.old
             bus.new source.new sink.new result };
 
-    /// The four calls of a cycle in one. Returns whether the cycle was a stall.
-    fn clock<S: Source, K: Sink>(
-        &mut self,
-        store: &Store,
-        bus: &mut Bus,
-        source: &mut S,
-        sink: &mut K,
-    ) -> Result<bool, BusFault>
-        requires phase { phase self.old ≡ AtRest }
-        requires machine { store.now.machine ≡ meaning.machine }
-        ensures phase { phase self.new ≡ AtRest }
-        ensures stalled { IfOk result (λ s. s ≡ (meaning.drives (word_at meaning store.now.words (state self.old)) (state self.old)).stalled) }
-        ensures seen { OnOk result (seen self.new ≡ buses_of meaning store.now.words (state self.old) (seen self.old) None) }
-        ensures kept { OnErr result (seen self.new ≡ seen self.old) }
-        ensures edge { IsEdgeOver meaning S.left K.held (word_at meaning store.now.words (state self.old))
-            (state self.old) bus.old source.old sink.old (state self.new) bus.new source.new sink.new result }
-        ensures streams { StreamsGoOn S.left S.faults K.held K.passed K.faults bus.old source.old sink.old
-            bus.new source.new sink.new result };
-
-    /// A cycle that needs neither a source nor a sink, because it reaches only memory, or writes to a console that has
-    /// room. Returns whether it was a stall. At None nothing was done, and the cycle is one for `clock`; any cycle may be.
-    fn clock_inside(&mut self, store: &Store, bus: &mut Bus) -> Option<bool>
-        requires phase { phase self.old ≡ AtRest }
-        requires machine { store.now.machine ≡ meaning.machine }
-        ensures phase { phase self.new ≡ AtRest }
-        ensures stalled { IfSome result (λ s. s ≡ (meaning.drives (word_at meaning store.now.words (state self.old)) (state self.old)).stalled) }
-        ensures seen { IfSome result (λ _. seen self.new ≡ buses_of meaning store.now.words (state self.old) (seen self.old) None) }
-        ensures edge { IfSome result (λ _. IsEdgeInside meaning (word_at meaning store.now.words (state self.old)) (state self.old) bus.old
-            (state self.new) bus.new) }
-        ensures ended { bus.new.console.ended ≡ bus.old.console.ended }
-        ensures none { IfNone result ((state self.new ≡ state self.old) × (seen self.new ≡ seen self.old) × (bus.new ≡ bus.old)) };
-
-    /// What drove the operand buses in the cycle that `clock` or `clock_inside` did last.
+    /// What drove the operand buses in the cycle that was clocked last.
     fn last_drive(&self) -> Drive
         ensures { result ≡ (seen self.now).drive };
 
-    /// What the ALU and the shifter gave in the cycle that `clock` or `clock_inside` did last.
+    /// What the ALU and the shifter gave in the cycle that was clocked last.
     fn last_computed(&self) -> Computed
         ensures { result ≡ (seen self.now).computed };
 

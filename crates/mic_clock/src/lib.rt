@@ -1,4 +1,4 @@
-//! Machines clocked in four calls, and a board that runs any of them.
+//! Machines that are clocked, their cycle, and a board that runs any of them.
 #![tactic(auto)]
 
 pub mod board;
@@ -6,11 +6,14 @@ pub mod buses;
 pub mod clocked;
 mod counting;
 pub mod counts;
+mod cycle;
 pub mod end;
 pub mod laws;
+pub mod phase;
 pub mod registers;
 mod running;
 mod state;
+pub mod subcycles;
 mod turning;
 pub mod word;
 
@@ -20,6 +23,8 @@ pub use clocked::Clocked;
 pub use counts::{Boundary, Counts};
 pub use end::{End, Tick};
 pub use laws::{one_end, runs_compose, turn_law, turns_add};
+pub use phase::Phase;
 pub use registers::{Registers, Start, Tail};
 pub use state::print_state;
+pub use subcycles::Subcycles;
 pub use word::MicroWord;

@@ -8,6 +8,7 @@ ghost use Rattle.mic_clock.specs.Run.{word_at};
 
 use crate::clocked::Clocked;
 use crate::counting::{count, end_before, end_here, fault_end};
+use crate::cycle::{clock, clock_inside};
 use crate::end::Tick;
 use crate::running::{Running, Tally};
 use console_port::Bus;
@@ -38,9 +39,9 @@ pub fn turn_once<M: Clocked, S: Source, K: Sink>(
     source: &mut S,
     sink: &mut K,
 ) -> Tick
-    requires parts { AreParts M.phase M.meaning machine.old store.now running.old tally.old }
+    requires parts { AreParts M.meaning store.now running.old tally.old }
     requires cycles { running.old.cycles ≤ 2 ^ 62 + 4096 }
-    ensures parts { AreParts M.phase M.meaning machine.new store.now running.new tally.new }
+    ensures parts { AreParts M.meaning store.now running.new tally.new }
     ensures turn { IsTurned M.state M.meaning (S.left source.old) (K.held sink.old) (board_of M.seen machine.old store.now bus.old running.old tally.old)
         (S.left source.new) (K.held sink.new) (board_of M.seen machine.new store.now bus.new running.new tally.new) None }
     ensures cut { IsCutByFault M.state M.meaning (S.left source.old) (K.held sink.old) (board_of M.seen machine.old store.now bus.old running.old tally.old)
@@ -60,7 +61,7 @@ pub fn turn_once<M: Clocked, S: Source, K: Sink>(
         end_here(running, tally, end);
         return Tick::Ended(end);
     }
-    match machine.clock(store, bus, source, sink) {
+    match clock(machine, store, bus, source, sink) {
         Ok(stalled) => {
             count(running, tally, stalled, machine);
             ticked(stalled)
@@ -83,9 +84,9 @@ pub fn turn_inside<M: Clocked>(
     running: &mut Running,
     tally: &mut Tally,
 ) -> bool
-    requires parts { AreParts M.phase M.meaning machine.old store.now running.old tally.old }
+    requires parts { AreParts M.meaning store.now running.old tally.old }
     requires running { (running.old.end ≡ None) × (running.old.cycles ≤ 2 ^ 62 + 4096) }
-    ensures parts { AreParts M.phase M.meaning machine.new store.now running.new tally.new }
+    ensures parts { AreParts M.meaning store.now running.new tally.new }
     ensures turned { result ≡ true → IsTurnedInside M.state M.meaning (board_of M.seen machine.old store.now bus.old running.old tally.old)
         (board_of M.seen machine.new store.now bus.new running.new tally.new) }
     ensures still { result ≡ false → IsStill M.state (board_of M.seen machine.old store.now bus.old running.old tally.old)
@@ -94,7 +95,7 @@ pub fn turn_inside<M: Clocked>(
     if end_before(machine, running, tally).is_some() {
         return false;
     }
-    match machine.clock_inside(store, bus) {
+    match clock_inside(machine, store, bus) {
         Some(stalled) => {
             count(running, tally, stalled, machine);
             true
@@ -113,10 +114,10 @@ pub fn turns_inside<M: Clocked>(
     tally: &mut Tally,
     bound: u64,
 )
-    requires parts { AreParts M.phase M.meaning machine.old store.now running.old tally.old }
+    requires parts { AreParts M.meaning store.now running.old tally.old }
     requires running { running.old.end ≡ None }
     requires cycles { (bound ≤ 2 ^ 62) × (running.old.cycles ≤ 2 ^ 62 + 2048) }
-    ensures parts { AreParts M.phase M.meaning machine.new store.now running.new tally.new }
+    ensures parts { AreParts M.meaning store.now running.new tally.new }
     ensures run { IsRunInside M.state M.meaning (board_of M.seen machine.old store.now bus.old running.old tally.old)
         (board_of M.seen machine.new store.now bus.new running.new tally.new) bound }
 {
@@ -142,9 +143,9 @@ pub fn turn_to_boundary<M: Clocked, S: Source, K: Sink>(
     source: &mut S,
     sink: &mut K,
 )
-    requires parts { AreParts M.phase M.meaning machine.old store.now running.old tally.old }
+    requires parts { AreParts M.meaning store.now running.old tally.old }
     requires ready { (running.old.end ≡ None) × (running.old.cycles ≤ 2 ^ 62 + 2048) }
-    ensures parts { AreParts M.phase M.meaning machine.new store.now running.new tally.new }
+    ensures parts { AreParts M.meaning store.now running.new tally.new }
     ensures run { IsLegRun M.state M.meaning (S.left source.old) (K.held sink.old) (board_of M.seen machine.old store.now bus.old running.old tally.old)
         (S.left source.new) (K.held sink.new) (board_of M.seen machine.new store.now bus.new running.new tally.new) }
     ensures read { LegIsCutByRead M.state M.meaning (S.left source.old) (K.held sink.old) (board_of M.seen machine.old store.now bus.old running.old tally.old)

@@ -5,7 +5,7 @@ use Rattle.console_port.specs.Prelude.{World, Refusal, StackLimit, OutOfMap, con
 use Rattle.console_port.specs.declared.fault.BusFault.{BusFault}
 use Rattle.micro_word.specs.declared.statement.Mem.{Mem}
 use Rattle.micro_word.specs.declared.statement.Mem.TheVariants as mems
-use Rattle.mic_clock.specs.Prelude.{IsEdge, IsEdgeOver, LetsBytesWait, Meaning, Done, refusal_in, untaken_by, given_by, ReadsConsole, WritesConsole, UsesConsole}
+use Rattle.mic_clock.specs.Prelude.{IsEdge, IsEdgeOver, LetsBytesWait, Meaning, edge_passed, Done, refusal_in, untaken_by, given_by, ReadsConsole, WritesConsole, UsesConsole}
 use Rattle.mic_datapath.specs.Access.{AtConsole, HasAccessed, is_read, is_access, LetsBytesWait as LetsWait}
 use Rattle.mic_datapath.specs.Memory.{first_refusal, outcome, sampled, written}
 use Rattle.mic_datapath.specs.declared.ports.Ports.{Ports}
@@ -23,11 +23,6 @@ pub answered : {State : Type 0} (r : Option Refusal) (s : State) (w : World) →
 answered (Some why) s w = refl
 answered None s w = refl
 
--- the fault that a call passes on
-pub handed_on : {T : Type 0} (r : Result T BusFault) (e : BusFault) → IsErrAnd r (λ f. f ≡ e) → Err e ≡ r
-handed_on (Ok told) e h = absurd h
-handed_on (Err f) e h = λ i. Err (sym h i)
-
 -- what is not refused is done
 pub unrefused : {P : Type 0} (r : Result ⊤ BusFault) (why : Option Refusal) → IfErr r (λ e. refused_by why ≡ Some e) → why ≡ None → OnOk r P → P
 unrefused (Ok done) why fails clear holds = holds
@@ -39,10 +34,20 @@ refused_no_fault None e is fault = absurd (cc)
 refused_no_fault (Some (StackLimit at)) e is fault = let same : e ≡ fault_of (StackLimit at) = cc in subst IsFault same fault
 refused_no_fault (Some (OutOfMap at)) e is fault = let same : e ≡ fault_of (OutOfMap at) = cc in subst IsFault same fault
 
--- where neither of two accesses is refused, the second is not
+-- where neither of two accesses is refused, neither is
+
+pub first_clear : (a b : Option Refusal) → first_refusal a b ≡ None → a ≡ None
+first_clear (Some why) b h = absurd (cc)
+first_clear None b h = refl
+
 pub second_clear : (a b : Option Refusal) → first_refusal a b ≡ None → b ≡ None
 second_clear (Some why) b h = absurd (cc)
 second_clear None b h = h
+
+-- what leads each shown world to itself
+pub led_same : (left held : Option (List ℕ)) (bus : BusView) (leads : World → World → Type 0) →
+    ((w : World) → Shows left held bus w → leads w w) → IsLed left held bus left held bus leads
+led_same left held bus leads f rest fits = (rest, fits, λ w shows same. (w, f w shows, shows, same))
 
 both : (a b : Bool) → (a && b) ≡ true → a ≡ true
 both true b h = refl
@@ -51,20 +56,6 @@ both false b h = absurd (cc)
 module _ {State : Type 0} (m : Meaning State) (word : ℕ) (s : State) (left held : Option (List ℕ)) (bus : BusView) where
   pub size_of : (w : World) → Shows left held bus w → length w.words ≡ length bus.words
   size_of w shows = ap (λ (words : List ℕ). length words) shows.words
-
-  -- an edge that fails, with the result that a call returns for it
-  pub edge_passed : {T U : Type 0} (s' : State) (left' held' : Option (List ℕ)) (bus' : BusView) (e : BusFault) (r : Result U BusFault) →
-      IsErrAnd r (λ f. f ≡ e) → IsEdge m word s left held bus {T = T} s' left' held' bus' (Err e) → IsEdge m word s left held bus {T = U} s' left' held' bus' r
-  edge_passed {T} {U} s' left' held' bus' e r hands edge =
-      subst (λ (x : Result U BusFault). IsEdge m word s left held bus {T = U} s' left' held' bus' x) (handed_on r e hands)
-      (record {
-        ok = tt;
-        others = tt;
-        refusal = λ w f shows refused. let same = edge.refusal w f shows refused in cc;
-        err = edge.err;
-        state = edge.state;
-        stands = edge.stands;
-      })
 
   -- a refused edge leaves all
   pub refused_edge : (why : Option Refusal) → ((w : World) → Shows left held bus w → refusal_in (m.step word s w) ≡ refused_by why) →
@@ -164,7 +155,7 @@ module _ {State : Type 0} (m : Meaning State) (word : ℕ) (s : State) (left hel
         (r : Result U BusFault) → IsErrAnd r (λ f. f ≡ e) → HasAccessed (why (length bus.words)) mem p.mar Does left held bus left' held' bus' (Err e) →
         IsEdge m word s left held bus {T = U} s left' held' bus' r
     edge_fails {T} law Does left' held' bus' e r hands a =
-        edge_passed {T = T} s left' held' bus' e r hands
+        edge_passed m word s left held bus {T = T} s left' held' bus' e r hands
         (record {
           ok = tt;
           others = tt;
@@ -188,35 +179,15 @@ module _ {State : Type 0} (m : Meaning State) (word : ℕ) (s : State) (left hel
           | inr read ↦ inr (read.some, λ w shows. reads_console law w shows read.clear read.behind read.reads)
         ]
 
--- an edge of a cycle is one of the same word and state, with the result that the cycle returns
-module _ {State S K : Type 0} (m : Meaning State) (left : S → Option (List ℕ)) (held : K → Option (List ℕ)) (word word' : ℕ) (s s' : State)
-    (same : word' ≡ word) (stays : s' ≡ s) (bus : BusView) (source : S) (sink : K) (t : State) (bus' : BusView) (source' : S) (sink' : K) where
-  over_for : (r : Result ⊤ BusFault) → IsEdgeOver m left held word' s' bus source sink t bus' source' sink' r →
-      IsEdgeOver m left held word s bus source sink t bus' source' sink' r
-  over_for r over =
-      subst (λ (w : ℕ). IsEdgeOver m left held w s bus source sink t bus' source' sink' r) same
-      (subst (λ (x : State). IsEdgeOver m left held word' x bus source sink t bus' source' sink' r) stays over)
-
-  pub over_told : {T : Type 0} (told : T) → IsEdgeOver m left held {T = ⊤} word' s' bus source sink t bus' source' sink' (Ok tt) →
-      IsEdgeOver m left held {T = T} word s bus source sink t bus' source' sink' (Ok told)
-  over_told told over =
-      let o = over_for (Ok tt) over in
-      let edge = o.edge in
-      record {
-        edge = record {
-          ok = edge.ok;
-          others = edge.others;
-          refusal = λ w e shows refused. absurd (let is = edge.refusal w e shows refused in cc);
-          err = tt;
-          state = tt;
-          stands = tt;
-        };
-        waits = o.waits;
-      }
-
-  pub over_failed : {T : Type 0} (e : BusFault) (r : Result T BusFault) → IsErrAnd r (λ f. f ≡ e) →
-      IsEdgeOver m left held {T = ⊤} word' s' bus source sink t bus' source' sink' (Err e) →
-      IsEdgeOver m left held {T = T} word s bus source sink t bus' source' sink' r
-  over_failed {T} e r hands over =
-      let o = over_for (Err e) over in
-      record { edge = edge_passed m word s (left source) (held sink) bus t (left source') (held sink') bus' e r hands o.edge; waits = o.waits }
+-- an edge between a source and a sink that fails as its access did, with the result that a call returns for it
+pub over_fails : {State S K T U : Type 0} (m : Meaning State) (word : ℕ) (s : State) (p : Ports) (mem : Mem) (why : ℕ → Option Refusal) →
+    Asks m word s p mem why → AtConsole → (left : S → Option (List ℕ)) (held : K → Option (List ℕ)) (Does : T → World → World → Type 0)
+    (bus bus' : BusView) (source source' : S) (sink sink' : K) (e : BusFault) (r : Result U BusFault) → IsErrAnd r (λ f. f ≡ e) →
+    HasAccessed (why (length bus.words)) mem p.mar Does (left source) (held sink) bus (left source') (held sink') bus' (Err e) →
+    LetsWait (length bus.words) mem p.mar (why (length bus.words)) bus.console.kept sink sink' →
+    IsEdgeOver m left held word s bus source sink s bus' source' sink' r
+over_fails m word s p mem why asks law left held Does bus bus' source source' sink sink' e r hands a waits =
+    record {
+      edge = edge_fails m word s (left source) (held sink) bus p mem why asks law Does (left source') (held sink') bus' e r hands a;
+      waits = edge_waits m word s (left source) (held sink) bus p mem why asks law sink sink' waits;
+    }

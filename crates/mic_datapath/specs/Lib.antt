@@ -5,6 +5,5 @@ pub mod Access
 pub mod Edges
 pub mod Next
 pub mod Jam
-pub mod Stage
 pub mod Sides
 pub mod Prelude

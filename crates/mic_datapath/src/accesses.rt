@@ -5,7 +5,6 @@ ghost use Rattle.console_port.specs.Prelude.{World, FailsAsRefused, StreamsGoOn}
 ghost use Rattle.mic_datapath.specs.Memory.{memory_refusal, byte_refusal, access_refusal, byte_under_way, ports_with};
 ghost use Rattle.mic_datapath.specs.Access.{HasAccessed, IsAccess, IsTransfer, LetsBytesWait, is_read};
 
-use crate::memory::{access_memory, is_in_memory, is_quiet, no_access};
 use crate::ports::Ports;
 use console_port::{Bus, BusFault};
 use mic_base::{Sink, Source};
@@ -114,34 +113,4 @@ pub fn access_tested<S: Source, K: Sink>(
     let word = transfer(mem, &ports, bus, source, sink)?;
     let byte = sample(bus, fetch, &ports);
     Ok(Sampled { word, byte })
-}
-
-/// Does what a cycle does on the bus. Most cycles do nothing, and most others reach only memory.
-#[inline(always)]
-pub fn access<S: Source, K: Sink>(
-    mem: Mem,
-    fetch: bool,
-    ports: &Ports,
-    bus: &mut Bus,
-    source: &mut S,
-    sink: &mut K,
-) -> Result<Sampled, BusFault>
-    ensures access { HasAccessed (access_refusal (length bus.old.words) mem fetch ports.now) mem ports.now.mar
-        (λ x w v. IsAccess (length bus.old.words) mem fetch ports.now w x.word x.byte v)
-        (S.left source.old) (K.held sink.old) bus.old (S.left source.new) (K.held sink.new) bus.new result }
-    ensures sampled { IfOk result (λ x. (is_some x.word ≡ is_read mem) × (is_some x.byte ≡ fetch)) }
-    ensures waits { LetsBytesWait (length bus.old.words) mem ports.now.mar
-        (access_refusal (length bus.old.words) mem fetch ports.now) bus.old.console.kept sink.old sink.new }
-    ensures streams { StreamsGoOn S.left S.faults K.held K.passed K.faults bus.old source.old sink.old
-        bus.new source.new sink.new result }
-{
-    if is_quiet(mem, fetch) {
-        return Ok(no_access(mem, fetch, ports, bus));
-    }
-    if is_in_memory(mem, fetch, ports.mar, ports.pc, bus) {
-        return Ok(access_memory(mem, fetch, ports, bus));
-    }
-    access_tested(
-        mem, fetch, ports.mar, ports.mdr, ports.pc, bus, source, sink,
-    )
 }

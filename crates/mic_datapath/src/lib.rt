@@ -1,5 +1,5 @@
 //! What the datapaths of Mic-1 and Mic-2 share: nine registers and the buses between them, the ALU by its control
-//! lines, the memory's ports, the next address, and the order of a cycle's calls.
+//! lines, the memory's ports, and the next address.
 #![tactic(auto)]
 
 pub mod accesses;
@@ -10,9 +10,8 @@ pub mod laws;
 pub mod memory;
 pub mod ports;
 pub mod signs;
-pub mod stage;
 
-pub use accesses::{Sampled, access, access_tested, check_memory, transfer};
+pub use accesses::{Sampled, access_tested, check_memory, transfer};
 pub use alu::{operate, shift_by};
 pub use c_bus::{Places, arrive, arrived, port, settle};
 pub use jam::next_address;
@@ -20,4 +19,3 @@ pub use laws::{console_law, side_law};
 pub use memory::{access_memory, fetch_alone, is_in_memory, read_alone, write_alone};
 pub use ports::Ports;
 pub use signs::sign_extended;
-pub use stage::Stage;

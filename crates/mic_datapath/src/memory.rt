@@ -24,28 +24,6 @@ pub fn is_in_memory(mem: Mem, fetch: bool, mar: u32, pc: u32, bus: &Bus) -> bool
     }
 }
 
-/// Whether nothing is accessed.
-pub fn is_quiet(mem: Mem, fetch: bool) -> bool
-    ensures { result ≡ true → (mem ≡ Mem.None) × (fetch ≡ false) }
-{
-    mem == Mem::None && !fetch
-}
-
-/// The samples of a cycle without an access: none.
-pub fn no_access(mem: Mem, fetch: bool, ports: &Ports, bus: &Bus) -> Sampled
-    requires mem { mem ≡ Mem.None }
-    requires fetch { fetch ≡ false }
-    ensures clear { access_refusal (length bus.now.words) mem fetch ports.now ≡ None }
-    ensures access { SamplesMemory bus.now mem fetch ports.now result.word result.byte }
-    ensures word { is_some result.word ≡ is_read mem }
-    ensures byte { is_some result.byte ≡ fetch }
-{
-    Sampled {
-        word: None,
-        byte: None,
-    }
-}
-
 /// What a fetch from memory samples where nothing else is accessed.
 #[inline(always)]
 #[tactic(auto, unfolding(console_port::specs::World::fetch_refusal))]

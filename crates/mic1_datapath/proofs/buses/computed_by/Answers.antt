@@ -20,20 +20,9 @@ operate-value-requires-clause-b c =
     (λ i. on (gates i) c.args.b) ∙ c.side_law.ensures s.part.op (may_be_b machines.Mic1) s.part.b c.args.b valid.b
     (λ e. c.requires.b ∙ ap (λ (b : Option BusSource). source b m) e)
 
-pub returns-clause-edge : goal.returns-clause-edge
-unfolding statement_of
-returns-clause-edge c =
-    let s = statement_of machines.Mic1 c.args.word in
-    let spelled = c.word_law.ensures.spells c.args.word c.requires.decoded.canonical in
-    let gates = c.gates-gates.ensures ∙ ap (λ (f : Fields). f.gates) spelled.fields in
-    record {
-      value_is = c.operate-value.ensures s.part.op (sym gates) ∙ ap (λ (x : ℕ). alu s.part.op (micro_in c.args.latches.now).h x) c.requires.b;
-      c_is = c.shift_for-c.ensures;
-    }
-
-pub returns-clause-value : goal.returns-clause-value
+pub returns : goal.returns
 unfolding computed statement_of
-returns-clause-value c =
+returns c =
     let s = statement_of machines.Mic1 c.args.word in
     let spelled = c.word_law.ensures.spells c.args.word c.requires.decoded.canonical in
     let gates = c.gates-gates.ensures ∙ ap (λ (f : Fields). f.gates) spelled.fields in

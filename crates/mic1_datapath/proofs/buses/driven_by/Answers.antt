@@ -5,18 +5,9 @@ use Rattle.mic1_datapath.specs.Prelude.{source, driven, micro_in}
 use Rattle.mic1_datapath.proofs.Sources.{at_place}
 use Rattle.mic1_datapath.proofs.buses.driven_by.Goals as goal
 
-pub returns-clause-b : goal.returns-clause-b
-unfolding statement_of
-returns-clause-b c =
-    let l = c.args.latches.now in
-    let s = statement_of machines.Mic1 c.args._word in
-    let spelled = c.word_law.ensures.spells c.args._word c.requires.decoded.canonical in
-    let valid = c.statement_law.ensures.conditions s spelled.valid in
-    ap (λ (place : ℕ). slice_index l.places place) c.requires.decoded.decoded.b ∙ at_place l c.requires.latches _ s.part.b valid.b
-
-pub returns-clause-value : goal.returns-clause-value
+pub returns : goal.returns
 unfolding driven statement_of
-returns-clause-value c =
+returns c =
     let l = c.args.latches.now in
     let s = statement_of machines.Mic1 c.args._word in
     let spelled = c.word_law.ensures.spells c.args._word c.requires.decoded.canonical in

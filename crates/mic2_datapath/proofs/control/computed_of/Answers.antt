@@ -16,4 +16,4 @@ returns c =
     c.alu-value.ensures.value
     ∙ ap (λ (controls : Controls). gates controls c.args.a c.args.b) (c.from_bits-controls.ensures ∙ ap controls_of its_gates)
     ∙ c.each_row_computes.ensures s.part.op c.args.a c.args.b (omega arith) (omega arith) in
-    c.values_of.ensures ∙ (λ i. flagged c.alu-value.result.value (c.shift_for.ensures i)) ∙ ap (λ (x : ℕ). value_of s x) computes
+    c.flagged.ensures ∙ (λ i. flagged c.alu-value.result.value (c.shift_for.ensures i)) ∙ ap (λ (x : ℕ). value_of s x) computes

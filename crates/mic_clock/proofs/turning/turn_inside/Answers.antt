@@ -15,7 +15,7 @@ returns-in-Some-clause-turned g c = λ _.
     let not_ended : board.end ≡ None = search rules in
     let running : c.count.new.running.end ≡ None = search rules in
     let counted = counted_as_ruled m _ _ _ _ c.count.ensures.counts
-    ∙ ap (λ (b : Bool). counts_after m board.counts b (state c.clock_inside.new.self)) c.in-Some.ensures.stalled in
+    ∙ ap (λ (b : Bool). counts_after m board.counts b (state c.clock_inside.new.machine)) c.in-Some.ensures.stalled in
     record {
       turned = λ left held q. led-done state m left held left held _ _ not_ended no_end (c.in-Some.ensures.edge left held).ok counted running;
       counted = record {

@@ -41,7 +41,7 @@ returns-in-Ok-clause-turn g c =
     let not_ended : board.end ≡ None = search rules in
     let counted = counted_as_ruled m _ _ _ _ c.count.ensures.counts in
     (λ q. led-done state m _ _ _ _ _ _ not_ended no_end c.in-Ok.ensures.edge.edge.ok
-    (counted ∙ ap (λ (b : Bool). counts_after m board.counts b (state c.clock.new.self)) c.in-Ok.ensures.stalled) (search rules))
+    (counted ∙ ap (λ (b : Bool). counts_after m board.counts b (state c.clock.new.machine)) c.in-Ok.ensures.stalled) (search rules))
 
 pub returns-in-Ok-clause-tick : goal.returns-in-Ok-clause-tick
 returns-in-Ok-clause-tick g c =

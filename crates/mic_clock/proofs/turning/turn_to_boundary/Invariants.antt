@@ -15,7 +15,7 @@ invariant-inside g l =
     let first = board_of g.M.Clocked.seen l.fn.machine l.fn.store l.fn.bus l.fn.running l.fn.tally in
     let words = first.store.words in
     record {
-      parts : AreParts g.M.Clocked.phase m l.machine l.store l.here l.tally;
+      parts : AreParts m l.store l.here l.tally;
       run : NoFault None board.end → IsLedTo state (g.S.Source.left l.fn.source) (g.K.Sink.held l.fn.sink) first left board
           (λ r rest. (n : ℕ) × IsLeg m words n r × Leads state m words None board first.buses rest n r (ShowsRun state left held board));
       read : board.end ≡ Some ends.ReadFault → IsLedTo state (g.S.Source.left l.fn.source) (g.K.Sink.held l.fn.sink) first left board

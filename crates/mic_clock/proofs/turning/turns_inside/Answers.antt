@@ -12,7 +12,7 @@ turns-init g c =
     let here : Running = record { cycles = c.args.running.now.cycles; end = None } in
     let is : here ≡ c.args.running.now = λ i. record { cycles = c.args.running.now.cycles; end = sym c.requires.running i } in
     record {
-      parts = subst (λ (r : Running). AreParts g.M.Clocked.phase m c.args.machine.now c.args.store.now r c.args.tally.now) (sym is) c.requires.parts;
+      parts = subst (λ (r : Running). AreParts m c.args.store.now r c.args.tally.now) (sym is) c.requires.parts;
       run = subst (λ (r : Running). IsRunInside state m (from r) (from here) c.args.bound) is (IsRunInside-start state m c.args.bound (from here));
       running = refl {a = None};
     }
@@ -47,7 +47,7 @@ turns-preserved g c =
 
 pub returns-clause-parts : goal.returns-clause-parts
 returns-clause-parts g c =
-    subst (λ (r : Running). AreParts g.M.Clocked.phase g.M.Clocked.meaning c.turns.machine c.args.store.now r c.turns.tally)
+    subst (λ (r : Running). AreParts g.M.Clocked.meaning c.args.store.now r c.turns.tally)
     (λ i. record { cycles = c.turns.here.cycles; end = (c.turns.invariant.running ∙ sym c.requires.running) i }) c.turns.invariant.parts
 
 pub returns-clause-run : goal.returns-clause-run

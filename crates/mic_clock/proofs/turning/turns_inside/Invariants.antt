@@ -10,7 +10,7 @@ invariant-turns g l =
     let first = board_of g.M.Clocked.seen l.fn.machine l.fn.store l.fn.bus l.fn.running l.fn.tally in
     let board = board_of g.M.Clocked.seen l.machine l.store l.bus l.here l.tally in
     record {
-      parts : AreParts g.M.Clocked.phase m l.machine l.store l.here l.tally;
+      parts : AreParts m l.store l.here l.tally;
       run : IsRunInside state m first board l.bound;
       running : board.end ≡ None;
     }

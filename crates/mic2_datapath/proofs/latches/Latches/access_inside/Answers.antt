@@ -3,9 +3,8 @@ use Rattle.std.specs.Prelude.{is_some}
 use Rattle.std.proofs.lemmas.Grind.{common_steps}
 use Rattle.console_port.specs.Prelude.{World}
 use Rattle.micro_word.specs.declared.statement.Mem.TheVariants as mems
-use Rattle.mic_datapath.specs.Prelude.{IsTransfer, memory_refusal, ports_with}
+use Rattle.mic_datapath.specs.Prelude.{IsTransfer, first_clear, led_same, memory_refusal, ports_with}
 use Rattle.mic2_datapath.specs.Prelude.{access_by}
-use Rattle.mic2_datapath.proofs.Inside.{first_clear, led_same}
 use Rattle.mic2_datapath.proofs.latches.Latches.access_inside.Goals as goal
 
 pub returns-then-reads-clause-inside : goal.returns-then-reads-clause-inside

@@ -5,10 +5,9 @@ use Rattle.console_port.specs.declared.fault.BusFault.{BusFault}
 use Rattle.micro_word.specs.Prelude.{statement_of, shifted}
 use Rattle.micro_word.specs.declared.statement.Mem.TheVariants as mems
 use Rattle.mic_words.specs.declared.machine.Machine.TheVariants as machines
-use Rattle.mic_datapath.specs.Prelude.{memory_refusal}
+use Rattle.mic_datapath.specs.Prelude.{led_same, memory_refusal}
 use Rattle.mic2_fetch_unit.specs.Prelude.{sample_refusal}
 use Rattle.mic2_datapath.specs.Prelude.{jumps, moved_on, access_by, micro_in}
-use Rattle.mic2_datapath.proofs.Inside.{led_same}
 use Rattle.mic2_datapath.proofs.Steps.{IsAsked, asked_for, edge_either, is_for, it_reads, mar_there, mdr_there, on_each_err, refusal_left, sampled_there}
 use Rattle.mic2_datapath.proofs.Tried.{tried}
 use Rattle.mic2_datapath.proofs.latches.Latches.edge_inside.Goals as goal

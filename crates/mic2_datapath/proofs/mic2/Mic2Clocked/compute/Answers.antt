@@ -1,21 +1,21 @@
 use Rattle.std.proofs.Common.{◌∙◌}
+use Rattle.mic_words.specs.declared.machine.Machine.TheVariants as machines
+use Rattle.micro_word.specs.Prelude.{statement_of}
 use Rattle.mic2_datapath.specs.Prelude.{micro_in}
-use Rattle.mic2_datapath.proofs.Buses.{computed_there, has_computed, nothing_on_b}
+use Rattle.mic2_datapath.proofs.Buses.{computed_there, flagged_on, nothing_on, nothing_on_b}
 use Rattle.mic2_datapath.proofs.mic2.Mic2Clocked.compute.Goals as goal
 
-pub compute-values-requires : goal.compute-values-requires
-compute-values-requires c =
-    let old = c.args.self.now in
-    nothing_on_b old.control.word (micro_in old.latches) old.buses (old.drove c.requires)
+pub operate_for-value-requires-clause-b : goal.operate_for-value-requires-clause-b
+operate_for-value-requires-clause-b c = nothing_on_b c.args.word (micro_in c.args.self.now.latches) c.args.drive c.requires.drive
 
-pub invariant_of-self-clause-computed : goal.invariant_of-self-clause-computed
-invariant_of-self-clause-computed c =
-    let old = c.args.self.now in
-    let m = micro_in old.latches in
-    let drove = old.drove c.requires in
-    λ e. has_computed old.control.word m old.buses drove c.compute-values.result (c.compute-values.ensures ∙ computed_there old.control.word m old.buses drove)
+pub returns-then-drive : goal.returns-then-drive
+returns-then-drive c =
+    nothing_on (statement_of machines.Mic2 c.args.word) c.args.drive c.if-drive.true
+    ∙ computed_there c.args.word (micro_in c.args.self.now.latches) c.args.drive c.requires.drive
 
-pub returns-clause-value : goal.returns-clause-value
-returns-clause-value c =
-    let old = c.args.self.now in
-    c.compute-values.ensures ∙ computed_there old.control.word (micro_in old.latches) old.buses (old.drove c.requires)
+pub returns : goal.returns
+returns c =
+    c.flagged.ensures
+    ∙ flagged_on (statement_of machines.Mic2 c.args.word) c.args.drive c.if-drive.false c.operate_for-value.result c.shift_for.result
+    c.operate_for-value.ensures c.shift_for.ensures
+    ∙ computed_there c.args.word (micro_in c.args.self.now.latches) c.args.drive c.requires.drive

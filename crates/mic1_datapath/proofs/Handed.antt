@@ -1,0 +1,19 @@
+-- What a cycle has driven and computed before its edge, as the parts of a word say it.
+use Rattle.std.proofs.Common.{◌≡◌, ℕ, ap, sym, ◌∙◌}
+use Rattle.mic_words.specs.declared.machine.Machine.TheVariants as machines
+use Rattle.micro_word.specs.Prelude.{shifted, statement_of}
+use Rattle.mic_clock.specs.declared.buses.Computed.{Computed}
+use Rattle.mic_clock.specs.declared.buses.Drive.{Drive}
+use Rattle.mic1_datapath.specs.Prelude.{HasComputed, Micro, computed, driven, source}
+
+pub drove_b : (word : ℕ) (m : Micro) (d : Drive) → d ≡ driven word m → d.b ≡ source (statement_of machines.Mic1 word).part.b m
+unfolding driven
+drove_b word m d is = ap (λ (x : Drive). x.b) is
+
+pub has_computed : (word : ℕ) (m : Micro) (v : Computed) → v ≡ computed word m → HasComputed word m v.alu.value v.c
+unfolding computed
+has_computed word m v is =
+    record {
+      value_is = ap (λ (x : Computed). x.alu.value) is;
+      c_is = ap (λ (x : Computed). x.c) is ∙ sym (ap (λ (x : Computed). shifted (statement_of machines.Mic1 word).part.shift x.alu.value) is);
+    }
