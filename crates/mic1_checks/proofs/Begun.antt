@@ -9,6 +9,7 @@ use Rattle.mic_datapath.specs.Registers.{arrived}
 use Rattle.mic1_datapath.specs.Micro.{Micro}
 use Rattle.mic1_datapath.specs.Mic1.{mic1_meaning, IsReady}
 use Rattle.ijvm_simulation.specs.Stands.{Origin, IsAt}
+use Rattle.ijvm_simulation.specs.Outcomes.{Went}
 use Rattle.ijvm_simulation.specs.Passes.{Moment}
 use Rattle.micro_terms.specs.declared.node.Node.{Node}
 use Rattle.micro_terms.specs.Environment.{Environment}
@@ -24,10 +25,12 @@ use Rattle.mic1_checks.specs.Start.{IsStart, HasRegisters, shaped_symbols, start
 use Rattle.mic1_checks.proofs.Starts.{Started, started, twin, twin_stands, stand, stand_shaped, signs, signs_shaped}
 
 -- the settled symbols stand for the machine's twin at any entry, and those of its shape for the machine itself
-pub record Begun (table : List Node) (n : Instruction) (shape : Shape) (x : Symbols) (entry' : ℕ) (q : Moment Micro) (i : Instr) : Type 0 where
+pub record Begun (table : List Node) (n : Instruction) (shape : Shape) (x : Symbols) (entry' : ℕ) (v : VerifiedView) (s : State) (q : Moment Micro)
+    (i : Instr) : Type 0 where
   pub e : Environment
   pub fits : Fits e table
   pub starts : StartsBefore e n x i
+  pub went : (to : State) → Went v.image v.map.stack_end s to i → Went starts.v.image starts.v.map.stack_end starts.s to i
   pub from : (entry : ℕ) → start_moment e q.stalls entry x ≡ record { state = twin entry q.state; world = q.world; stalls = q.stalls }
   pub own : start_moment e q.stalls entry' (shaped_symbols shape x) ≡ q
   pub signs : HasSigns e.word x
@@ -35,7 +38,7 @@ pub record Begun (table : List Node) (n : Instruction) (shape : Shape) (x : Symb
 
 pub begun : HasEnvironments → (table : List Node) → AreOrdered table → HasRegisters table → (n : Instruction) (shape : Shape) (x : Symbols) (entry' : ℕ)
     (v : VerifiedView) (o : Origin) (s : State) (q : Moment Micro) (i : Instr) → StandsBefore entry' v o s q i → Suits n o s → shape_of q.state ≡ shape →
-    ((e : Environment) → Fits e table → IsStart e n.opcode x) → Begun table n shape x entry' q i
+    ((e : Environment) → Fits e table → IsStart e n.opcode x) → Begun table n shape x entry' v s q i
 begun exist table ordered registers n shape x entry' v o s q i b suits formed starting =
     let t : Started table q.state q.world = started exist table ordered registers q.state q.world b.words in
     let e = t.e in
@@ -50,11 +53,24 @@ begun exist table ordered registers n shape x entry' v o s q i b suits formed st
     (b.at.ready.mpc ∙ b.at.ready.entry) b.at.ready.entry in
     let at0 : IsAt mic1_meaning IsReady 0 o s (start_moment e q.stalls 0 x).state (start_moment e q.stalls 0 x).world =
     subst (λ (p : Moment Micro). IsAt mic1_meaning IsReady 0 o s p.state p.world) (sym (moment 0)) (twin_stands o 0 entry' s q.state q.world b.at) in
-    let words : (k : ℕ) → slice_index e.start.words k < 4294967296 = subst (λ (w : World). (k : ℕ) → slice_index w.words k < 4294967296) (sym t.starts) b.words.memory in
+    let words : (k : ℕ) → slice_index e.start.words k < 4294967296 =
+    subst (λ (w : World). (k : ℕ) → slice_index w.words k < 4294967296) (sym t.starts) b.words.memory in
     record {
       e = e;
       fits = t.fits;
-      starts = record { start = start; v = v; o = o; loads = b.loads; s = s; next = b.next; suits = suits; pc = at0.ready.pc; holds = at0.holds; words = words };
+      starts = record {
+        start = start;
+        v = v;
+        o = o;
+        loads = b.loads;
+        s = s;
+        next = b.next;
+        suits = suits;
+        pc = at0.ready.pc;
+        holds = at0.holds;
+        words = words;
+      };
+      went = λ to h. h;
       from = moment;
       own = λ j. record { state = itself j; world = t.starts j; stalls = q.stalls };
       signs = signs e n.opcode x start;

@@ -4,7 +4,8 @@ use Rattle.std.specs.Prelude.{slice_index_or}
 use Rattle.std.specs.List.{Contains}
 use Rattle.console_port.specs.World.{byte_in}
 use Rattle.ijvm_instr.specs.declared.instr.Instr.{Instr}
-use Rattle.ijvm_instr.specs.declared.instr.Instr.TheVariants.{Nop, Bipush, LdcW, Iload, Istore, Pop, Dup, Swap, Iadd, Isub, Iand, Iinc, Ifeq, Iflt, IfIcmpeq, Goto, Ireturn, Ior, Invokevirtual, WideIload, WideIstore, WideIinc, In, Out, Err, Halt}
+use Rattle.ijvm_instr.specs.declared.instr.Instr.TheVariants.{Nop, Bipush, LdcW, Iload, Istore, Pop, Dup, Swap, Iadd, Isub, Iand, Iinc, Ifeq, Iflt}
+use Rattle.ijvm_instr.specs.declared.instr.Instr.TheVariants.{IfIcmpeq, Goto, Ireturn, Ior, Invokevirtual, WideIload, WideIstore, WideIinc, In, Out, Err, Halt}
 use Rattle.ijvm_meaning.specs.Frames.{State}
 use Rattle.ijvm_simulation.specs.Bytes.{Reads}
 use Rattle.ijvm_simulation.specs.Stands.{Origin}
@@ -36,7 +37,8 @@ module _ (o : Origin) (s : State) where
   at : (k row : ℕ) → k < 25 → (slice_index_or instructions k (plain 0 0)).row ≡ row → Suits (slice_index_or instructions k (plain 0 0)) o s → Listed row
   at k row h its suits = record { k = k; inside = h; its_row = its; suits = suits }
 
-  pub listed : (c d e f : ℕ) (i : Instr) → Reads (byte_in o.words s.at) (byte_in o.words (s.at + 1)) c d e f i → (i ≡ Halt) ⊎ ((i ≡ Err) ⊎ Listed (row_number i))
+  pub listed : (c d e f : ℕ) (i : Instr) → Reads (byte_in o.words s.at) (byte_in o.words (s.at + 1)) c d e f i →
+      (i ≡ Halt) ⊎ ((i ≡ Err) ⊎ Listed (row_number i))
   listed c d e f Nop r = inr (inr (at 0 0 (omega arith) refl (is_plain 0 0x00 r)))
   listed c d e f (Bipush z) r = inr (inr (at 1 1 (omega arith) refl (is_plain 1 0x10 r.0)))
   listed c d e f (LdcW k) r = inr (inr (at 2 2 (omega arith) refl (is_plain 2 0x13 r.0)))
@@ -70,7 +72,9 @@ pub more : (n : Instruction) (shape : Shape) (store store' : List ℕ) (entry en
 more n shape store store' entry entry' xs ys kept h = λ before timing v o s q i takes stands suits formed.
     let on : Onward xs n.row store' entry' before timing v o s q i = h before timing v o s q i takes stands suits formed in
     record {
-      goes = λ to went. let by = on.goes to went in record { counts = by.counts; is_leaf = kept by.counts by.is_leaf; its_row = by.its_row; carries = by.carries };
+      goes = λ to went.
+          let by = on.goes to went in
+          record { counts = by.counts; is_leaf = kept by.counts by.is_leaf; its_row = by.its_row; carries = by.carries };
       limits = on.limits;
     }
 

@@ -30,9 +30,9 @@ pub in_none : (word : ℕ → ℕ) → ((i : ℕ) → word i < 4294967296) → (
 unfolding end_of
 in_none word small ranges is = subst (IsIn word) (sym is) (λ n. (omega arith, omega (arith, small n)))
 
-plus_is : (x y z : ℕ) → x ≡ y → y + 1 ≡ z → z < 2 ^ 32 → plus x 1 ≡ z
+plus_is : (x y k : ℕ) → x ≡ y → y + k < 2 ^ 32 → plus x k ≡ y + k
 unfolding wrap
-plus_is x y z e h l = omega (arith, e, h)
+plus_is x y k e l = omega (arith, e, l)
 
 byte_kept : (words origin : List ℕ) {x p : ℕ} → ((a : ℕ) → a < 0x8000 → slice_index words a ≡ slice_index origin a) → x ≡ p → p < 0x20000 →
     byte_in words x ≡ byte_in origin p
@@ -69,11 +69,14 @@ module _ (law : StackLaw) (e : Environment) (n : Instruction) (x : Symbols) (i :
       in_ranges e.word small (omega (arith, pc, low)) (omega (arith, sp, top)) (omega (arith, sp, high, map.near))
       (omega (arith, lv, bottom)) (omega (arith, lv, below, sp, high, map.near))
 
+  -- the bytes after the opcode
+  pub byte_there : (k : ℕ) → k < 6 → byte_in e.start.words (plus (e.word x.pc) k) ≡ byte_in b.o.words (b.s.at + k)
+  byte_there k small =
+      byte_kept e.start.words b.o.words b.holds.memory.kept (plus_is (e.word x.pc) b.s.at k b.pc (omega (arith, low, small))) (omega (arith, low, small))
+
   pub bytes : HasBytes e n x
   bytes =
       record {
         opcode = byte_kept e.start.words b.o.words b.holds.memory.kept b.pc (omega (arith, low)) ∙ b.suits.opcode;
-        second = λ k is.
-            byte_kept e.start.words b.o.words b.holds.memory.kept (plus_is (e.word x.pc) b.s.at (b.s.at + 1) b.pc (omega arith) (omega (arith, low))) (omega (arith, low))
-            ∙ b.suits.second k is;
+        second = λ k is. byte_there 1 (omega arith) ∙ b.suits.second k is;
       }

@@ -5,6 +5,7 @@ pub mod Instructions
 pub mod KeptWords
 pub mod Knowledge
 pub mod Leaves
+pub mod Leaving
 pub mod Operands
 pub mod Orders
 pub mod Passes

@@ -1,5 +1,6 @@
 -- Writes in another order.
-use Rattle.std.proofs.Common.{◌≡◌, ◌≢◌, ◌==◌, ℕ, true, false, inl, inr, sym, zero, suc, ◌<◌, ◌+◌, List, [], ◌∷◌, ◌++◌, length, take, get_or, refl, ap, ◌∙◌, arith}
+use Rattle.std.proofs.Common.{◌≡◌, ◌≢◌, ◌==◌, ℕ, true, false, inl, inr, sym, zero, suc, ◌<◌, ◌+◌, List, [], ◌∷◌, ◌++◌, length, take}
+use Rattle.std.proofs.Common.{get_or, refl, ap, ◌∙◌, arith}
 use Rattle.std.specs.Prelude.{slice_index_or, slice_set}
 use Rattle.std.specs.List.{All, Any, remove}
 use Rattle.std.proofs.lemmas.Bool.{cases_Bool}
@@ -58,5 +59,6 @@ module _ (word : ℕ → ℕ) where
         ∙ undone at v ys k x (omega (arith, inside)) is same (slice_set words (word y.at) (word y.value))
   ]
 
-  pub without : (at v : ℕ) (xs : List Write) → Any (λ w. w.at ≡ at) xs → (words : List ℕ) → written_by word xs (slice_set words (word at) v) ≡ written_by word xs words
+  pub without : (at v : ℕ) (xs : List Write) → Any (λ w. w.at ≡ at) xs → (words : List ℕ) →
+      written_by word xs (slice_set words (word at) v) ≡ written_by word xs words
   without at v xs any words = undone at v xs any.0 any.1 any.2 any.3 any.4 words

@@ -25,7 +25,8 @@ use Rattle.micro_terms.specs.Environment.{Environment}
 abbrev pub with_clocked : Bool → Moment Micro → Moment Micro
 with_clocked b q = record q { state = record q.state { clocked = b } }
 
-pub same_pass : (words : List ℕ) (n : ℕ) (q : Moment Micro) (b b' : Bool) → pass mic1_meaning words n (with_clocked b q) ≡ pass mic1_meaning words n (with_clocked b' q)
+pub same_pass : (words : List ℕ) (n : ℕ) (q : Moment Micro) (b b' : Bool) →
+    pass mic1_meaning words n (with_clocked b q) ≡ pass mic1_meaning words n (with_clocked b' q)
 unfolding step_of_word driven
 same_pass words zero q b b' = refl
 same_pass words (suc n) q b b' = refl

@@ -1,5 +1,6 @@
 -- The second count of a leaf, found by its first one, and the cycles that follow.
-use Rattle.std.proofs.Common.{◌≡◌, ◌<◌, ◌+◌, ◌-◌, ◌==◌, ◌&&◌, ◌%◌, if◌then◌else◌, ℕ, zero, suc, Bool, true, false, List, [], ◌∷◌, Option, Some, inl, inr, length, refl, sym, ap, ◌∙◌, arith}
+use Rattle.std.proofs.Common.{◌≡◌, ◌<◌, ◌+◌, ◌-◌, ◌==◌, ◌&&◌, ◌%◌, if◌then◌else◌, ℕ}
+use Rattle.std.proofs.Common.{zero, suc, Bool, true, false, List, [], ◌∷◌, Option, Some, inl, inr, length, refl, sym, ap, ◌∙◌, arith}
 use Rattle.std.specs.Prelude.{slice_index_or, unwrap_or}
 use Rattle.std.specs.List.{All, Contains}
 use Rattle.std.proofs.lemmas.Bool.{cases_Bool}
@@ -42,7 +43,8 @@ found (x ∷ xs) c all (suc k) h e =
 pub decided : (leaves : List Counts) (c : Counts) → DecideSeconds leaves → Contains leaves c → second_in leaves c.row c.first ≡ Some c.second
 decided leaves c decide there =
     let agreeing : All (λ a. Agree a c) leaves =
-    All-weaker (λ (a : Counts). All (λ b. Agree a b) leaves) (λ (a : Counts). Agree a c) (λ a all. All-contains (λ (b : Counts). Agree a b) leaves c all there) leaves decide in
+    All-weaker (λ (a : Counts). All (λ b. Agree a b) leaves) (λ (a : Counts). Agree a c)
+    (λ a all. All-contains (λ (b : Counts). Agree a b) leaves c all there) leaves decide in
     found leaves c agreeing there.0 there.1 there.2
 
 -- so the cycles of the second store are found by those of the first

@@ -68,7 +68,8 @@ started exist table ordered r m w words =
 abbrev pub twin : ℕ → Micro → Micro
 twin entry m = record m { mbr = arrived m.byte m.mbr; mpc = entry; word = None; byte = None; entry = entry }
 
-pub twin_stands : (o : Origin) (entry entry' : ℕ) (s : State) (m : Micro) (w : World) → IsAt mic1_meaning IsReadyOrArriving entry' o s m w → IsAt mic1_meaning IsReady entry o s (twin entry m) w
+pub twin_stands : (o : Origin) (entry entry' : ℕ) (s : State) (m : Micro) (w : World) →
+    IsAt mic1_meaning IsReadyOrArriving entry' o s m w → IsAt mic1_meaning IsReady entry o s (twin entry m) w
 twin_stands o entry entry' s m w h =
     record {
       holds = h.holds;

@@ -30,7 +30,8 @@ pub by_row : (costs : Costs) (timing : Timing) (v : VerifiedView) (s : State) (i
     (i ≡ Halt) ⊎ ((i ≡ Err) ⊎ (cost v.image (timing_by costs timing) i s ≡ spent_by costs.leaves.items (row_number i) (cost v.image timing i s)))
 by_row costs timing v s Halt = inl refl
 by_row costs timing v s Err = inr (inl refl)
-by_row costs timing v s i = inr (inr (cost_is (spent_by costs.leaves.items (row_number i)) (timing.of i) (is_taken i s.running.operands) (entry_of v.image.pool i)))
+by_row costs timing v s i =
+    inr (inr (cost_is (spent_by costs.leaves.items (row_number i)) (timing.of i) (is_taken i s.running.operands) (entry_of v.image.pool i)))
 
 -- where an instruction leads, in the second store's cycles
 pub goes_on : (costs : Costs) → DecideSeconds costs.leaves.items → (xs : List Counts) → ((c : Counts) → Contains xs c → Contains costs.leaves.items c) →

@@ -1,5 +1,5 @@
 -- What the first store's law says of the second.
-use Rattle.std.proofs.Common.{◌≡◌, ℕ, ◌+◌, ◌==◌, true, false, Option, Some, None, List, refl, sym, ap, ◌∙◌, subst, arith}
+use Rattle.std.proofs.Common.{◌≡◌, ℕ, ◌+◌, ◌==◌, ◌<◌, true, false, Option, Some, None, List, [], ◌∷◌, length, refl, sym, ap, ◌∙◌, subst, arith}
 use Rattle.std.specs.Prelude.{drop, ◌++◌, unwrap_or}
 use Rattle.mic_datapath.specs.Registers.{arrived}
 use Rattle.mic1_cycles.specs.declared.symbols.Byte.{Byte}
@@ -8,8 +8,8 @@ use Rattle.console_port.specs.World.{World, StackLimit, OutOfMap}
 use Rattle.mic_clock.specs.Meaning.{Outcome, Refused}
 use Rattle.mic1_datapath.specs.Micro.{Micro}
 use Rattle.mic1_datapath.specs.Mic1.{mic1_meaning, IsReady}
-use Rattle.ijvm_meaning.specs.Frames.{State}
-use Rattle.ijvm_simulation.specs.Stands.{Origin, IsAt, RegistersStand}
+use Rattle.ijvm_meaning.specs.Frames.{State, base, frames_of}
+use Rattle.ijvm_simulation.specs.Stands.{Origin, IsAt, FramesStand, IsMemory, IsTop, RegistersStand}
 use Rattle.ijvm_simulation.specs.Passes.{Moment, is_inside, outcome_at}
 use Rattle.micro_terms.specs.Environment.{Environment}
 use Rattle.mic1_cycles.specs.Trail.{given_by}
@@ -18,6 +18,8 @@ use Rattle.mic1_cycles.specs.declared.path.Path.{Path}
 use Rattle.mic1_cycles.specs.Paths.{refusal_of}
 use Rattle.mic1_cycles.specs.declared.refusal.Stop.TheVariants.{OutOfMap as Out}
 use Rattle.mic1_passes.specs.Moments.{moment}
+use Rattle.mic1_checks.specs.declared.left.Operands.{Operands}
+use Rattle.mic1_checks.specs.Left.{AreLeft}
 use Rattle.mic1_checks.specs.Transfer.{AreAlike, Transfers, TransfersLimits, OneEnd}
 use Rattle.mic1_checks.proofs.Passes.{Same, only, only_refused, not_both}
 
@@ -32,7 +34,29 @@ came : (word : ℕ → ℕ) (o : Option Byte) (b : Byte) → arrived (byte_symbo
 came word None b = refl
 came word (Some n) b = refl
 
-module _ (o : Origin) (stalls entry entry' : ℕ) (e : Environment) (last last' : Path) (s : State) (a : AreAlike e entry entry' last last') where
+-- where there is no operand, TOS is free
+another_top : (x y : ℕ) (ys : List ℕ) → (0 < length ys → x ≡ y) → IsTop x ys → IsTop y ys
+another_top x y [] same top = top
+another_top x y (z ∷ zs) same top = sym (same (omega arith)) ∙ top
+
+-- registers with the same words stand for the same state, and TOS where it is the last operand
+alike_stand : (o : Origin) (s : State) (sp sp' lv lv' cpp cpp' tos tos' : ℕ) (w w' : World) → sp ≡ sp' → lv ≡ lv' → cpp ≡ cpp' → w ≡ w' →
+    IsTop tos' s.running.operands → RegistersStand o s sp lv cpp tos w → RegistersStand o s sp' lv' cpp' tos' w'
+alike_stand o s sp sp' lv lv' cpp cpp' tos tos' w w' is_sp is_lv is_cpp is_world top h =
+    record {
+      sp_is = ap (λ (x : ℕ). x + 1) (sym is_sp) ∙ h.sp_is;
+      lv_is = sym is_lv ∙ h.lv_is;
+      cpp_is = sym is_cpp ∙ h.cpp_is;
+      tos_is = top;
+      frames = subst (λ (v : World). FramesStand v.words (frames_of s)) is_world h.frames;
+      memory = subst (λ (v : World). IsMemory o.words v.words) is_world h.memory;
+      fits = h.fits;
+      untaken = ap (λ (v : World). v.untaken) (sym is_world) ∙ h.untaken;
+      given = ap (λ (v : World). v.given) (sym is_world) ∙ h.given;
+    }
+
+module _ (o : Origin) (stalls entry entry' : ℕ) (e : Environment) (operands : Operands) (last last' : Path) (s : State)
+    (a : AreAlike e entry entry' operands last last') (left : AreLeft e operands s) where
   same_world : (moment e stalls entry last).world ≡ (moment e stalls entry' last').world
   same_world = λ i.
       record {
@@ -44,14 +68,12 @@ module _ (o : Origin) (stalls entry entry' : ℕ) (e : Environment) (last last' 
   stands : IsAt mic1_meaning IsReady entry o s (moment e stalls entry last).state (moment e stalls entry last).world →
       IsAt mic1_meaning IsReadyOrArriving entry' o s (moment e stalls entry' last').state (moment e stalls entry' last').world
   stands h =
-      let held : RegistersStand o s (e.word last'.symbols.sp) (e.word last'.symbols.lv) (e.word last'.symbols.cpp) (e.word last'.symbols.tos) (moment e stalls entry' last').world =
-      subst (λ (w : World). RegistersStand o s (e.word last'.symbols.sp) (e.word last'.symbols.lv) (e.word last'.symbols.cpp) (e.word last'.symbols.tos) w) same_world
-      (subst (λ (x : ℕ). RegistersStand o s (e.word last'.symbols.sp) (e.word last'.symbols.lv) (e.word last'.symbols.cpp) (e.word x) (moment e stalls entry last).world) a.tos
-      (subst (λ (x : ℕ). RegistersStand o s (e.word last'.symbols.sp) (e.word last'.symbols.lv) (e.word x) (e.word last.symbols.tos) (moment e stalls entry last).world) a.cpp
-      (subst (λ (x : ℕ). RegistersStand o s (e.word last'.symbols.sp) (e.word x) (e.word last.symbols.cpp) (e.word last.symbols.tos) (moment e stalls entry last).world) a.lv
-      (subst (λ (x : ℕ). RegistersStand o s (e.word x) (e.word last.symbols.lv) (e.word last.symbols.cpp) (e.word last.symbols.tos) (moment e stalls entry last).world) a.sp h.holds)))) in
+      let sp : e.word last.symbols.sp + 1 ≡ base (frames_of s) = h.holds.sp_is in
+      let top : IsTop (e.word last'.symbols.tos) s.running.operands =
+      another_top (e.word last.symbols.tos) (e.word last'.symbols.tos) s.running.operands
+      (λ some. a.tos s (record { left = left; some = some; sp = sp })) h.holds.tos_is in
       record {
-        holds = held;
+        holds = alike_stand o s _ _ _ _ _ _ _ _ _ _ (ap e.word a.sp) (ap e.word a.lv) (ap e.word a.cpp) same_world top h.holds;
         ready = record {
           pc = ap e.word (sym a.pc) ∙ h.ready.pc;
           opcode = came e.word last'.symbols.byte last'.symbols.mbr ∙ (ap e.word (sym a.opcode) ∙ h.ready.mbr);
@@ -62,10 +84,11 @@ module _ (o : Origin) (stalls entry entry' : ℕ) (e : Environment) (last last' 
       }
 
 pub transfers : Transfers
-transfers = λ store store' before o stalls entry entry' n n' spent e first first' last last' to l h.
+transfers = λ store store' before o stalls entry entry' n n' spent e operands first first' last last' to l left h.
     let inside : is_inside mic1_meaning h.there.state ≡ false = at_entry h.there.state h.stands.ready.mpc h.stands.ready.clocked in
     let inside' : is_inside mic1_meaning (moment e stalls entry last).state ≡ false = at_entry (moment e stalls entry last).state l.alike.mpc refl in
-    let same : Same mic1_meaning store h.n n h.there (moment e stalls entry last) = only mic1_meaning store h.n n (moment e stalls entry first) h.there (moment e stalls entry last) h.passes l.passes inside inside' in
+    let same : Same mic1_meaning store h.n n h.there (moment e stalls entry last) =
+    only mic1_meaning store h.n n (moment e stalls entry first) h.there (moment e stalls entry last) h.passes l.passes inside inside' in
     let there : IsAt mic1_meaning IsReady entry o to (moment e stalls entry last).state (moment e stalls entry last).world =
     subst (λ (t : Moment Micro). IsAt mic1_meaning IsReady entry o to t.state t.world) same.there h.stands in
     record {
@@ -77,7 +100,7 @@ transfers = λ store store' before o stalls entry entry' n n' spent e first firs
         begins = record { no_halt = l.begins.no_halt; no_err = l.begins.no_err };
         there = moment e stalls entry' last';
         passes = l.passes';
-        stands = stands o stalls entry entry' e last last' to l.alike there;
+        stands = stands o stalls entry entry' e operands last last' to l.alike left there;
       };
       words = l.words;
     }
@@ -85,7 +108,8 @@ transfers = λ store store' before o stalls entry entry' n n' spent e first firs
 pub transfers_limits : TransfersLimits
 transfers_limits = λ store store' before o stalls entry entry' n n' e first first' last last' left l h.
     let same : Same mic1_meaning store h.n n h.there (moment e stalls entry last) =
-    only_refused mic1_meaning store h.n n (moment e stalls entry first) h.there (moment e stalls entry last) (StackLimit h.at) (StackLimit l.stops.at) h.passes l.stops.passes h.refused l.stops.refused in
+    only_refused mic1_meaning store h.n n (moment e stalls entry first) h.there (moment e stalls entry last) (StackLimit h.at)
+    (StackLimit l.stops.at) h.passes l.stops.passes h.refused l.stops.refused in
     record {
       n = n';
       short = l.short;
@@ -105,15 +129,18 @@ other_reason a b o h h' = cc
 
 pub one_end : OneEnd
 one_end = record {
-  no_limit = λ store store' before o stalls entry entry' n n' e first first' last last' left l h.
+  no_limit = λ store store' before o stalls entry entry' n n' e operands first first' last last' left l h.
       let inside : is_inside mic1_meaning (moment e stalls entry last).state ≡ false = at_entry (moment e stalls entry last).state l.alike.mpc refl in
-      not_both mic1_meaning store n h.n (moment e stalls entry first) (moment e stalls entry last) h.there (StackLimit h.at) l.passes inside h.passes h.inside h.refused;
+      not_both mic1_meaning store n h.n (moment e stalls entry first) (moment e stalls entry last) h.there (StackLimit h.at) l.passes inside
+      h.passes h.inside h.refused;
   no_boundary = λ store before o stalls entry n spent e why first last to l h.
       let inside : is_inside mic1_meaning h.there.state ≡ false = at_entry h.there.state h.stands.ready.mpc h.stands.ready.clocked in
-      not_both mic1_meaning store h.n n (moment e stalls entry first) h.there (moment e stalls entry last) (refusal_of why l.at) h.passes inside l.passes l.inside l.refused;
+      not_both mic1_meaning store h.n n (moment e stalls entry first) h.there (moment e stalls entry last) (refusal_of why l.at) h.passes inside
+      l.passes l.inside l.refused;
   out_of_map = λ store before o stalls entry n e first last left l h.
       let same : Same mic1_meaning store h.n n h.there (moment e stalls entry last) =
-      only_refused mic1_meaning store h.n n (moment e stalls entry first) h.there (moment e stalls entry last) (StackLimit h.at) (refusal_of Out l.at) h.passes l.passes h.refused l.refused in
+      only_refused mic1_meaning store h.n n (moment e stalls entry first) h.there (moment e stalls entry last) (StackLimit h.at)
+      (refusal_of Out l.at) h.passes l.passes h.refused l.refused in
       other_reason h.at l.at (outcome_at mic1_meaning store (moment e stalls entry last))
       (ap (λ (q : Moment Micro). outcome_at mic1_meaning store q) (sym same.there) ∙ h.refused) l.refused;
 }

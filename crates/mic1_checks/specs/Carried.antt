@@ -21,19 +21,21 @@ use Rattle.mic1_passes.specs.declared.run.Followed.{Followed}
 use Rattle.mic1_passes.specs.declared.run.Followed.TheVariants as ends
 use Rattle.mic1_checks.specs.declared.instruction.Instruction.{Instruction}
 use Rattle.mic1_checks.specs.declared.leaf.Counts.{Counts}
+use Rattle.mic1_checks.specs.declared.left.Operands.{Operands}
 use Rattle.mic1_checks.specs.declared.shape.Shape.{Shape}
 use Rattle.mic1_checks.specs.declared.start.Start.{Start}
+use Rattle.mic1_checks.specs.Left.{AreLeft}
 use Rattle.mic1_checks.specs.Ready.{IsReadyOrArriving, shape_of}
 use Rattle.mic1_checks.specs.Situation.{IsKnown, StandsBefore, Suits}
 use Rattle.mic1_checks.specs.Start.{start_moment}
 use Rattle.mic1_checks.specs.Transfer.{AreAlike, Carries}
 
 -- the first path is at a boundary after n + 1 cycles, and the second at one alike
-pub record AreAtBoundary (e : Environment) (entry entry' row n : ℕ) (b : Followed) (c : Counts) (p q : Path) : Type 0 where
+pub record AreAtBoundary (e : Environment) (entry entry' row : ℕ) (operands : Operands) (n : ℕ) (b : Followed) (c : Counts) (p q : Path) : Type 0 where
   pub its_row : c.row ≡ row
   pub first : n ≡ c.first
   pub second : b ≡ ends.Boundary c.second
-  pub alike : AreAlike e entry entry' p q
+  pub alike : AreAlike e entry entry' operands p q
   pub short : c.second < 1024
 
 -- the second path meets the stack's end too, with the same console
@@ -51,9 +53,11 @@ pub record CarriedBy (leaves : List Counts) (row : ℕ) (store' before : List �
   pub its_row : counts.row ≡ row
   pub carries : Carries store' before o entry' counts.first counts.second spent q' to
 
--- where the first store moves from its start, the second does from its own, and where the first meets the stack's end, the second does
-pub record CarriesOver (e : Environment) (s s' : Symbols) (store store' : List ℕ) (entry entry' row : ℕ) (leaves : List Counts) : Type 0 where
-  pub moves : (before : List ℕ) (o : Origin) (stalls spent : ℕ) (to : State) →
+-- where the first store moves from its start, to a state of whose operands this is true, the second does from its own, and where the first
+-- meets the stack's end, the second does
+pub record CarriesOver (e : Environment) (s s' : Symbols) (store store' : List ℕ) (entry entry' row : ℕ) (operands : Operands)
+    (leaves : List Counts) : Type 0 where
+  pub moves : (before : List ℕ) (o : Origin) (stalls spent : ℕ) (to : State) → AreLeft e operands to →
       Moves mic1_meaning store (IsAt mic1_meaning IsReady entry o) before (start_moment e stalls entry s) spent to →
       CarriedBy leaves row store' before o entry' spent (start_moment e stalls entry' s') to
   pub limits : (before : List ℕ) (o : Origin) (stalls : ℕ) (left : State) →
@@ -64,7 +68,7 @@ pub record CarriesOver (e : Environment) (s s' : Symbols) (store store' : List �
 abbrev pub CarriesFrom : Start → List Answer → List ℕ → List ℕ → ℕ → ℕ → List Counts → Environment → Type 0
 CarriesFrom b answers store store' entry entry' leaves e =
     IsKnown e b.known → HasSigns e.word b.first → HasSigns e.word b.second → AreAnswered e answers →
-    CarriesOver e b.first b.second store store' entry entry' b.row leaves
+    CarriesOver e b.first b.second store store' entry entry' b.row b.operands leaves
 
 -- both ends of an instruction in the second store: the next boundary of the definition, or the stack's end
 pub record Onward (leaves : List Counts) (row : ℕ) (store' : List ℕ) (entry' : ℕ) (before : List ℕ) (timing : Timing) (v : VerifiedView) (o : Origin)

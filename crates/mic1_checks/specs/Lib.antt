@@ -1,6 +1,7 @@
 pub mod Boot
 pub mod Carried
 pub mod Ends
+pub mod Left
 pub mod Listed
 pub mod Ready
 pub mod Situation

@@ -1,5 +1,5 @@
 -- A boundary of an accepted image's run, at which an instruction comes next.
-use Rattle.std.specs.Prelude.{◌≡◌, ◌==◌, ◌||◌, ◌+◌, ◌<◌, ℕ, Bool, Some, slice_index}
+use Rattle.std.specs.Prelude.{◌≡◌, ◌==◌, ◌||◌, ◌&&◌, ◌+◌, ◌<◌, ℕ, Bool, false, Option, Some, None, length, slice_index}
 use Rattle.mic_words.specs.Arithmetic.{plus}
 use Rattle.console_port.specs.World.{byte_in}
 use Rattle.ijvm_instr.specs.declared.instr.Instr.{Instr}
@@ -13,18 +13,24 @@ use Rattle.ijvm_simulation.specs.Verified.{Loads, Fine, IsNext}
 use Rattle.micro_terms.specs.Environment.{Environment}
 use Rattle.mic1_cycles.specs.declared.known.Known.{Known}
 use Rattle.mic1_cycles.specs.declared.symbols.Symbols.{Symbols}
-use Rattle.mic1_cycles.specs.Known.{Knows}
+use Rattle.mic1_cycles.specs.Known.{Knows, StandsAt}
 use Rattle.mic1_checks.specs.declared.instruction.Instruction.{Instruction}
 use Rattle.mic1_checks.specs.Ready.{IsReadyOrArriving}
 use Rattle.mic1_checks.specs.Start.{IsStart}
 use Rattle.mic1_checks.specs.Words.{HasWords}
 
--- each instruction with this opcode takes an operand or copies one: ISTORE, POP, DUP, SWAP, IADD, ISUB, IAND, IOR by each of its
--- opcodes, IFEQ, IFLT, IF_ICMPEQ, IRETURN, OUT
-abbrev pub takes_operand : ℕ → Bool
-takes_operand opcode =
+-- the byte after WIDE is that of ISTORE
+abbrev pub is_wide_istore : Option ℕ → Bool
+is_wide_istore None = false
+is_wide_istore (Some byte) = byte == 0x36
+
+-- each instruction with this opcode, and after WIDE with this byte, takes an operand or copies one: ISTORE, POP, DUP, SWAP, IADD, ISUB, IAND,
+-- IOR by each of its opcodes, IFEQ, IFLT, IF_ICMPEQ, IRETURN, OUT, WIDE ISTORE
+abbrev pub takes_operand : ℕ → Option ℕ → Bool
+takes_operand opcode second =
     opcode == 0x36 || opcode == 0x57 || opcode == 0x59 || opcode == 0x5F || opcode == 0x60 || opcode == 0x64 || opcode == 0x7E
     || opcode == 0x80 || opcode == 0xB0 || opcode == 0x99 || opcode == 0x9B || opcode == 0x9F || opcode == 0xAC || opcode == 0xFD
+    || (opcode == 0xC4 && is_wide_istore second)
 
 -- the bytes of the instruction's kind stand where this state goes on
 pub record Suits (n : Instruction) (o : Origin) (s : State) : Type 0 where
@@ -61,3 +67,8 @@ pub record IsKnown (e : Environment) (k : Known) : Type 0 where
 pub record HasBytes (e : Environment) (n : Instruction) (x : Symbols) : Type 0 where
   pub opcode : byte_in e.start.words (e.word x.pc) ≡ n.opcode
   pub second : (b : ℕ) → n.second ≡ Some b → byte_in e.start.words (plus (e.word x.pc) 1) ≡ b
+
+-- where the symbols start, the last operand is in TOS and at SP, and memory has the word below it
+pub record HasOperand (e : Environment) (x : Symbols) : Type 0 where
+  pub top : StandsAt e x.sp x.tos
+  pub below : plus (e.word x.sp) 0xFFFFFFFF < length e.start.words

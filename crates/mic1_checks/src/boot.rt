@@ -8,6 +8,7 @@ ghost use Rattle.mic1_checks.specs.Boot.{CarriesBoot, IsReset};
 use crate::check::{MOST_ANSWERS, finding_of, work_of};
 use crate::finding::{Asked, Finding};
 use crate::leaf::Counts;
+use crate::left::Operands;
 use crate::shape::SETTLED;
 use crate::start::Start;
 use crate::stores::Stores;
@@ -86,6 +87,7 @@ pub fn boot_alike(
         first: s,
         second: s,
         known,
+        operands: Operands::Unknown,
     };
     let answers = Vec::new(alloc);
     let unlike = explore(

@@ -11,6 +11,7 @@ use crate::facts::known_of;
 use crate::finding::{Asked, Difference, Finding, Unlike};
 use crate::instruction::Instruction;
 use crate::leaf::Counts;
+use crate::left::operands_after;
 use crate::registers::{free_registers, has_registers};
 use crate::shape::{SETTLED, Shape, WITH_BOTH, WITH_BYTE, WITH_WORD, shaped};
 use crate::start::{Start, begin};
@@ -82,11 +83,13 @@ pub fn instruction_alike(
     let s = begin(n.opcode, &mut work.nodes, alloc)?;
     let t = shaped(&s, shape);
     let known = known_of(n, &s, &mut work.nodes, alloc)?;
+    let operands = operands_after(n, &s, &mut work.nodes, alloc)?;
     let start = Start {
         row: n.row,
         first: s,
         second: t,
         known,
+        operands,
     };
     let answers = Vec::new(alloc);
     let unlike = explore(

@@ -5,6 +5,8 @@ ghost use Rattle.mic1_cycles.specs.Known.{Knows};
 ghost use Rattle.mic1_checks.specs.Transfer.{AreAlike, LeaveAlike};
 
 use crate::finding::{Difference, Register};
+use crate::left::are_tops_alike;
+use crate::start::Start;
 use crate::stores::Stores;
 use crate::writes::writes_unlike;
 use mic1_cycles::{Known, Path};
@@ -80,12 +82,13 @@ fn of(register: Register, is: u32, wanted: u32) -> Difference {
 pub fn unlike(
     p: &Path,
     q: &Path,
+    start: &Start,
     stores: &Stores<'_>,
     nodes: &Nodes,
-    known: &Known,
     alloc: Global,
 ) -> Result<Option<Difference>, AllocError>
-    ensures { result ≡ Ok None → Holds nodes.now (λ e. Knows e known.now → AreAlike e stores.now.entry stores.now.other_entry p.now q.now) }
+    ensures { result ≡ Ok None → Holds nodes.now (λ e. Knows e start.now.known →
+        AreAlike e stores.now.entry stores.now.other_entry start.now.operands p.now q.now) }
 {
     let wanted = p.symbols;
     let is = q.symbols;
@@ -102,11 +105,11 @@ pub fn unlike(
     if wanted.pc != is.pc {
         return Ok(Some(of(Register::Pc, is.pc, wanted.pc)));
     }
-    match world_unlike(p, q, nodes, known, alloc)? {
+    match world_unlike(p, q, nodes, &start.known, alloc)? {
         Some(difference) => return Ok(Some(difference)),
         None => {}
     }
-    if wanted.tos != is.tos {
+    if !are_tops_alike(start.operands, p, q, nodes) {
         return Ok(Some(of(Register::Tos, is.tos, wanted.tos)));
     }
     if wanted.mbr.plain != opcode.plain {

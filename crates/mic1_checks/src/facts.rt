@@ -7,22 +7,22 @@ ghost use Rattle.ijvm_instr.specs.declared.instr.Instr.{Instr};
 ghost use Rattle.micro_terms.specs.Environment.{Environment};
 ghost use Rattle.micro_terms.specs.Meaning.{Grows, Holds};
 ghost use Rattle.mic1_cycles.specs.Known.{StandsAt};
-ghost use Rattle.mic1_checks.specs.Situation.{HasBytes, IsKnown, StartsBefore, takes_operand};
+ghost use Rattle.mic1_checks.specs.Situation.{HasBytes, HasOperand, IsKnown, StartsBefore, is_wide_istore, takes_operand};
 
-use crate::instruction::Instruction;
+use crate::instruction::{ISTORE, Instruction, WIDE};
 use crate::registers::ranges_of_registers;
 use ijvm_simulation::stack_law;
 use mic1_cycles::{Known, KnownByte, KnownWord, Symbols};
-use micro_terms::Nodes;
+use micro_terms::{Kind, Nodes};
 use std::alloc::{AllocError, Global};
 
-/// The number of a word and 1.
-fn after(number: u32, nodes: &mut Nodes, alloc: Global) -> Result<u32, AllocError>
-    ensures value { IfOk result (λ i. Holds nodes.new (λ e. e.word i ≡ plus (e.word number) 1)) }
+/// The number of the sum of a word and this one.
+pub fn offset_by(number: u32, by: u32, nodes: &mut Nodes, alloc: Global) -> Result<u32, AllocError>
+    ensures value { IfOk result (λ i. Holds nodes.new (λ e. e.word i ≡ plus (e.word number) by)) }
     ensures grows { Grows nodes.old nodes.new }
 {
     let mut term = nodes.term_of(number, alloc)?;
-    term.add_word(1);
+    term.add_word(by);
     let next = nodes.of_term(term)?;
     Ok(next)
 }
@@ -37,7 +37,7 @@ fn bytes_of(
     ensures value { IfOk result (λ bytes. Holds nodes.new (λ e. HasBytes e n s.now → All (λ b. byte_in e.start.words (e.word b.at) ≡ b.byte) bytes.items)) }
     ensures grows { Grows nodes.old nodes.new }
 {
-    let next = after(s.pc, nodes, alloc)?;
+    let next = offset_by(s.pc, 1, nodes, alloc)?;
     let mut bytes = Vec::new(alloc);
     bytes.push(KnownByte {
         at: s.pc,
@@ -49,10 +49,20 @@ fn bytes_of(
     Ok(bytes)
 }
 
-/// Whether each instruction with this opcode takes an operand or copies one. A call takes one too, but how many is its
-/// method's, and WIDE ISTORE is not told from WIDE ILOAD by the opcode.
-fn has_operand(opcode: u8) -> bool
-    ensures { result ≡ takes_operand opcode }
+/// Whether the byte after WIDE is that of ISTORE.
+pub fn is_wide_store(second: Option<u8>) -> bool
+    ensures { result ≡ is_wide_istore second }
+{
+    match second {
+        Some(byte) => byte == ISTORE,
+        None => false,
+    }
+}
+
+/// Whether each instruction with this opcode, and after WIDE with this byte, takes an operand or copies one. A call takes one
+/// too, but how many is its method's.
+fn has_operand(opcode: u8, second: Option<u8>) -> bool
+    ensures { result ≡ takes_operand opcode second }
 {
     matches!(
         opcode,
@@ -69,16 +79,26 @@ fn has_operand(opcode: u8) -> bool
             | 0xAC
             | 0xB0
             | 0xFD
-    )
+    ) || opcode == WIDE && is_wide_store(second)
 }
 
-/// The words of memory that are known: where the instruction has an operand, the last one is in TOS and at SP.
-fn words_of(n: Instruction, s: &Symbols, alloc: Global) -> Result<Vec<KnownWord>, AllocError>
-    ensures { IfOk result (λ words. (e : Environment) → (takes_operand n.opcode ≡ true → StandsAt e s.now.sp s.now.tos) →
-        All (λ w. StandsAt e w.at w.number) words.items) }
+/// The words of memory that are known: where the instruction has an operand, the last one is in TOS and at SP, and memory has
+/// the word below it.
+fn words_of(
+    n: Instruction,
+    s: &Symbols,
+    nodes: &mut Nodes,
+    alloc: Global,
+) -> Result<Vec<KnownWord>, AllocError>
+    ensures value { IfOk result (λ words. Holds nodes.new (λ e. (takes_operand n.opcode n.second ≡ true → HasOperand e s.now) →
+        All (λ w. StandsAt e w.at w.number) words.items)) }
+    ensures grows { Grows nodes.old nodes.new }
 {
     let mut words = Vec::new(alloc);
-    if has_operand(n.opcode) {
+    if has_operand(n.opcode, n.second) {
+        let below = offset_by(s.sp, u32::MAX, nodes, alloc)?;
+        let number = nodes.of_kind(Kind::Word { at: below })?;
+        words.push(KnownWord { at: below, number })?;
         words.push(KnownWord {
             at: s.sp,
             number: s.tos,
@@ -99,7 +119,7 @@ pub fn known_of(
 {
     stack_law();
     let bytes = bytes_of(n, s, nodes, alloc)?;
-    let words = words_of(n, s, alloc)?;
+    let words = words_of(n, s, nodes, alloc)?;
     let ranges = ranges_of_registers(alloc)?;
     Ok(Known {
         ranges,

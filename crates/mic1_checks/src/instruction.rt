@@ -14,7 +14,11 @@ pub struct Instruction {
     pub second: Option<u8>,
 }
 
-const WIDE: u8 = 0xC4;
+pub const WIDE: u8 = 0xC4;
+
+pub const ISTORE: u8 = 0x36;
+
+pub const INVOKEVIRTUAL: u8 = 0xB6;
 
 fn plain_of(row: u32, opcode: u8) -> Instruction
     ensures { result ≡ plain row opcode }

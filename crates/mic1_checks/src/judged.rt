@@ -112,9 +112,9 @@ fn verdict_on(
 }
 
 /// Whether the second store does what the first does: that it takes of every instruction what the first takes, takes HALT and
-/// ERR to their ends, and comes from its reset to the first boundary. The boot comes last, because it runs a NOP. If all of it is shown, and its cycles follow from
-/// the first store's, that is what it spends; else it is what is not shown, which promises nothing: a store that does the same
-/// may not be recognised.
+/// ERR to their ends, and comes from its reset to the first boundary. The boot comes last, because it runs a NOP. If all of it
+/// is shown, and its cycles follow from the first store's, that is what it spends; else it is what is not shown, which
+/// promises nothing: a store that does the same may not be recognised.
 pub fn judge(stores: &Stores<'_>, alloc: Global) -> Result<Verdict, AllocError>
     requires machine { stores.now.store.now.machine ≡ Mic1 }
     requires other { stores.now.other.now.machine ≡ Mic1 }

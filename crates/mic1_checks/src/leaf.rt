@@ -50,7 +50,7 @@ fn at_boundary(
     alloc: Global,
 ) -> Result<Tried, AllocError>
     ensures alike { (c : Counts) → result ≡ Ok (Tried.Alike c) → Holds nodes.now (λ e. Knows e start.now.known →
-        AreAtBoundary e stores.now.entry stores.now.other_entry start.now.row n b c p.now q.now) }
+        AreAtBoundary e stores.now.entry stores.now.other_entry start.now.row start.now.operands n b c p.now q.now) }
     ensures stopped { result ≡ Ok Tried.Stopped → ⊥ }
 {
     let Followed::Boundary(k) = b else {
@@ -59,7 +59,7 @@ fn at_boundary(
     if k >= 1024 {
         return Ok(Tried::Unlike(Difference::TooMuch));
     }
-    match unlike(p, q, stores, nodes, &start.known, alloc)? {
+    match unlike(p, q, start, stores, nodes, alloc)? {
         Some(difference) => Ok(Tried::Unlike(difference)),
         None => Ok(Tried::Alike(Counts {
             row: start.row,

@@ -13,6 +13,7 @@ mod instruction;
 mod judged;
 mod laws;
 mod leaf;
+mod left;
 mod registers;
 mod search;
 mod shape;

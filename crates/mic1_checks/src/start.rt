@@ -8,6 +8,7 @@ ghost use Rattle.mic1_cycles.specs.Paths.{IsPath};
 ghost use Rattle.mic1_passes.specs.Moments.{moment};
 ghost use Rattle.mic1_checks.specs.Start.{IsStart, start_moment};
 
+use crate::left::Operands;
 use mic_datapath::sign_extended;
 use mic1_cycles::{Answer, Byte, Known, Path, Symbols};
 use micro_terms::Nodes;
@@ -23,6 +24,8 @@ pub struct Start {
     /// Those of the second one's.
     pub second: Symbols,
     pub known: Known,
+    /// What is known of the operands where they come to.
+    pub operands: Operands,
 }
 
 /// The symbols at a boundary where this opcode is in MBR. CPP is that of every run, and nothing is under way.

@@ -16,6 +16,7 @@ use Rattle.mic1_cycles.specs.Known.{StandsAt}
 use Rattle.mic1_cycles.specs.declared.question.Answer.{Answer}
 use Rattle.mic1_cycles.specs.declared.symbols.Symbols.{Symbols}
 use Rattle.mic1_cycles.specs.Questions.{AreAnswered, truth}
+use Rattle.mic1_checks.specs.declared.left.Operands.TheVariants.{Unknown}
 use Rattle.mic1_checks.specs.Boot.{BOOT, IsReset}
 use Rattle.mic1_checks.specs.Carried.{CarriedBy, CarriesOver}
 use Rattle.mic1_checks.specs.Ready.{IsReadyOrArriving}
@@ -65,7 +66,7 @@ returns-clause-carries c done timing v o input first loads words boots =
     All-same (λ (a : Answer). truth e a.question (e.word a.number) ≡ a.is) _ _ (c.deref.ensures.value ∙ c.new-answers.ensures.items)
     (All-nil (λ (a : Answer). truth e a.question (e.word a.number) ≡ a.is)) in
     let signs = reset_signs e x is in
-    let over : CarriesOver e x x store other entry entry' BOOT leaves =
+    let over : CarriesOver e x x store other entry entry' BOOT Unknown leaves =
     c.in_ok-unlike.ensures.carries (λ j. Ok (c.finding_of.ensures.none shown j)) e t.fits known signs signs none in
     let moment : (k : ℕ) → start_moment e 0 k x ≡ with_clocked true (reset_moment mic1_meaning k v.main_locals o input) =
     λ k j. record { state = stand_reset e x k (first_sp law v o input loads) (slice_index o.words 0) is t.sp j; world = t.starts j; stalls = 0 } in
@@ -73,7 +74,8 @@ returns-clause-carries c done timing v o input first loads words boots =
     subst (λ (p : Moment Micro). Moves mic1_meaning store (IsAt mic1_meaning IsReady entry o) o.given p timing.boot first) (sym (moment entry))
     (moves_alike store (IsAt mic1_meaning IsReady entry o) o.given q false true timing.boot first boots.moves) in
     let carried : CarriedBy leaves BOOT other o.given o entry' timing.boot (with_clocked true q') first =
-    subst (λ (p : Moment Micro). CarriedBy leaves BOOT other o.given o entry' timing.boot p first) (moment entry') (over.moves o.given o 0 timing.boot first moves) in
+    subst (λ (p : Moment Micro). CarriedBy leaves BOOT other o.given o entry' timing.boot p first) (moment entry')
+    (over.moves o.given o 0 timing.boot first tt moves) in
     record {
       counts = carried.counts;
       is_leaf = carried.is_leaf;

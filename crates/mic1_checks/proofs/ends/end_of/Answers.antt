@@ -37,7 +37,7 @@ returns c cycles is before v o s q i b code formed =
     let suits : Suits n o s = record { opcode = code; second = λ k h. absurd (cc) } in
     let ordered : AreOrdered table = c.outcome.ensures.ordered cycles after in
     let registers : HasRegisters table = c.outcome.ensures.registers cycles after in
-    let t : Begun table n c.args.shape x entry q i =
+    let t : Begun table n c.args.shape x entry v s q i =
     begun c.environments_exist.ensures table ordered registers n c.args.shape x entry v o s q i b suits formed
     (λ e fits. c.in_ok-s.ensures.value e (c.in_ok-known.ensures.grows e (c.in_ok-end.ensures.grows e fits))) in
     let e = t.e in

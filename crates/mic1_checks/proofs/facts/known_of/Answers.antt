@@ -15,8 +15,8 @@ returns-clause-value c e fits i b =
         ranges = subst (λ (rs : List Range). IsIn e.word rs) (sym c.in_ok-ranges.ensures) (ranges law e n x i b fits.words);
         long = long_enough law e n x i b;
         size = size law e n x i b;
-        bytes = c.in_ok-bytes.ensures.value e fits (bytes law e n x i b);
-        words = c.in_ok-words.ensures e (operand_at_top e n x i b);
+        bytes = c.in_ok-bytes.ensures.value e (c.in_ok-words.ensures.grows e fits) (bytes law e n x i b);
+        words = c.in_ok-words.ensures.value e fits (operand_at_top law e n x i b);
       };
       words = b.words;
     }
