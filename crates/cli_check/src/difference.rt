@@ -84,6 +84,20 @@ fn put_write_difference(
     }
 }
 
+/// Appends that one word stands where another is wanted.
+fn put_words(
+    text: &mut Brief,
+    is: u32,
+    wanted: u32,
+    nodes: &Nodes,
+    alloc: Global,
+) -> Result<(), AllocError> {
+    text.put(" is ");
+    put_word(text, nodes, is, LONG, alloc)?;
+    text.put(", not ");
+    put_word(text, nodes, wanted, LONG, alloc)
+}
+
 fn put_given_difference(
     text: &mut Brief,
     place: usize,
@@ -94,12 +108,7 @@ fn put_given_difference(
 ) -> Result<(), AllocError> {
     put_place(text, "output ", place);
     match (is, wanted) {
-        (Some(is), Some(wanted)) => {
-            text.put(" is ");
-            put_word(text, nodes, is, LONG, alloc)?;
-            text.put(", not ");
-            put_word(text, nodes, wanted, LONG, alloc)
-        }
+        (Some(is), Some(wanted)) => put_words(text, is, wanted, nodes, alloc),
         (Some(is), None) => {
             text.put(" is one more: ");
             put_word(text, nodes, is, LONG, alloc)
@@ -110,6 +119,27 @@ fn put_given_difference(
         }
         (None, None) => Ok(()),
     }
+}
+
+fn put_counts(text: &mut Brief, is: u32, wanted: u32) {
+    text.put("input bytes taken are ");
+    text.put_decimal(is);
+    text.put(", not ");
+    text.put_decimal(wanted);
+}
+
+fn put_places(text: &mut Brief, is: Followed, wanted: Followed) {
+    text.put("comes to ");
+    text.put(place_name(is));
+    text.put(", not to ");
+    text.put(place_name(wanted));
+}
+
+fn put_addresses(text: &mut Brief, is: u16, wanted: u16) {
+    text.put("ends at 0x");
+    text.put_hex(u32::from(is));
+    text.put(", not at 0x");
+    text.put_hex(u32::from(wanted));
 }
 
 /// Appends in which way the second path ends otherwise than the first.
@@ -126,36 +156,24 @@ pub(crate) fn put_difference(
             wanted,
         } => {
             text.put(register_name(*register));
-            text.put(" is ");
-            put_word(text, nodes, *is, LONG, alloc)?;
-            text.put(", not ");
-            put_word(text, nodes, *wanted, LONG, alloc)
+            put_words(text, *is, *wanted, nodes, alloc)
         }
         Difference::Write { place, is, wanted } => {
             put_write_difference(text, *place, *is, *wanted, nodes, alloc)
         }
         Difference::Taken { is, wanted } => {
-            text.put("input bytes taken are ");
-            text.put_decimal(*is);
-            text.put(", not ");
-            text.put_decimal(*wanted);
+            put_counts(text, *is, *wanted);
             Ok(())
         }
         Difference::Given { place, is, wanted } => {
             put_given_difference(text, *place, *is, *wanted, nodes, alloc)
         }
         Difference::End { is, wanted } => {
-            text.put("comes to ");
-            text.put(place_name(*is));
-            text.put(", not to ");
-            text.put(place_name(*wanted));
+            put_places(text, *is, *wanted);
             Ok(())
         }
         Difference::Address { is, wanted } => {
-            text.put("ends at 0x");
-            text.put_hex(u32::from(*is));
-            text.put(", not at 0x");
-            text.put_hex(u32::from(*wanted));
+            put_addresses(text, *is, *wanted);
             Ok(())
         }
         Difference::EntryIsEnd => {
