@@ -14,14 +14,4 @@ pub mod Alike
 pub mod Ending
 pub mod Stores
 pub mod Stalls
-pub mod Groups
-pub mod Accesses
-pub mod Methods
-pub mod Writes
-pub mod Stack
-pub mod Leaves
-pub mod Places
-pub mod Calling
 pub mod Counted
-pub mod Words
-pub mod Images

@@ -4,7 +4,7 @@ use Rattle.std.proofs.lemmas.Bool.{cases_Bool}
 use Rattle.std.proofs.lemmas.Bool.Decides.{nat_tests}
 use Rattle.std.proofs.lemmas.Option.{same_Some}
 use Rattle.mic_clock.specs.Prelude.{Meaning, Outcome, Done, Refused}
-use Rattle.ijvm_simulation.specs.Prelude.{Moment, is_inside, last, onward}
+use Rattle.ijvm_simulation.specs.Passes.{Moment, is_inside, last, onward, onward-inside}
 
 module _ {State : Type 0} (m : Meaning State) where
   pub not_boundary : (s : State) → is_inside m s ≡ true → m.is_boundary s ≡ false
@@ -19,9 +19,6 @@ module _ {State : Type 0} (m : Meaning State) (program : List ℕ) where
     pub inside : is_inside m mid.state ≡ true
     pub rest : more mid ≡ Some q
 
-  pub onward-inside : (more : Moment State → Option (Moment State)) (p : Moment State) → is_inside m p.state ≡ true → onward m program more p.stalls (Done p.state p.world) ≡ more p
-  onward-inside more p h = simp (h, onward)
-
   outside : (more : Moment State → Option (Moment State)) (p q : Moment State) → is_inside m p.state ≡ false → onward m program more p.stalls (Done p.state p.world) ≡ Some q → ⊥
   outside more p q f h = let e : onward m program more p.stalls (Done p.state p.world) ≡ None = simp (f, onward) in cc
 
@@ -30,7 +27,7 @@ module _ {State : Type 0} (m : Meaning State) (program : List ℕ) where
   inner more stalls (Done s w) q h =
       let p : Moment State = record { state = s; world = w; stalls = stalls } in
       elim (cases_Bool (is_inside m s)) [
-        | inl t ↦ record { mid = p; is = refl; counted = refl; inside = t; rest = sym (onward-inside more p t) ∙ h }
+        | inl t ↦ record { mid = p; is = refl; counted = refl; inside = t; rest = sym (onward-inside m program more p t) ∙ h }
         | inr f ↦ absurd (outside more p q f h)
       ]
 

@@ -4,8 +4,8 @@ use Rattle.std.specs.Prelude.{nat_le, ◌==◌, ◌&&◌, is_some}
 use Rattle.std.proofs.lemmas.Bool.Decides.{nat_tests}
 use Rattle.mic_clock.specs.declared.end.End.{End}
 use Rattle.mic_clock.specs.Prelude.{Meaning, Outcome, Done, MicroRun, turn, turn_by, turns, bounded, bounded_by, end_before, after_end_or_step, after_step, last_cycles, number_of}
-use Rattle.ijvm_simulation.specs.Prelude.{Moment, is_inside, outcome_at, stalls_at, pass, last, onward}
-use Rattle.ijvm_simulation.proofs.Passes.{not_boundary, onward-inside, Inner, inner, Last, last_is}
+use Rattle.ijvm_simulation.specs.Passes.{Moment, is_inside, outcome_at, stalls_at, pass, last, pass_on}
+use Rattle.ijvm_simulation.proofs.Passes.{not_boundary, Inner, inner, Last, last_is}
 
 abbrev pub moment_of : {State : Type 0} → MicroRun State → Moment State
 moment_of r = record { state = r.state; world = r.world; stalls = r.counts.stalls }
@@ -142,4 +142,4 @@ module _ {State : Type 0} (m : Meaning State) (program : List ℕ) (bound : ℕ)
   shorter (suc n) (suc k) p q l h =
       let i : Inner m program (pass m program n) (stalls_at m program p) (outcome_at m program p) q = inner m program (pass m program n) _ _ q h in
       let s : Shorter k i.mid = shorter n k i.mid q (omega arith) i.rest in
-      record { to = s.to; passes = ap₂ (onward m program (pass m program k)) (sym i.counted) i.is ∙ (onward-inside m program (pass m program k) i.mid i.inside ∙ s.passes); inside = s.inside }
+      record { to = s.to; passes = pass_on m program k p (sym i.counted) i.is i.inside s.passes; inside = s.inside }

@@ -1,7 +1,5 @@
 pub mod Stands
-pub mod Groups
 pub mod Guesses
-pub mod Stack
 pub mod Passes
 pub mod Simulates
 pub mod Bytes
@@ -16,4 +14,12 @@ pub mod Starts
 pub mod Stalls
 pub mod Promises
 pub mod Words
+pub mod Accesses
+pub mod Methods
+pub mod Images
+pub mod Writes
+pub mod Stack
+pub mod Leaves
+pub mod Calling
+pub mod Places
 pub mod Prelude

@@ -1,5 +1,6 @@
 -- Passes: the microsteps of a machine from one boundary to the next.
-use Rattle.std.specs.Prelude.{ℕ, zero, suc, ◌+◌, Bool, true, false, Option, Some, None, List, not, ◌||◌, ◌==◌}
+use Rattle.std.proofs.Common.{◌≡◌, ℕ, zero, suc, ◌+◌, ◌∙◌, ap₂, Bool, true, false, Option, Some, None, List}
+use Rattle.std.specs.Prelude.{not, ◌||◌, ◌==◌}
 use Rattle.console_port.specs.Prelude.{World}
 use Rattle.mic_clock.specs.Prelude.{Meaning, Outcome, Done, Refused, number_of, word_at}
 
@@ -36,3 +37,12 @@ module _ {State : Type 0} (m : Meaning State) (program : List ℕ) where
   abbrev pub pass : ℕ → Moment State → Option (Moment State)
   pass zero p = last (stalls_at p) (outcome_at p)
   pass (suc n) p = onward (pass n) (stalls_at p) (outcome_at p)
+
+  pub onward-inside : (more : Moment State → Option (Moment State)) (p : Moment State) → is_inside m p.state ≡ true →
+      onward more p.stalls (Done p.state p.world) ≡ more p
+  onward-inside more p h = simp (h, onward)
+
+  -- a pass by its first step and the pass from there
+  pub pass_on : (n : ℕ) (p : Moment State) {q : Moment State} {r : Option (Moment State)} → stalls_at p ≡ q.stalls → outcome_at p ≡ Done q.state q.world →
+      is_inside m q.state ≡ true → pass n q ≡ r → pass (suc n) p ≡ r
+  pass_on n p {q} stalls done inside rest = ap₂ (onward (pass n)) stalls done ∙ (onward-inside (pass n) q inside ∙ rest)

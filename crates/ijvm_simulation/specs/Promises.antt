@@ -2,14 +2,10 @@
 use Rattle.std.specs.Prelude.{ℕ, List}
 use Rattle.console_port.specs.Prelude.{World}
 use Rattle.mic_clock.specs.Prelude.{Meaning}
-use Rattle.ijvm_image.specs.Prelude.{ImageView}
-use Rattle.ijvm_instr.specs.declared.instr.Instr.{Instr}
 use Rattle.ijvm_meaning.specs.Prelude.{Timing, start_of}
 use Rattle.verifier_facts.specs.Prelude.{VerifiedView}
-use Rattle.ijvm_simulation.specs.Groups.{ByGroups}
 use Rattle.ijvm_simulation.specs.Interpretation.{Interpretation}
-use Rattle.ijvm_simulation.specs.Law.{Law, Boots, Takes, OnDone, Grows, reset_moment}
-use Rattle.ijvm_simulation.specs.Stalls.{TakesWithStalls}
+use Rattle.ijvm_simulation.specs.Law.{Law, Boots, OnDone, Grows, reset_moment}
 use Rattle.ijvm_simulation.specs.Stands.{Origin, IsAt}
 use Rattle.ijvm_simulation.specs.Verified.{Loads}
 
@@ -38,14 +34,3 @@ module _ {S : Type 0} (m : Meaning S) (IsReady : ℕ → List ℕ → ℕ → S 
 -- a machine keeps these promises over its store: together they interpret IJVM
 abbrev pub Interprets : {M S : Type 0} → Interpretation M S → Type 0
 Interprets i = Promises i.meaning i.IsReady i.IsShipped i.entry i.timing
-
--- What is shown of each group of instructions holds of every instruction, without stalls and with them.
-
-abbrev pub TakesByGroups : {S : Type 0} → Meaning S → (ℕ → List ℕ → ℕ → S → World → Type 0) → Type 0
-TakesByGroups m IsReady =
-    (store : List ℕ) (entry : ℕ) (timing : Timing) (v : VerifiedView) (o : Origin) → ByGroups (Takes m store (IsAt m IsReady entry o) o.given timing v o)
-
-abbrev pub StallsByGroups : {S : Type 0} → Meaning S → (ℕ → List ℕ → ℕ → S → World → Type 0) → Type 0
-StallsByGroups m IsReady =
-    (store : List ℕ) (entry : ℕ) (timing : Timing) (stalls_of : ImageView → Instr → ℕ) (v : VerifiedView) (o : Origin) →
-    ByGroups (TakesWithStalls m store (IsAt m IsReady entry o) o.given timing stalls_of v o)

@@ -3,14 +3,11 @@
 ghost use Rattle.std.specs.Prelude.{ℕ};
 ghost use Rattle.ijvm_meaning.specs.Prelude.{TimedImage, Point, Passes};
 ghost use Rattle.ijvm_simulation.specs.Simulates.{IsCounted};
-ghost use Rattle.ijvm_simulation.specs.Promises.{TakesByGroups, StallsByGroups};
 ghost use Rattle.ijvm_simulation.specs.Starts.{EndsAsDefined};
-ghost use Rattle.ijvm_simulation.specs.Stack.{StackLaw};
 ghost use Rattle.ijvm_simulation.specs.Stalls.{StallsAddUp, CutShort};
 
 use crate::interpreter::Interpreter;
 use ijvm_meaning::runs_keep_words;
-use mic_clock::Clocked;
 use verifier_facts::accepted_images_keep_sound;
 
 /// The boundaries that are counted from the first one are those that the definition's run passes.
@@ -39,15 +36,3 @@ pub fn stalls_add_up<I: Interpreter>()
     runs_keep_words();
     I::law();
 }
-
-/// What a machine at a boundary knows of its memory and its stack, and that it stands for the state after an
-/// instruction once its registers and its memory have become what the instruction makes of them.
-pub fn stack_law()
-    ensures { StackLaw }
-{}
-
-/// What is shown of each group of instructions holds of every instruction.
-pub fn groups_are_all<C: Clocked>()
-    ensures takes { TakesByGroups C.meaning C.IsReady }
-    ensures stalls { StallsByGroups C.meaning C.IsReady }
-{}

@@ -9,9 +9,6 @@ pub mod run;
 
 pub use agreement::interpreters_agree;
 pub use interpreter::Interpreter;
-pub use laws::{
-    counted_boundaries_are_passed, groups_are_all, shipped_runs_end_as_defined, stack_law,
-    stalls_add_up,
-};
+pub use laws::{counted_boundaries_are_passed, shipped_runs_end_as_defined, stalls_add_up};
 pub use readiness::Readiness;
 pub use run::{run_image, run_with, shipped_board};

@@ -1,11 +1,13 @@
 -- What is known at a boundary of an accepted image's run.
-use Rattle.std.proofs.Common.{◌≡◌, ℕ, zero, suc, ◌+◌, ◌/◌, ◌%◌, ◌-◌, ◌^◌, ◌<◌, ◌≤◌, length, arith, sym, ap, ◌∙◌, List, [], subst}
-use Rattle.std.specs.Prelude.{slice_index}
+use Rattle.std.proofs.Common.{◌≡◌, ℕ, zero, suc, ◌+◌, ◌^◌, ◌<◌, ◌≤◌, length, arith, sym, ap, ◌∙◌, List, [], subst}
 use Rattle.mic_words.specs.Arithmetic.{wrap, plus}
 use Rattle.console_port.specs.World.{byte_in, console_at}
 use Rattle.ijvm_instr.specs.declared.instr.Instr.{Instr}
 use Rattle.ijvm_meaning.specs.Frames.{base, frames_of}
-use Rattle.ijvm_simulation.specs.Stack.{IsMapEnd, StackLaw}
+use Rattle.ijvm_simulation.specs.Accesses.{IsMapEnd}
+use Rattle.ijvm_simulation.specs.Images as images
+use Rattle.ijvm_simulation.specs.Stack.{above}
+use Rattle.ijvm_simulation.specs.Words.{byte_kept}
 use Rattle.micro_terms.specs.Environment.{Environment}
 use Rattle.micro_terms.specs.declared.range.Range.{Range}
 use Rattle.micro_terms.specs.Ranges.{IsIn, end_of}
@@ -34,19 +36,12 @@ plus_is : (x y k : ℕ) → x ≡ y → y + k < 2 ^ 32 → plus x k ≡ y + k
 unfolding wrap
 plus_is x y k e l = omega (arith, e, l)
 
-byte_kept : (words origin : List ℕ) {x p : ℕ} → ((a : ℕ) → a < 0x8000 → slice_index words a ≡ slice_index origin a) → x ≡ p → p < 0x20000 →
-    byte_in words x ≡ byte_in origin p
-unfolding byte_in
-byte_kept words origin {x} {p} h e l =
-    ap (λ (k : ℕ). slice_index words (k / 4) / 256 ^ (3 - k % 4) % 256) e
-    ∙ ap (λ (v : ℕ). v / 256 ^ (3 - p % 4) % 256) (h (p / 4) (omega arith))
-
-module _ (law : StackLaw) (e : Environment) (n : Instruction) (x : Symbols) (i : Instr) (b : StartsBefore e n x i) where
+module _ (e : Environment) (n : Instruction) (x : Symbols) (i : Instr) (b : StartsBefore e n x i) where
   map : IsMapEnd (length b.o.words)
-  map = law.map b.v b.o b.loads
+  map = images.map b.v b.o b.loads
 
   low : b.s.at < 0x10000
-  low = law.inside b.v b.o b.s i b.loads b.next
+  low = images.inside b.v b.o b.s i b.loads b.next
 
   long : length e.start.words ≡ length b.o.words
   long = b.holds.memory.long
@@ -63,8 +58,8 @@ module _ (law : StackLaw) (e : Environment) (n : Instruction) (x : Symbols) (i :
       let sp : e.word 3 + 1 ≡ base (frames_of b.s) = ap (λ (k : ℕ). e.word k + 1) (sym b.start.sp) ∙ b.holds.sp_is in
       let lv : e.word 4 ≡ base b.s.callers = ap e.word (sym b.start.lv) ∙ b.holds.lv_is in
       let high = b.holds.fits in
-      let top = law.above (frames_of b.s) in
-      let bottom = law.above b.s.callers in
+      let top = above (frames_of b.s) in
+      let bottom = above b.s.callers in
       let below : base b.s.callers ≤ base (frames_of b.s) = omega arith in
       in_ranges e.word small (omega (arith, pc, low)) (omega (arith, sp, top)) (omega (arith, sp, high, map.near))
       (omega (arith, lv, bottom)) (omega (arith, lv, below, sp, high, map.near))

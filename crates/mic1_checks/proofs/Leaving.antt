@@ -10,7 +10,8 @@ use Rattle.ijvm_image.specs.Image.{ImageView}
 use Rattle.ijvm_meaning.specs.Frames.{State, base, frames_of}
 use Rattle.ijvm_simulation.specs.Bytes.{Reads}
 use Rattle.ijvm_simulation.specs.Outcomes.{Stores, Went}
-use Rattle.ijvm_simulation.specs.Stack.{StackLaw}
+use Rattle.ijvm_simulation.specs.Images as images
+use Rattle.ijvm_simulation.specs.Words.{byte_bound}
 use Rattle.micro_terms.specs.Environment.{Environment}
 use Rattle.mic1_cycles.specs.declared.symbols.Symbols.{Symbols}
 use Rattle.mic1_checks.specs.declared.instruction.Instruction.{Instruction}
@@ -64,7 +65,7 @@ is_istore : (second : Option ℕ) → is_wide_istore second ≡ true → second 
 is_istore None h = absurd (cc)
 is_istore (Some k) h = ap Some ((Decides-eqb k 0x36).0 h)
 
-module _ (law : StackLaw) (e : Environment) (n : Instruction) (x : Symbols) (i : Instr) (to : State) (b : StartsBefore e n x i)
+module _ (e : Environment) (n : Instruction) (x : Symbols) (i : Instr) (to : State) (b : StartsBefore e n x i)
     (went : Went b.v.image b.v.map.stack_end b.s to i) where
   left : Leaves (byte_in b.o.words b.s.at) (byte_in b.o.words (b.s.at + 1)) (byte_in b.o.words (b.s.at + 2)) (byte_in b.o.words (b.s.at + 3)) b.s to
   left = leaves b.v.image b.v.map.stack_end _ _ _ _ _ _ b.s to i b.next.reads went
@@ -74,13 +75,13 @@ module _ (law : StackLaw) (e : Environment) (n : Instruction) (x : Symbols) (i :
   above at k is small below some =
       let lv : e.word x.lv ≡ base b.s.callers = b.holds.lv_is in
       let fits : base b.s.callers ≤ length b.o.words = omega (arith, b.holds.fits) in
-      omega (arith, is, lv, fits, small, (law.map b.v b.o b.loads).near, below some)
+      omega (arith, is, lv, fits, small, (images.map b.v b.o b.loads).near, below some)
 
   pub after_istore : n.opcode ≡ 0x36 → (at : ℕ) → e.word at ≡ plus (e.word x.lv) (byte_in e.start.words (plus (e.word x.pc) 1)) → AreLeft e (Above at) to
   after_istore code at is =
       let index : ℕ = byte_in b.o.words (b.s.at + 1) in
-      let bound : index < 256 = law.words.byte_bound b.o.words (b.s.at + 1) in
-      above at index (is ∙ ap (λ (k : ℕ). plus (e.word x.lv) k) (byte_there law e n x i b 1 (omega arith))) (omega (arith, bound))
+      let bound : index < 256 = byte_bound b.o.words (b.s.at + 1) in
+      above at index (is ∙ ap (λ (k : ℕ). plus (e.word x.lv) k) (byte_there e n x i b 1 (omega arith))) (omega (arith, bound))
       (left.plain (b.suits.opcode ∙ code))
 
   wide_index : wide_index_in e.start.words (e.word x.pc) ≡ 256 * byte_in b.o.words (b.s.at + 2) + byte_in b.o.words (b.s.at + 3)
@@ -88,17 +89,17 @@ module _ (law : StackLaw) (e : Environment) (n : Instruction) (x : Symbols) (i :
   wide_index =
       omega (
         arith,
-        byte_there law e n x i b 2 (omega arith),
-        byte_there law e n x i b 3 (omega arith),
-        law.words.byte_bound b.o.words (b.s.at + 2),
-        law.words.byte_bound b.o.words (b.s.at + 3),
+        byte_there e n x i b 2 (omega arith),
+        byte_there e n x i b 3 (omega arith),
+        byte_bound b.o.words (b.s.at + 2),
+        byte_bound b.o.words (b.s.at + 3),
       )
 
   pub after_wide_istore : n.opcode ≡ 0xC4 → is_wide_istore n.second ≡ true → (at : ℕ) →
       e.word at ≡ plus (e.word x.lv) (wide_index_in e.start.words (e.word x.pc)) → AreLeft e (Above at) to
   after_wide_istore code wide at is =
-      let high : byte_in b.o.words (b.s.at + 2) < 256 = law.words.byte_bound b.o.words (b.s.at + 2) in
-      let low : byte_in b.o.words (b.s.at + 3) < 256 = law.words.byte_bound b.o.words (b.s.at + 3) in
+      let high : byte_in b.o.words (b.s.at + 2) < 256 = byte_bound b.o.words (b.s.at + 2) in
+      let low : byte_in b.o.words (b.s.at + 3) < 256 = byte_bound b.o.words (b.s.at + 3) in
       above at (256 * byte_in b.o.words (b.s.at + 2) + byte_in b.o.words (b.s.at + 3)) (is ∙ ap (λ (k : ℕ). plus (e.word x.lv) k) wide_index)
       (omega (arith, high, low)) (left.wide (b.suits.opcode ∙ code) (b.suits.second 0x36 (is_istore n.second wide)))
 

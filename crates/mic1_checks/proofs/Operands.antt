@@ -10,7 +10,8 @@ use Rattle.ijvm_image.specs.Image.{ImageView}
 use Rattle.ijvm_meaning.specs.Frames.{base, operands_at}
 use Rattle.verifier_facts.specs.Paths.{need_of}
 use Rattle.ijvm_simulation.specs.Bytes.{Reads}
-use Rattle.ijvm_simulation.specs.Stack.{StackLaw}
+use Rattle.ijvm_simulation.specs.Images as images
+use Rattle.ijvm_simulation.specs.Stack.{above}
 use Rattle.ijvm_simulation.specs.Stands.{IsTop, OperandsAt}
 use Rattle.micro_terms.specs.Environment.{Environment}
 use Rattle.mic1_cycles.specs.declared.symbols.Symbols.{Symbols}
@@ -73,10 +74,10 @@ on_top words at sp tos (y ∷ ys) o t e some =
     let here : sp ≡ at + length ys = omega (arith, e) in
     ap (λ (k : ℕ). slice_index words k) here ∙ (o.0 ∙ sym t)
 
-pub operand_at_top : StackLaw → (e : Environment) (n : Instruction) (x : Symbols) (i : Instr) → StartsBefore e n x i →
+pub operand_at_top : (e : Environment) (n : Instruction) (x : Symbols) (i : Instr) → StartsBefore e n x i →
     takes_operand n.opcode n.second ≡ true → HasOperand e x
 unfolding wrap
-operand_at_top law e n x i b takes =
+operand_at_top e n x i b takes =
     let finds = b.next.finds in
     let ys : List ℕ = b.s.running.operands in
     let first : ℕ = operands_at (base b.s.callers) b.s.running in
@@ -87,12 +88,12 @@ operand_at_top law e n x i b takes =
     let sp : e.word x.sp + 1 ≡ first + length ys = b.holds.sp_is in
     let fits : first + length ys ≤ length b.o.words = b.holds.fits in
     let long : length e.start.words ≡ length b.o.words = b.holds.memory.long in
-    let near = (law.map b.v b.o b.loads).near in
-    let above : 0x8000 ≤ base b.s.callers = law.above b.s.callers in
+    let near = (images.map b.v b.o b.loads).near in
+    let bottom : 0x8000 ≤ base b.s.callers = above b.s.callers in
     record {
       top = record {
         inside = omega (arith, sp, fits, long);
         is = on_top e.start.words first (e.word x.sp) (e.word x.tos) ys b.holds.frames.0.operands b.holds.tos_is sp (omega (arith, some, deep));
       };
-      below = omega (arith, sp, fits, long, near, above, some, deep);
+      below = omega (arith, sp, fits, long, near, bottom, some, deep);
     }

@@ -9,7 +9,7 @@ use Rattle.verifier_facts.specs.Accepted.{VerifiedView}
 use Rattle.mic1_datapath.specs.Micro.{Micro}
 use Rattle.mic1_datapath.specs.Mic1.{mic1_meaning, driven, initial, step_of_word}
 use Rattle.ijvm_simulation.specs.Stands.{Origin}
-use Rattle.ijvm_simulation.specs.Stack.{StackLaw}
+use Rattle.ijvm_simulation.specs.Images.{map, first}
 use Rattle.ijvm_simulation.specs.Verified.{Loads}
 use Rattle.ijvm_simulation.specs.Passes.{Moment, pass}
 use Rattle.ijvm_simulation.specs.Law.{Moves, reset_moment}
@@ -44,15 +44,15 @@ moves_alike words IsAt before q b b' spent to h =
       stands = h.stands;
     }
 
-module _ (law : StackLaw) (v : VerifiedView) (o : Origin) (input : List ℕ) (loads : Loads v o) where
+module _ (v : VerifiedView) (o : Origin) (input : List ℕ) (loads : Loads v o) where
   -- the SP of a reset
   abbrev pub first_sp : ℕ
   first_sp = 0x8000 + v.main_locals - 1
 
   pub first_sp_is_word : first_sp < 4294967296
   first_sp_is_word =
-      let stands = law.first v o input first_sp 0 loads (omega arith) in
-      omega (arith, stands.sp_is, stands.fits, (law.map v o loads).near)
+      let stands = first v o input first_sp 0 loads (omega arith) in
+      omega (arith, stands.sp_is, stands.fits, (map v o loads).near)
 
   pub reset_has_words : ((k : ℕ) → slice_index o.words k < 4294967296) → (entry : ℕ) →
       HasWords (reset_moment mic1_meaning entry v.main_locals o input).state (reset_moment mic1_meaning entry v.main_locals o input).world

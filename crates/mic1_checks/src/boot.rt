@@ -13,7 +13,6 @@ use crate::shape::SETTLED;
 use crate::start::Start;
 use crate::stores::Stores;
 use crate::tree::explore;
-use ijvm_simulation::stack_law;
 use mic1_cycles::{Byte, Known, Symbols};
 use micro_terms::{Nodes, environments_exist};
 use std::alloc::{AllocError, Global};
@@ -78,7 +77,6 @@ pub fn boot_alike(
     ensures kept { (c : Counts) → Contains leaves.old.items c → Contains leaves.new.items c }
 {
     environments_exist();
-    stack_law();
     let mut work = work_of(*left, alloc)?;
     let s = reset(&mut work.nodes, alloc)?;
     let known = nothing_known(alloc);

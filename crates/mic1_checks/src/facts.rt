@@ -11,7 +11,6 @@ ghost use Rattle.mic1_checks.specs.Situation.{HasBytes, HasOperand, IsKnown, Sta
 
 use crate::instruction::{ISTORE, Instruction, WIDE};
 use crate::registers::ranges_of_registers;
-use ijvm_simulation::stack_law;
 use mic1_cycles::{Known, KnownByte, KnownWord, Symbols};
 use micro_terms::{Kind, Nodes};
 use std::alloc::{AllocError, Global};
@@ -117,7 +116,6 @@ pub fn known_of(
     ensures value { IfOk result (λ known. Holds nodes.new (λ e. (i : Instr) → StartsBefore e n s.now i → IsKnown e known)) }
     ensures grows { Grows nodes.old nodes.new }
 {
-    stack_law();
     let bytes = bytes_of(n, s, nodes, alloc)?;
     let words = words_of(n, s, nodes, alloc)?;
     let ranges = ranges_of_registers(alloc)?;

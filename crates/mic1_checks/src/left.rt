@@ -13,7 +13,6 @@ ghost use Rattle.mic1_checks.specs.Situation.{StartsBefore};
 
 use crate::facts::{is_wide_store, offset_by};
 use crate::instruction::{INVOKEVIRTUAL, ISTORE, Instruction, WIDE};
-use ijvm_simulation::stack_law;
 use mic1_cycles::{Path, Symbols};
 use micro_terms::{Kind, Node, Nodes, Term};
 use std::alloc::{AllocError, Global};
@@ -79,7 +78,6 @@ pub fn operands_after(
         Went b.v.image b.v.map.stack_end b.s to i → AreLeft e operands to)) }
     ensures grows { Grows nodes.old nodes.new }
 {
-    stack_law();
     if n.opcode == ISTORE {
         let index = byte_after(s, 1, nodes, alloc)?;
         let local = local_at(&index, s, nodes, alloc)?;

@@ -11,7 +11,7 @@ use Rattle.mic1_datapath.specs.Prelude.{Micro, clock, world_after, ports_of, set
 use Rattle.mic_datapath.specs.declared.ports.Ports.{Ports}
 use Rattle.mic_datapath.specs.Prelude.{written, sampled, memory_refusal, byte_refusal, outcome}
 use Rattle.mic1_interpreter.proofs.Store.{shipped, HasStatements}
-use Rattle.ijvm_simulation.specs.Prelude.{Moment, is_inside, outcome_at, stalls_at, last, onward, pass, address_behind, left_of}
+use Rattle.ijvm_simulation.specs.Prelude.{Moment, is_inside, outcome_at, stalls_at, last, pass, pass_on, address_behind, left_of}
 
 -- `top` is the end of the memory.
 module _ (top : ℕ) where
@@ -65,9 +65,9 @@ module _ (top : ℕ) where
       let given = ports_of (settled s.part p.state) in
       sampled-long s.part.mem given (written top s.part.mem given p.world) ∙ written-long s.part.mem given p.world
 
-onward-inside : (program : List ℕ) (more : Moment Micro → Option (Moment Micro)) (p : Moment Micro) → is_inside mic1_meaning p.state ≡ true →
-    onward mic1_meaning program more p.stalls (Done p.state p.world) ≡ more p
-onward-inside program more p h = simp (h, onward)
+  pub clocked-long : (gs : List ℕ) (n : ℕ) (p : Moment Micro) → length (clocked gs n p).world.words ≡ length p.world.words
+  clocked-long gs zero p = guided-long (shipped p.state.mpc) gs p
+  clocked-long gs (suc n) p = let s = shipped p.state.mpc in clocked-long (left_of s.next gs) n (guided s gs p) ∙ guided-long s gs p
 
 -- `program` has the words of a control store that holds the shipped microprogram.
 module _ (program : List ℕ) (has : HasStatements program) (top : ℕ) where
@@ -93,6 +93,5 @@ module _ (program : List ℕ) (has : HasStatements program) (top : ℕ) where
   pass-clocked gs (suc n) p long h =
       let s : Placed = shipped p.state.mpc in
       let q : Moment Micro = guided top s gs p in
-      ap₂ (onward mic1_meaning program (pass mic1_meaning program n)) (stalls_are p) (outcome-clear gs p long h.0)
-      ∙ (onward-inside program (pass mic1_meaning program n) q h.1
-      ∙ pass-clocked (left_of s.next gs) n q (guided-long top s gs p ∙ long) h.2)
+      pass_on mic1_meaning program n p {q = q} (stalls_are p) (outcome-clear gs p long h.0) h.1
+      (pass-clocked (left_of s.next gs) n q (guided-long top s gs p ∙ long) h.2)

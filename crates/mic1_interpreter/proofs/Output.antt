@@ -1,6 +1,5 @@
 -- The bytes that a microstep of Mic-1 gives come after those given before.
-use Rattle.std.proofs.Common.{ℕ, Some, None, Option, List, [], length, sym}
-use Rattle.std.proofs.lemmas.List.{append-nil}
+use Rattle.std.proofs.Common.{ℕ, Some, None, Option, length}
 use Rattle.micro_word.specs.declared.statement.Mem.{Mem}
 use Rattle.micro_word.specs.declared.statement.Mem.TheVariants.{Write}
 use Rattle.mic1_datapath.specs.Prelude.{Micro, ports_of, settled, clock, world_after, refusal, step_of_word}
@@ -9,20 +8,17 @@ use Rattle.mic_datapath.specs.Prelude.{written, sampled, outcome}
 use Rattle.console_port.specs.Prelude.{World, Refusal}
 use Rattle.mic_words.specs.declared.machine.Machine.TheVariants as machines
 use Rattle.micro_word.specs.Prelude.{statement_of}
-use Rattle.ijvm_simulation.specs.Prelude.{Grows, OnDone, WordLaw}
+use Rattle.ijvm_simulation.specs.Prelude.{Grows, OnDone}
+use Rattle.ijvm_simulation.specs.Words.{grows_not, given_grows}
 
-stays : (xs : List ℕ) → Grows xs xs
-stays xs = record { more = []; are = sym (append-nil xs) }
+access_grows : (top : ℕ) (mem : Mem) (p : Ports) (w : World) → Grows w.given (sampled top mem p (written top mem p w)).given
+access_grows top Write p w = given_grows top w.given p.mar p.mdr
+access_grows top _ p w = grows_not w.given
 
-module _ (words : WordLaw) where
-  access_grows : (top : ℕ) (mem : Mem) (p : Ports) (w : World) → Grows w.given (sampled top mem p (written top mem p w)).given
-  access_grows top Write p w = words.given_grows top w.given p.mar p.mdr
-  access_grows top _ p w = stays w.given
-
-  pub step_grows : (word : ℕ) (m : Micro) (w : World) → OnDone (λ (v : World). Grows w.given v.given) (step_of_word word m w)
-  unfolding step_of_word
-  step_grows word m w = by_refusal (refusal (length w.words) (statement_of machines.Mic1 word) m)
-    where
-      by_refusal : (r : Option Refusal) → OnDone (λ (v : World). Grows w.given v.given) (outcome r (clock (length w.words) (statement_of machines.Mic1 word) m w) (world_after (length w.words) (statement_of machines.Mic1 word) m w))
-      by_refusal (Some why) = tt
-      by_refusal None = access_grows (length w.words) (statement_of machines.Mic1 word).part.mem (ports_of (settled (statement_of machines.Mic1 word).part m)) w
+pub step_grows : (word : ℕ) (m : Micro) (w : World) → OnDone (λ (v : World). Grows w.given v.given) (step_of_word word m w)
+unfolding step_of_word
+step_grows word m w = by_refusal (refusal (length w.words) (statement_of machines.Mic1 word) m)
+  where
+    by_refusal : (r : Option Refusal) → OnDone (λ (v : World). Grows w.given v.given) (outcome r (clock (length w.words) (statement_of machines.Mic1 word) m w) (world_after (length w.words) (statement_of machines.Mic1 word) m w))
+    by_refusal (Some why) = tt
+    by_refusal None = access_grows (length w.words) (statement_of machines.Mic1 word).part.mem (ports_of (settled (statement_of machines.Mic1 word).part m)) w

@@ -1,39 +1,12 @@
--- The bytes of a memory, and the numbers that two of them make.
-use Rattle.std.proofs.Common.{◌≡◌, ℕ, ◌+◌, ◌-◌, ◌/◌, ◌%◌, ◌^◌, ◌<◌, ◌≤◌, ◌*◌, None, true, false, List, arith, ◌∙◌, ap, ap₂, inl, inr}
-use Rattle.std.specs.Prelude.{slice_index, nat_lt, bit_or}
+-- The numbers that two bytes make.
+use Rattle.std.proofs.Common.{◌≡◌, ℕ, ◌+◌, ◌%◌, ◌^◌, ◌<◌, ◌≤◌, ◌*◌, true, false, List, arith, ◌∙◌, ap, ap₂, inl, inr}
+use Rattle.std.specs.Prelude.{nat_lt, bit_or}
 use Rattle.std.proofs.lemmas.Bool.Decides.{nat_tests}
 use Rattle.std.proofs.lemmas.Bool.{cases_lt}
 use Rattle.std.proofs.lemmas.Nat.{or_shifted}
-use Rattle.mic_words.specs.Prelude.{wrap, next, signed_byte, signed_pair}
-use Rattle.console_port.specs.Prelude.{fetch_refusal, byte_in}
-use Rattle.ijvm_simulation.specs.Prelude.{IsMapEnd}
-
-wrap_small : (x : ℕ) → x < 2 ^ 32 → wrap x ≡ x
-unfolding wrap
-wrap_small x h = omega arith
-
-pub next_is : (x y : ℕ) → x + 1 ≡ y → y < 2 ^ 32 → next x ≡ y
-unfolding wrap
-next_is x y e h = omega arith
-
-byte_bound : (words : List ℕ) (p : ℕ) → byte_in words p < 256
-unfolding byte_in
-byte_bound words p = omega arith
-
-pub fetch_ok : (top : ℕ) {x p : ℕ} → IsMapEnd top → x ≡ p → p < 0x20000 → fetch_refusal top x ≡ None
-unfolding fetch_refusal
-fetch_ok top {x} {p} map e l =
-    let low : 0x8000 ≤ top = map.low in
-    let t : nat_lt (x / 4) top ≡ true = grind (arith, nat_tests) in
-    rw t
-
--- a byte below the stack is what it was
-pub byte_kept : (words origin : List ℕ) {x p : ℕ} → ((a : ℕ) → a < 0x8000 → slice_index words a ≡ slice_index origin a) → x ≡ p → p < 0x20000 →
-    byte_in words x ≡ byte_in origin p
-unfolding byte_in
-byte_kept words origin {x} {p} h e l =
-    ap (λ (k : ℕ). slice_index words (k / 4) / 256 ^ (3 - k % 4) % 256) e
-    ∙ ap (λ (v : ℕ). v / 256 ^ (3 - p % 4) % 256) (h (p / 4) (omega arith))
+use Rattle.mic_words.specs.Prelude.{wrap, signed_byte, signed_pair}
+use Rattle.console_port.specs.Prelude.{byte_in}
+use Rattle.ijvm_simulation.specs.Words.{wrap_small, byte_bound}
 
 -- two bytes as a number
 pub two_bytes : (a b : ℕ) → a < 256 → b < 256 → bit_or (wrap (256 * a)) b ≡ 256 * a + b

@@ -5,7 +5,7 @@ ghost use Rattle.console_port.specs.Prelude.{SinkGoesOn};
 ghost use Rattle.ijvm_simulation.specs.Prelude.{RunsAsDefined, IsCutWhereReadFails, IsCutWhereWriteFails, EndsByCause};
 ghost use Rattle.mic1_interpreter.specs.Interpretation.{mic1};
 
-use ijvm_simulation::{Interpreter, groups_are_all, run_image, stack_law};
+use ijvm_simulation::{Interpreter, run_image};
 use ijvm_verifier::VerifiedImage;
 use mal_shipped::shipped_store;
 use mic_base::{Sink, Source};
@@ -45,10 +45,7 @@ impl Interpreter for Mic1Interpreter {
         shipped_store(alloc, Machine::Mic1)
     }
 
-    fn law() {
-        stack_law();
-        groups_are_all::<Mic1>();
-    }
+    fn law() {}
 }
 
 /// Runs a verified image on a Mic-1, from its reset to its end. Memory can run out only before the first cycle.

@@ -1,23 +1,19 @@
 -- Calls and returns.
-use Rattle.std.proofs.Common.{◌≡◌, ℕ, ◌+◌, ◌*◌, Bool, true, false, ◌==◌, ◌%◌, List, [], ◌∷◌, length, refl, arith, sym, ◌∙◌, ap, inl, inr, add-zero}
+use Rattle.std.proofs.Common.{◌≡◌, ℕ, ◌+◌, ◌*◌, Bool, true, false, ◌==◌, ◌%◌, List, [], ◌∷◌, length, refl, arith, sym, ◌∙◌, ap, inl, inr}
 use Rattle.std.specs.Prelude.{slice_index, if◌then◌else◌}
 use Rattle.std.proofs.lemmas.Bool.{cases_Bool}
 use Rattle.mic_words.specs.Prelude.{plus, next}
 use Rattle.console_port.specs.Prelude.{read_value, byte_in}
 use Rattle.ijvm_instr.specs.declared.instr.Instr.TheVariants.{Ireturn, Invokevirtual}
-use Rattle.ijvm_simulation.specs.Prelude.{Loads, IsNext, Origin, Moment, Went, Overran, IsCall}
-use Rattle.ijvm_simulation.proofs.Places.{place_at, place_on, pair_after, entry_at}
-use Rattle.ijvm_simulation.proofs.Calling.{returned, named, called, cut_off}
-use Rattle.mic2_fetch_unit.specs.Prelude.{Waits, WaitsLate, WaitsOn}
-use Rattle.ijvm_instr.specs.declared.instr.Instr.{Instr}
-use Rattle.ijvm_meaning.specs.Prelude.{State, timing_of, cost}
+use Rattle.ijvm_meaning.specs.Prelude.{State}
 use Rattle.verifier_facts.specs.Prelude.{VerifiedView}
+use Rattle.mic2_fetch_unit.specs.Prelude.{Waits, WaitsLate, WaitsOn}
 use Rattle.mic2_datapath.specs.Prelude.{Micro}
-use Rattle.mic_words.specs.declared.machine.Machine.TheVariants.{Mic2}
-use Rattle.mic2_interpreter.specs.Prelude.{MovesWithStalls, OverrunsWithStalls, TakesWithStalls, stalls_of}
-use Rattle.mic2_interpreter.proofs.Store.{Known}
+use Rattle.ijvm_simulation.specs.Prelude.{Origin, Moment}
+use Rattle.ijvm_simulation.specs.Places.{place_at, place_on, pair_after, entry_at}
+use Rattle.ijvm_simulation.specs.Calling.{returned, named, called, cut_off}
 use Rattle.mic2_interpreter.proofs.Guided.{Turn, Goes, Lacks}
-use Rattle.mic2_interpreter.proofs.Boundaries.{At, at, arrives, overruns, steps, at_boundary}
+use Rattle.mic2_interpreter.proofs.Boundaries.{At, GoesOn, IsCut, arrives, overruns, steps}
 
 -- The steps of a call up to the word that stalls, and its stalls: one, or two where the entry is the last byte of a word.
 abbrev plan : Bool → List Turn → List Turn
@@ -45,69 +41,44 @@ module _ {program : List ℕ} {o : Origin} {v : VerifiedView} {s : State} {q : M
   abbrev link : ℕ
   link = next (m.sp + (256 * byte_in o.words (plus entry 2) + byte_in o.words (plus entry 2 + 1)))
 
-  goes : (to : State) (i : Instr) → IsCall i → IsNext v o s i → Went v.image v.map.stack_end s to i →
-      MovesWithStalls program o q (cost v.image (timing_of Mic2) i s) (stalls_of v.image i) to
-  goes to Ireturn is n went =
+  pub return : GoesOn a Ireturn
+  return to fine n went =
       let l = returned a.loads a.holds n went in
       let there = place_at o.words _ went.back l.back (omega (arith, l.inside)) in
-      let behind = place_on o.words _ went.back 1 (went.back + 1) there refl (omega (arith, l.inside)) in
-      arrives a Ireturn 0xAC 0 Goes (steps 7) (byte_in o.words went.back ∷ []) n.reads refl refl refl (omega arith) went.with_top.leads (assumption)
-      (at_boundary o _ _ _ l.leaves behind.is (omega (arith, l.inside)) refl refl refl refl refl) (sym (add-zero q.stalls))
-  goes to (Invokevirtual k) is n went =
+      let behind = place_on 1 (went.back + 1) there refl (omega (arith, l.inside)) in
+      arrives a Ireturn 0xAC Goes (steps 7) (byte_in o.words went.back ∷ []) n.reads went.with_top.leads (assumption)
+
+  pub invoke : (k : ℕ) → GoesOn a (Invokevirtual k)
+  invoke k to fine n went =
       let f = named a.loads a.holds k went.found (pair_after m.cpp a.counts n.reads.1) in
       let e = entry_at went.method f.entry f.whole f.params f.others in
       let l = called a.loads a.holds {link = link} went f e.params e.others refl a.counts.p2.is in
+      let stands = l.leaves m.tos in
       let late = ap (λ (j : ℕ). j % 4 == 3) (f.entry ∙ sym f.pool) in
+      let spent : Bool → ℕ = λ b. if b then 13 else 12 in
+      let gs : List ℕ = byte_in o.words (went.method.entry + 4) ∷ [] in
       elim (cases_Bool (slice_index v.image.pool k % 4 == 3)) [
-        | inl t ↦
-            arrives a (Invokevirtual k) 0xB6 (stalls_of v.image (Invokevirtual k)) Goes (plan true (steps 8))
-            (byte_in o.words (went.method.entry + 4) ∷ [])
-            n.reads.0 refl refl (ap (λ (b : Bool). if b then 13 else 12) t) (omega arith) went.leads.goes (assumption (late ∙ t))
-            (at_boundary o _ _ _ (l.leaves _) (omega (arith, e.e5.is)) (omega (arith, f.whole)) refl refl refl refl refl) (stalls_twice q.stalls t)
-        | inr t ↦
-            arrives a (Invokevirtual k) 0xB6 (stalls_of v.image (Invokevirtual k)) Goes (plan false (steps 8))
-            (byte_in o.words (went.method.entry + 4) ∷ [])
-            n.reads.0 refl refl (ap (λ (b : Bool). if b then 13 else 12) t) (omega arith) went.leads.goes (assumption (late ∙ t))
-            (at_boundary o _ _ _ (l.leaves _) (omega (arith, e.e5.is)) (omega (arith, f.whole)) refl refl refl refl refl) (stalls_once q.stalls t)
+        | inl t ↦ arrives a (Invokevirtual k) 0xB6 Goes (plan true (steps 8)) gs n.reads.0 went.leads.goes
+            (assumption (late ∙ t, ap spent t, stalls_twice q.stalls t))
+        | inr t ↦ arrives a (Invokevirtual k) 0xB6 Goes (plan false (steps 8)) gs n.reads.0 went.leads.goes
+            (assumption (late ∙ t, ap spent t, stalls_once q.stalls t))
       ]
-  goes to i is n went = absurd is
 
   -- the second or the third word of the link meets the stack's end
-  limits : (left : State) (i : Instr) → IsCall i → IsNext v o s i → Overran v.image v.map.stack_end s left i →
-      OverrunsWithStalls program o q (stalls_of v.image i) left
-  limits left (Invokevirtual k) is n over =
+  pub invoke_cut : (k : ℕ) → IsCut a (Invokevirtual k)
+  invoke_cut k left n over =
       let f = named a.loads a.holds k over.found (pair_after m.cpp a.counts n.reads.1) in
       let e = entry_at over.method f.entry f.whole f.params f.others in
       let l = cut_off a.loads a.holds {link = link} over f e.params e.others refl in
       let late = ap (λ (j : ℕ). j % 4 == 3) (f.entry ∙ sym f.pool) in
+      let cut = overruns a left (Invokevirtual k) 0xB6 in
       elim (cases_Bool (slice_index v.image.pool k % 4 == 3)) [
-        | inl t ↦
-            elim l.1 [
-              | inl refused ↦
-                  overruns a left 0xB6 (stalls_of v.image (Invokevirtual k)) link Goes (plan true (steps 4)) [] n.reads.0 refl refl (omega arith)
-                  (assumption (late ∙ t)) refl refl (refl, refused)
-                  l.0.untaken l.0.given (stalls_twice q.stalls t)
-              | inr cut ↦
-                  overruns a left 0xB6 (stalls_of v.image (Invokevirtual k)) (next link) Goes (plan true (steps 6)) [] n.reads.0 refl refl
-                  (omega arith) (assumption (late ∙ t)) refl refl (refl, cut.refused)
-                  l.0.untaken (cut.given _) (stalls_twice q.stalls t)
-            ]
-        | inr t ↦
-            elim l.1 [
-              | inl refused ↦
-                  overruns a left 0xB6 (stalls_of v.image (Invokevirtual k)) link Goes (plan false (steps 4)) [] n.reads.0 refl refl
-                  (omega arith) (assumption (late ∙ t)) refl refl (refl, refused)
-                  l.0.untaken l.0.given (stalls_once q.stalls t)
-              | inr cut ↦
-                  overruns a left 0xB6 (stalls_of v.image (Invokevirtual k)) (next link) Goes (plan false (steps 6)) [] n.reads.0 refl refl
-                  (omega arith) (assumption (late ∙ t)) refl refl (refl, cut.refused)
-                  l.0.untaken (cut.given _) (stalls_once q.stalls t)
-            ]
+        | inl t ↦ elim l.1 [
+          | inl refused ↦ cut link Goes (plan true (steps 4)) [] n.reads.0 (assumption (late ∙ t, stalls_twice q.stalls t))
+          | inr third ↦ cut (next link) Goes (plan true (steps 6)) [] n.reads.0 (assumption (late ∙ t, stalls_twice q.stalls t, third.given (plus m.pc 2)))
+        ]
+        | inr t ↦ elim l.1 [
+          | inl refused ↦ cut link Goes (plan false (steps 4)) [] n.reads.0 (assumption (late ∙ t, stalls_once q.stalls t))
+          | inr third ↦ cut (next link) Goes (plan false (steps 6)) [] n.reads.0 (assumption (late ∙ t, stalls_once q.stalls t, third.given (plus m.pc 2)))
+        ]
       ]
-  limits left i is n over = absurd (assumption)
-
-pub calls : (program : List ℕ) → Known program → (o : Origin) (v : VerifiedView) → Loads v o → TakesWithStalls program o v IsCall
-calls program has o v loads = record {
-  goes = λ s to q i is fine n h went. goes (at i has loads n h) to i is n went;
-  limits = λ s left q i is fine n h over. limits (at i has loads n h) left i is n over;
-}

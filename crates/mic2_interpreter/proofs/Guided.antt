@@ -1,6 +1,6 @@
 -- Symbolic runs of Mic-2 over the shipped microprogram: a run along a plan of stalls and guessed next addresses, and what makes it the machine's.
-use Rattle.std.proofs.Common.{◌≢◌, get_or-set_other, length-set, ap, ap₂, ◌∙◌, ◌≡◌, ℕ, zero, suc, ◌+◌, ◌*◌, ◌<◌, ◌≤◌, Option, Some, None, Bool, true, false, List, [], ◌∷◌, length, arith, refl, sym, subst, add-zero}
-use Rattle.std.specs.Prelude.{slice_set, nat_lt, if◌then◌else◌}
+use Rattle.std.proofs.Common.{ap, ap₂, ◌∙◌, ◌≡◌, ℕ, zero, suc, ◌+◌, ◌*◌, ◌<◌, ◌≤◌, Option, Some, None, Bool, true, false, List, [], ◌∷◌, length, arith, refl, sym, subst, add-zero}
+use Rattle.std.specs.Prelude.{nat_lt, if◌then◌else◌}
 use Rattle.std.proofs.lemmas.Bool.Decides.{nat_tests}
 use Rattle.mic_words.specs.Prelude.{wrap, signed_byte, signed_pair}
 use Rattle.console_port.specs.Prelude.{World, Refusal}
@@ -18,7 +18,8 @@ use Rattle.mic_datapath.specs.declared.ports.Ports.{Ports}
 use Rattle.mic_datapath.specs.Prelude.{NineRegisters, on_bus, loaded, ports_given, written, sampled, word_under_way, memory_refusal, first_refusal, outcome, next_address}
 use Rattle.mic2_fetch_unit.specs.Prelude.{Prefetch, edge, edge_refusal, unit_at, have_after, text_from, QueueLaw, Held, Jumped, IsHeld, is_enough, held_after, Lack, IsWait, held_waited}
 use Rattle.mic2_datapath.specs.Prelude.{Micro, operand_bytes, dispatch_bytes, demand, is_stalled, stalled, registers_in, byte_at, fetched, source, result_of, advanced, jumps, unit_after, unit_refusal, is_to_instruction, next_micro, clock, world_after, step_if, microstep, mic2_meaning, step_of_word, driven, driven_by, stalled_drive}
-use Rattle.ijvm_simulation.specs.Prelude.{IsMemory, Moment, is_inside, outcome_at, stalls_at, last, onward, pass, address_behind, left_of}
+use Rattle.ijvm_simulation.specs.Writes.{memory_set}
+use Rattle.ijvm_simulation.specs.Prelude.{IsMemory, Moment, is_inside, outcome_at, stalls_at, last, pass, pass_on, address_behind, left_of}
 use Rattle.mic2_interpreter.proofs.Store.{shipped, Known}
 
 -- In a step of a plan the word at MPC goes on, or it stalls.
@@ -132,6 +133,10 @@ module _ (origin : List ℕ) where
       × (r.pc < 0x1FF00)
       × (nat_lt t.state.mpc 512 ≡ true)
 
+  -- the refusal of the memory access of a step
+  abbrev pub refusal_of : Placed → Short → Option Refusal
+  refusal_of s t = memory_refusal top s.part.mem (settled_by s (text_result origin s.part t.state) t.state).mar
+
   abbrev pub waited : Lack → Short → Short
   waited b t = record { state = record t.state { begins = false }; queue = held_waited b; world = t.world; stalls = t.stalls + 1 }
 
@@ -196,12 +201,8 @@ module _ (origin : List ℕ) where
     abbrev there_of : Placed → List ℕ → Short → ℕ → Moment Micro
     there_of s gs t have = moment_of origin (guided s gs t) (have_behind (jumps s.part) t.state.pc (demand s) have)
 
-    memory_set : (words : List ℕ) (a v : ℕ) → 0x8000 ≤ a → IsMemory origin words → IsMemory origin (slice_set words a v)
-    memory_set words a v le h =
-        record { kept = λ b l. let ne : b ≢ a = omega arith in get_or-set_other words a b v 0 ne ∙ h.kept b l; long = length-set words a v ∙ h.long }
-
     written-memory : (mem : Mem) (p : Ports) (w : World) → IsAbove mem p.mar → IsMemory origin w.words → IsMemory origin (written top mem p w).words
-    written-memory Write p w above h = memory_set w.words p.mar p.mdr above h
+    written-memory Write p w above h = memory_set origin w.words p.mar p.mdr above h
     written-memory _ p w above h = h
 
     sampled-memory : (mem : Mem) (p : Ports) (w : World) → IsMemory origin w.words → IsMemory origin (sampled top mem p w).words
@@ -271,7 +272,7 @@ module _ (origin : List ℕ) where
 
     -- the refusal of a step that does not stall, where its memory access is refused
     pub step-refused : (s : Placed) (t : Short) (have : ℕ) (why : Refusal) → IsMemory origin t.world.words → IsHeld t.queue t.state.pc have → is_enough (demand s) t.queue ≡ true →
-        memory_refusal top s.part.mem (settled_by s (text_result origin s.part t.state) t.state).mar ≡ Some why →
+        refusal_of s t ≡ Some why →
         microstep s (standing origin t.state have) t.world ≡ Refused why
     step-refused s t have why ms held enough h =
         let m : Micro = t.state in
@@ -299,10 +300,6 @@ record Steps (program origin : List ℕ) (p : Moment Micro) (t : Short) : Type 0
   pub done : outcome_at mic2_meaning program p ≡ Done (standing origin t.state have) t.world
   pub stalls : stalls_at mic2_meaning program p ≡ t.stalls
   pub held : IsHeld t.queue t.state.pc have
-
-onward-inside : (program : List ℕ) (more : Moment Micro → Option (Moment Micro)) (p : Moment Micro) → is_inside mic2_meaning p.state ≡ true →
-    onward mic2_meaning program more p.stalls (Done p.state p.world) ≡ more p
-onward-inside program more p h = simp (h, onward)
 
 -- `program` has the words of a control store that holds the shipped microprogram.
 module _ (program : List ℕ) (has : Known program) (origin : List ℕ) (map : 0x8000 ≤ length origin) where
@@ -364,8 +361,7 @@ module _ (program : List ℕ) (has : Known program) (origin : List ℕ) (map : 0
       pass-clocked c cs (guesses_of origin b s gs) u a.have (step-memory origin has.queue b s gs t h.0 ms) a.held h.2 in
       record {
         have = r.have;
-        is = ap₂ (onward mic2_meaning program (pass mic2_meaning program (length cs))) a.stalls a.done
-            ∙ (onward-inside program (pass mic2_meaning program (length cs)) (moment_of origin u a.have) h.1 ∙ r.is);
+        is = pass_on mic2_meaning program (length cs) (moment_of origin t have) {q = moment_of origin u a.have} a.stalls a.done h.1 r.is;
         held = r.held;
         memory = r.memory;
       }

@@ -6,7 +6,7 @@ ghost use Rattle.ijvm_simulation.specs.Prelude.{RunsAsDefined, IsCutWhereReadFai
 ghost use Rattle.mic2_interpreter.specs.Interpretation.{mic2};
 
 use crate::laws::stalls_law;
-use ijvm_simulation::{Interpreter, run_image, stack_law};
+use ijvm_simulation::{Interpreter, run_image};
 use ijvm_verifier::VerifiedImage;
 use mal_shipped::shipped_store;
 use mic_base::{Sink, Source};
@@ -48,7 +48,6 @@ impl Interpreter for Mic2Interpreter {
     }
 
     fn law() {
-        stack_law();
         queue_law();
         stalls_law();
     }

@@ -5,7 +5,7 @@ ghost use Rattle.mic2_interpreter.specs.Stalls.{GroupStalls, BootStallsOnce, sta
 ghost use Rattle.mic2_interpreter.specs.Interpretation.{mic2};
 
 use crate::interpreter::Mic2Interpreter;
-use ijvm_simulation::{groups_are_all, stack_law, stalls_add_up};
+use ijvm_simulation::stalls_add_up;
 use mic2_fetch_unit::queue_law;
 
 /// How a run boots, and what every instruction takes. After the boot, whose one stall waits for the first word of
@@ -14,9 +14,7 @@ pub fn stalls_law()
     ensures boots { BootStallsOnce }
     ensures takes { GroupStalls (λ i. Unit {0}) }
 {
-    stack_law();
     queue_law();
-    groups_are_all::<mic2_datapath::Mic2>();
 }
 
 /// So at each boundary of a run the clock has counted the stall of the boot and those of the calls, and no other; nor

@@ -1,5 +1,5 @@
 -- From the reset of a Mic-3 to its first boundary.
-use Rattle.std.proofs.Common.{◌≡◌, ℕ, List, [], ◌∷◌, length, refl, arith, ◌∙◌, ap}
+use Rattle.std.proofs.Common.{◌≡◌, ℕ, ◌+◌, List, [], ◌∷◌, length, refl, arith, ◌∙◌, ap}
 use Rattle.mic_words.specs.Prelude.{plus}
 use Rattle.console_port.specs.Prelude.{byte_in}
 use Rattle.mic3_datapath.specs.Prelude.{mic3_meaning, Pipeline}
@@ -8,12 +8,13 @@ use Rattle.ijvm_meaning.specs.Prelude.{start_of}
 use Rattle.mic3_interpreter.proofs.Store.{Known}
 use Rattle.mic2_fetch_unit.specs.Prelude.{Jumped, WaitsFirst}
 use Rattle.mic3_interpreter.proofs.Guided.{Issues, HeldUp, Lacks, Short, moment_of, clocked, Arrives, IsSmooth, pass-clocked}
-use Rattle.mic3_interpreter.proofs.Boundaries.{at_boundary, stands_at}
-use Rattle.ijvm_simulation.specs.Prelude.{Origin, IsMemory, IsMapEnd, StackLaw, Moment, pass, Boots, reset_moment, Loads}
-use Rattle.ijvm_simulation.proofs.Places.{Place, place_at, place_on}
+use Rattle.mic3_interpreter.proofs.Boundaries.{stands_at}
+use Rattle.ijvm_simulation.specs.Prelude.{Origin, IsMemory, Moment, pass, Boots, reset_moment, Loads}
+use Rattle.ijvm_simulation.specs.Images.{map, first}
+use Rattle.ijvm_simulation.specs.Places.{Place, place_at, place_on}
 use Rattle.verifier_facts.specs.Prelude.{VerifiedView}
 
-module _ (program : List ℕ) (has : Known program) (o : Origin) (v : VerifiedView) (loads : Loads v o) (law : StackLaw) (input : List ℕ) where
+module _ (program : List ℕ) (has : Known program) (o : Origin) (v : VerifiedView) (loads : Loads v o) (input : List ℕ) where
   abbrev start : Moment Pipeline
   start = reset_moment mic3_meaning 0x002 v.main_locals o input
 
@@ -32,14 +33,14 @@ module _ (program : List ℕ) (has : Known program) (o : Origin) (v : VerifiedVi
   -- three cycles issue nothing: one lacks the first word of the text, and two wait until the first dispatch retires
   pub boots : Boots mic3_meaning program (Stands o) o.given mic3_timing start (start_of v.main_locals input)
   boots =
-      let map : IsMapEnd (length o.words) = law.map v o loads in
       let p0 : Place o.words 0 0 = place_at o.words 0 0 refl (omega arith) in
-      let p1 : Place o.words (plus 0 1) 1 = place_on o.words 0 0 1 1 p0 (omega arith) (omega arith) in
+      let p1 : Place o.words (plus 0 1) (0 + 1) = place_on 1 (0 + 1) p0 refl (omega arith) in
+      let stands = first v o input start.state.micro.sp start.state.micro.tos loads (omega arith) in
       let memory : IsMemory o.words o.words = record { kept = λ a l. refl; long = refl } in
       let smooth : IsSmooth o.words (Lacks WaitsFirst ∷ Issues ∷ HeldUp ∷ HeldUp ∷ []) (byte_in o.words 0 ∷ []) reset = assumption in
       let t : Short = clocked o.words (Lacks WaitsFirst ∷ Issues ∷ HeldUp ∷ HeldUp ∷ []) (byte_in o.words 0 ∷ []) reset in
       let a : Arrives o.words (pass mic3_meaning program 3 (moment_of o.words reset 0)) t =
-      pass-clocked program has o.words map.low (Lacks WaitsFirst) (Issues ∷ HeldUp ∷ HeldUp ∷ [])
+      pass-clocked program has o.words (map v o loads).low (Lacks WaitsFirst) (Issues ∷ HeldUp ∷ HeldUp ∷ [])
       (byte_in o.words 0 ∷ []) reset 0 memory refl smooth in
       record {
         off = refl;
@@ -50,7 +51,6 @@ module _ (program : List ℕ) (has : Known program) (o : Origin) (v : VerifiedVi
           begins = record { no_halt = refl; no_err = refl };
           there = moment_of o.words t a.have;
           passes = ap (pass mic3_meaning program 3) starts ∙ a.is;
-          stands = stands_at has.queue o (start_of v.main_locals input) t a.have
-              (at_boundary o _ _ _ (law.first v o input _ _ loads (omega arith)) p1.is (omega arith) refl refl refl refl refl refl refl) a.held;
+          stands = stands_at has.queue o (start_of v.main_locals input) t a.have (assumption) a.held;
         };
       }

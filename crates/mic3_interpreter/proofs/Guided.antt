@@ -1,6 +1,6 @@
 -- Symbolic runs of Mic-3 over the shipped microprogram: a run along a plan of what issues and of guessed next addresses, and what makes it the machine's.
-use Rattle.std.proofs.Common.{◌≢◌, get_or-set_other, length-set, ap, ap₂, ◌∙◌, ◌≡◌, ℕ, zero, suc, ◌+◌, ◌*◌, ◌<◌, ◌≤◌, Option, Some, None, Bool, true, false, List, [], ◌∷◌, length, arith, refl, sym, subst, add-zero}
-use Rattle.std.specs.Prelude.{slice_set, nat_lt, if◌then◌else◌, ◌||◌}
+use Rattle.std.proofs.Common.{ap, ap₂, ◌∙◌, ◌≡◌, ℕ, zero, suc, ◌+◌, ◌*◌, ◌<◌, ◌≤◌, Option, Some, None, Bool, true, false, List, [], ◌∷◌, length, arith, refl, sym, subst, add-zero}
+use Rattle.std.specs.Prelude.{nat_lt, if◌then◌else◌, ◌||◌}
 use Rattle.std.proofs.lemmas.Bool.Decides.{nat_tests}
 use Rattle.mic_words.specs.Prelude.{wrap, signed_byte, signed_pair}
 use Rattle.console_port.specs.Prelude.{World, Refusal}
@@ -17,7 +17,8 @@ use Rattle.mic_datapath.specs.declared.ports.Ports.{Ports}
 use Rattle.mic_datapath.specs.Prelude.{NineRegisters, on_bus, ports_given, written, sampled, memory_refusal, first_refusal, outcome}
 use Rattle.mic2_datapath.specs.Prelude.{Micro, operand_bytes, demand, registers_in, byte_at, fetched, source, advanced, unit_after, unit_refusal, next_micro}
 use Rattle.mic3_datapath.specs.Prelude.{Pipeline, Issued, Computed, issued_in, computed_in, is_held_up, is_jump_coming, waits, dispatched, issued, issued_by, bytes_leaving, retired, settled, mem_in, word_after, computed, from_retired, from_computed, from_issued, begins, clock, world_after, refusal, cycle_with, cycle, mic3_meaning, step_of_word, driven, driven_by}
-use Rattle.ijvm_simulation.specs.Prelude.{IsMemory, Moment, is_inside, outcome_at, stalls_at, last, onward, pass}
+use Rattle.ijvm_simulation.specs.Writes.{memory_set}
+use Rattle.ijvm_simulation.specs.Prelude.{IsMemory, Moment, is_inside, outcome_at, stalls_at, last, pass, pass_on}
 use Rattle.mic3_interpreter.proofs.Store.{shipped, Known}
 use Rattle.mic2_fetch_unit.specs.Prelude.{unit_at, have_after, text_from, QueueLaw, Held, Jumped, IsHeld, is_enough, held_after, Lack, IsWait, held_waited}
 
@@ -159,6 +160,10 @@ module _ (origin : List ℕ) where
   IsTurn HeldUp s gs t = is_held_up s t.state.micro.word (issued_in t.state.operand) (computed_in t.state.result) ≡ true
   IsTurn (Lacks b) s gs t = IsWait b t.queue t.state.micro.pc (demand s)
 
+  -- the refusal of the memory access of the statement that retires
+  abbrev pub refusal_of : Turn → Placed → List ℕ → Short → Option Refusal
+  refusal_of k s gs t = memory_refusal top (mem_in t.state.result) (settled (issue_of origin k s gs t.state) t.state).mar
+
   -- no access of the edge is refused, it leaves the memory below the stack, and the guess is right
   abbrev pub IsRight : Turn → Placed → List ℕ → Short → Type 0
   IsRight k s gs t =
@@ -214,12 +219,8 @@ module _ (origin : List ℕ) where
     unit_allowed c i p have true map h few l l2 = queue.jump_allowed top (settled_by c i p).pc map l2
     unit_allowed c i p have false map h few l l2 = queue.edge_allowed top origin p.micro.pc have (bytes_leaving i) map h few l
 
-    memory_set : (words : List ℕ) (a v : ℕ) → 0x8000 ≤ a → IsMemory origin words → IsMemory origin (slice_set words a v)
-    memory_set words a v le h =
-        record { kept = λ b l. let ne : b ≢ a = omega arith in get_or-set_other words a b v 0 ne ∙ h.kept b l; long = length-set words a v ∙ h.long }
-
     written-memory : (mem : Mem) (p : Ports) (w : World) → IsAbove mem p.mar → IsMemory origin w.words → IsMemory origin (written top mem p w).words
-    written-memory Write p w above h = memory_set w.words p.mar p.mdr above h
+    written-memory Write p w above h = memory_set origin w.words p.mar p.mdr above h
     written-memory _ p w above h = h
 
     sampled-memory : (mem : Mem) (p : Ports) (w : World) → IsMemory origin w.words → IsMemory origin (sampled top mem p w).words
@@ -346,7 +347,7 @@ module _ (origin : List ℕ) where
     -- the refusal of a cycle, where the memory access of the statement that retires is refused
     pub cycle-refused : (k : Turn) (s : Placed) (gs : List ℕ) (t : Short) (have : ℕ) (why : Refusal) → IsMemory origin t.world.words →
         IsHeld t.queue t.state.micro.pc have → IsTurn k s gs t →
-        memory_refusal top (mem_in t.state.result) (settled (issue_of origin k s gs t.state) t.state).mar ≡ Some why →
+        refusal_of k s gs t ≡ Some why →
         cycle s (standing origin t.state have) t.world ≡ Refused why
     cycle-refused k s gs t have why ms held c h =
         let p : Pipeline = t.state in
@@ -370,10 +371,6 @@ record Steps (program origin : List ℕ) (p : Moment Pipeline) (t : Short) : Typ
   pub done : outcome_at mic3_meaning program p ≡ Done (standing origin t.state have) t.world
   pub stalls : stalls_at mic3_meaning program p ≡ t.stalls
   pub held : IsHeld t.queue t.state.micro.pc have
-
-onward-inside : (program : List ℕ) (more : Moment Pipeline → Option (Moment Pipeline)) (p : Moment Pipeline) → is_inside mic3_meaning p.state ≡ true →
-    onward mic3_meaning program more p.stalls (Done p.state p.world) ≡ more p
-onward-inside program more p h = simp (h, onward)
 
 -- `program` has the words of a control store that holds the shipped microprogram.
 module _ (program : List ℕ) (has : Known program) (origin : List ℕ) (map : 0x8000 ≤ length origin) where
@@ -429,8 +426,7 @@ module _ (program : List ℕ) (has : Known program) (origin : List ℕ) (map : 0
       pass-clocked l ks gs' u a.have (step-memory origin has.queue k s gs t h.0 ms) a.held h.2 in
       record {
         have = r.have;
-        is = ap₂ (onward mic3_meaning program (pass mic3_meaning program (length ks))) a.stalls a.done
-            ∙ (onward-inside program (pass mic3_meaning program (length ks)) (moment_of origin u a.have) h.1 ∙ r.is);
+        is = pass_on mic3_meaning program (length ks) (moment_of origin t have) {q = moment_of origin u a.have} a.stalls a.done h.1 r.is;
         held = r.held;
         memory = r.memory;
       }

@@ -1,6 +1,5 @@
 -- The bytes that a cycle of Mic-3 gives come after those given before.
-use Rattle.std.proofs.Common.{ℕ, Some, None, Option, List, [], length, sym}
-use Rattle.std.proofs.lemmas.List.{append-nil}
+use Rattle.std.proofs.Common.{ℕ, Some, None, Option, length}
 use Rattle.console_port.specs.Prelude.{World, Refusal}
 use Rattle.mic_words.specs.declared.machine.Machine.TheVariants as machines
 use Rattle.micro_word.specs.Prelude.{statement_of}
@@ -9,26 +8,23 @@ use Rattle.micro_word.specs.declared.statement.Mem.TheVariants.{Write}
 use Rattle.mic_datapath.specs.Prelude.{ports_given, written, sampled, outcome}
 use Rattle.mic_datapath.specs.declared.ports.Ports.{Ports}
 use Rattle.mic3_datapath.specs.Prelude.{Pipeline, Issued, issued, mem_in, settled, clock, world_after, refusal, step_of_word}
-use Rattle.ijvm_simulation.specs.Prelude.{Grows, OnDone, WordLaw}
+use Rattle.ijvm_simulation.specs.Prelude.{Grows, OnDone}
+use Rattle.ijvm_simulation.specs.Words.{grows_not, given_grows}
 
-stays : (xs : List ℕ) → Grows xs xs
-stays xs = record { more = []; are = sym (append-nil xs) }
+access_grows : (top : ℕ) (mem : Mem) (p : Ports) (w : World) → Grows w.given (sampled top mem p (written top mem p w)).given
+access_grows top Write p w = given_grows top w.given p.mar p.mdr
+access_grows top _ p w = grows_not w.given
 
-module _ (words : WordLaw) where
-  access_grows : (top : ℕ) (mem : Mem) (p : Ports) (w : World) → Grows w.given (sampled top mem p (written top mem p w)).given
-  access_grows top Write p w = words.given_grows top w.given p.mar p.mdr
-  access_grows top _ p w = stays w.given
+pub step_grows : (word : ℕ) (p : Pipeline) (w : World) → OnDone (λ (v : World). Grows w.given v.given) (step_of_word word p w)
+unfolding step_of_word
+step_grows word p w = by_refusal (refusal (length w.words) i p)
+  where
+    i : Option Issued
+    i = issued (statement_of machines.Mic2 word) p
 
-  pub step_grows : (word : ℕ) (p : Pipeline) (w : World) → OnDone (λ (v : World). Grows w.given v.given) (step_of_word word p w)
-  unfolding step_of_word
-  step_grows word p w = by_refusal (refusal (length w.words) i p)
-    where
-      i : Option Issued
-      i = issued (statement_of machines.Mic2 word) p
-
-      by_refusal : (r : Option Refusal) →
-          OnDone (λ (v : World). Grows w.given v.given)
-          (outcome r (clock (length w.words) (issued (statement_of machines.Mic2 word) p) p w)
-          (world_after (length w.words) (issued (statement_of machines.Mic2 word) p) p w))
-      by_refusal (Some why) = tt
-      by_refusal None = access_grows (length w.words) (mem_in p.result) (ports_given (settled (issued (statement_of machines.Mic2 word) p) p)) w
+    by_refusal : (r : Option Refusal) →
+        OnDone (λ (v : World). Grows w.given v.given)
+        (outcome r (clock (length w.words) (issued (statement_of machines.Mic2 word) p) p w)
+        (world_after (length w.words) (issued (statement_of machines.Mic2 word) p) p w))
+    by_refusal (Some why) = tt
+    by_refusal None = access_grows (length w.words) (mem_in p.result) (ports_given (settled (issued (statement_of machines.Mic2 word) p) p)) w

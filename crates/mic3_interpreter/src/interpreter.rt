@@ -5,7 +5,7 @@ ghost use Rattle.console_port.specs.Prelude.{SinkGoesOn};
 ghost use Rattle.ijvm_simulation.specs.Prelude.{RunsAsDefined, IsCutWhereReadFails, IsCutWhereWriteFails, EndsByCause};
 ghost use Rattle.mic3_interpreter.specs.Interpretation.{mic3};
 
-use ijvm_simulation::{Interpreter, groups_are_all, run_image, stack_law};
+use ijvm_simulation::{Interpreter, run_image};
 use ijvm_verifier::VerifiedImage;
 use mal_shipped::shipped_store;
 use mic_base::{Sink, Source};
@@ -47,9 +47,7 @@ impl Interpreter for Mic3Interpreter {
     }
 
     fn law() {
-        stack_law();
         queue_law();
-        groups_are_all::<Mic3>();
     }
 }
 

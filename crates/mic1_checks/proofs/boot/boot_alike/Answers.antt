@@ -4,6 +4,7 @@ use Rattle.std.proofs.lemmas.List.Elements.{All-same, All-nil}
 use Rattle.console_port.specs.World.{World, byte_in}
 use Rattle.mic1_datapath.specs.Micro.{Micro}
 use Rattle.mic1_datapath.specs.Mic1.{mic1_meaning, IsReady}
+use Rattle.ijvm_simulation.specs.Images as images
 use Rattle.ijvm_simulation.specs.Stands.{IsAt}
 use Rattle.ijvm_simulation.specs.Passes.{Moment}
 use Rattle.ijvm_simulation.specs.Law.{Moves, reset_moment}
@@ -29,7 +30,6 @@ use Rattle.mic1_checks.proofs.boot.boot_alike.Goals as goal
 
 pub returns-clause-carries : goal.returns-clause-carries
 returns-clause-carries c done timing v o input first loads words boots =
-    let law = c.stack_law.ensures in
     let store = c.args.stores.now.store.now.words in
     let other = c.args.stores.now.other.now.words in
     let table : List Node = c.explore.new.work.nodes.nodes.items in
@@ -43,12 +43,12 @@ returns-clause-carries c done timing v o input first loads words boots =
     let ordered : AreOrdered table = c.finding_of.ensures.ordered shown in
     let registers : HasRegisters table = c.finding_of.ensures.registers shown in
     let t : Started table q.state q.world =
-    started c.environments_exist.ensures table ordered registers q.state q.world (reset_has_words law v o input loads words entry) in
+    started c.environments_exist.ensures table ordered registers q.state q.world (reset_has_words v o input loads words entry) in
     let e = t.e in
     let before : Fits e c.reset.new.nodes.nodes.items = c.in_ok-unlike.ensures.grows e t.fits in
     let is : IsReset e x = c.in_ok-s.ensures.value e before in
     let long : length e.start.words ≡ length o.words = ap (λ (w : World). length w.words) t.starts in
-    let map = law.map v o loads in
+    let map = images.map v o loads in
     let known : IsKnown e c.nothing_known-known.result =
     record {
       knows = record {
@@ -69,7 +69,7 @@ returns-clause-carries c done timing v o input first loads words boots =
     let over : CarriesOver e x x store other entry entry' BOOT Unknown leaves =
     c.in_ok-unlike.ensures.carries (λ j. Ok (c.finding_of.ensures.none shown j)) e t.fits known signs signs none in
     let moment : (k : ℕ) → start_moment e 0 k x ≡ with_clocked true (reset_moment mic1_meaning k v.main_locals o input) =
-    λ k j. record { state = stand_reset e x k (first_sp law v o input loads) (slice_index o.words 0) is t.sp j; world = t.starts j; stalls = 0 } in
+    λ k j. record { state = stand_reset e x k (first_sp v o input loads) (slice_index o.words 0) is t.sp j; world = t.starts j; stalls = 0 } in
     let moves : Moves mic1_meaning store (IsAt mic1_meaning IsReady entry o) o.given (start_moment e 0 entry x) timing.boot first =
     subst (λ (p : Moment Micro). Moves mic1_meaning store (IsAt mic1_meaning IsReady entry o) o.given p timing.boot first) (sym (moment entry))
     (moves_alike store (IsAt mic1_meaning IsReady entry o) o.given q false true timing.boot first boots.moves) in

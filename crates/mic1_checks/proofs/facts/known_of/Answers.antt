@@ -7,16 +7,15 @@ use Rattle.mic1_checks.proofs.facts.known_of.Goals as goal
 
 pub returns-clause-value : goal.returns-clause-value
 returns-clause-value c e fits i b =
-    let law = c.stack_law.ensures in
     let n = c.args.n in
     let x = c.args.s.now in
     record {
       knows = record {
-        ranges = subst (λ (rs : List Range). IsIn e.word rs) (sym c.in_ok-ranges.ensures) (ranges law e n x i b fits.words);
-        long = long_enough law e n x i b;
-        size = size law e n x i b;
-        bytes = c.in_ok-bytes.ensures.value e (c.in_ok-words.ensures.grows e fits) (bytes law e n x i b);
-        words = c.in_ok-words.ensures.value e fits (operand_at_top law e n x i b);
+        ranges = subst (λ (rs : List Range). IsIn e.word rs) (sym c.in_ok-ranges.ensures) (ranges e n x i b fits.words);
+        long = long_enough e n x i b;
+        size = size e n x i b;
+        bytes = c.in_ok-bytes.ensures.value e (c.in_ok-words.ensures.grows e fits) (bytes e n x i b);
+        words = c.in_ok-words.ensures.value e fits (operand_at_top e n x i b);
       };
       words = b.words;
     }

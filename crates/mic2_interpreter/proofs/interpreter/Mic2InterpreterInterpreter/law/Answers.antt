@@ -16,7 +16,7 @@ returns-clause-law c = λ store o v has loads. record {
 }
 
 pub returns-clause-boots : goal.returns-clause-boots
-returns-clause-boots c = λ store o v input has loads. boots_off store (known store has c.queue_law.ensures) o v loads c.stack_law.ensures input
+returns-clause-boots c = λ store o v input has loads. boots_off store (known store has c.queue_law.ensures) o v loads input
 
 pub returns-clause-grows : goal.returns-clause-grows
-returns-clause-grows c = λ word s w. step_grows c.stack_law.ensures.words word s w
+returns-clause-grows c = λ word s w. step_grows word s w

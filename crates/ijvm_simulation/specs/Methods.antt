@@ -9,12 +9,34 @@ use Rattle.ijvm_image.specs.declared.method.Method.{Method}
 use Rattle.ijvm_image.specs.Prelude.{method_at, params, others}
 use Rattle.ijvm_meaning.specs.Prelude.{onto}
 use Rattle.verifier_facts.specs.Prelude.{VerifiedView}
-use Rattle.ijvm_simulation.specs.Prelude.{Origin, Arguments, IsConstant, IsMethod, Loads}
+use Rattle.ijvm_simulation.specs.Stands.{Origin}
+use Rattle.ijvm_simulation.specs.Verified.{Loads}
+
+-- the operands of a call: the arguments, the last one first, the object reference, and those below
+pub record Arguments (n : ℕ) (xs : List ℕ) : Type 0 where
+  pub o : ℕ
+  pub are : xs ≡ take n xs ++ o ∷ drop (n + 1) xs
+  pub long : length (take n xs) ≡ n
+  pub depth : length xs ≡ n + suc (length (drop (n + 1) xs))
+
+-- a constant in the memory
+pub record IsConstant (o : Origin) (k x : ℕ) : Type 0 where
+  pub small : k < 0x4000
+  pub there : slice_index o.words (0x4000 + k) ≡ x
+
+-- a method that a constant names, in the memory
+pub record IsMethod (v : VerifiedView) (o : Origin) (k : ℕ) (m : Method) : Type 0 where
+  pub there : slice_get v.image.pool k ≡ Some m.entry
+  pub named : slice_index v.image.pool k ≡ m.entry
+  pub whole : m.entry + 4 < 0x10000
+  pub params_are : m.params ≡ 256 * byte_in o.words m.entry + byte_in o.words (m.entry + 1)
+  pub others_are : m.others ≡ 256 * byte_in o.words (m.entry + 2) + byte_in o.words (m.entry + 3)
 
 pub length-onto : (ps : List ℕ) (xs : List (Option ℕ)) → length (onto ps xs) ≡ length ps + length xs
 length-onto [] xs = omega arith
 length-onto (p ∷ ps) xs = let e : length (onto ps (Some p ∷ xs)) ≡ length ps + length (Some p ∷ xs) = length-onto ps (Some p ∷ xs) in omega arith
 
+-- the locals of a method after its object reference
 pub locals : (ps : List ℕ) (more : ℕ) → length (onto ps (replicate more None)) ≡ length ps + more
 locals ps more = length-onto ps (replicate more None) ∙ ap (λ (j : ℕ). length ps + j) (length-replicate {A = Option ℕ} more None)
 
@@ -53,7 +75,7 @@ module _ (v : VerifiedView) (o : Origin) (loads : Loads v o) where
           let l : e + 4 < length v.image.text = grind (arith, nat_tests) in
           subst (IsMethod v o k) (same_Some _ _ is)
           (record {
-            constant = constant k e named;
+            there = named;
             named = get_or_from_slice_get v.image.pool k e 0 named;
             whole = omega (arith, loads.image.limits.text_fits);
             params_are = two_bytes_are e (e + 1) (omega arith) (omega arith);

@@ -9,18 +9,24 @@ use Rattle.console_port.specs.Prelude.{World, StackLimit, read_value, untaken_af
 use Rattle.ijvm_image.specs.declared.method.Method.{Method}
 use Rattle.ijvm_image.specs.Prelude.{method_at}
 use Rattle.ijvm_instr.specs.declared.instr.Instr.TheVariants.{Ireturn}
-use Rattle.ijvm_meaning.specs.Prelude.{Frame, State, base, kept_words, onto, in_method}
+use Rattle.ijvm_meaning.specs.Prelude.{Frame, State, base, kept_words, called as frame_of_call, onto, in_method}
 use Rattle.verifier_facts.specs.Prelude.{VerifiedView}
-use Rattle.ijvm_simulation.specs.Prelude.{Origin, RegistersStand, IsLinked, caller_lv, IsMapEnd, IsWordAccess, IsConstant, IsMethod, Arguments, place_behind, linked_words, Top, AtBoundary, WithMethod, Returns, Fits, Overflows, Loads, IsNext}
-use Rattle.ijvm_simulation.proofs.Stack.{law}
+use Rattle.ijvm_simulation.specs.Stands.{Origin, RegistersStand, FramesStand, IsLinked, IsMemory, caller_lv}
+use Rattle.ijvm_simulation.specs.Verified.{Loads, IsNext}
+use Rattle.ijvm_simulation.specs.Outcomes.{WithMethod, Returns, Fits, Overflows}
+use Rattle.ijvm_simulation.specs.Words.{next_is, minus_is, byte_bound}
+use Rattle.ijvm_simulation.specs.Accesses.{IsMapEnd, IsWordAccess, access, limit}
+use Rattle.ijvm_simulation.specs.Methods.{IsMethod, Arguments, arguments, method, locals}
+use Rattle.ijvm_simulation.specs.Images as images
+use Rattle.ijvm_simulation.specs.Writes.{linked_words, memory_set, entered, pushed}
+use Rattle.ijvm_simulation.specs.Stack.{place_behind, frame_with, above, frames_at, memory_at, Top}
+use Rattle.ijvm_simulation.specs.Stack as stack
+use Rattle.ijvm_simulation.specs.Leaves.{From, constant_from}
 
 module _ {v : VerifiedView} {o : Origin} {s : State} {sp lv cpp tos : ℕ} {w : World} (loads : Loads v o)
     (h : RegistersStand o s sp lv cpp tos w) where
   abbrev map : IsMapEnd (length o.words)
-  map = law.map v o loads
-
-  abbrev here : AtBoundary o s sp lv cpp tos w
-  here = law.boundary o s sp lv cpp tos w map h
+  map = images.map v o loads
 
   abbrev top : ℕ
   top = length o.words
@@ -63,24 +69,27 @@ module _ {v : VerifiedView} {o : Origin} {s : State} {sp lv cpp tos : ℕ} {w : 
       let rest : List ℕ = went.with_top.rest in
       let f : Frame = went.caller in
       let fs : List Frame = went.above in
-      let t : Top o s sp lv cpp tos w y rest = here.top y rest went.with_top.are in
+      let t : Top o s sp lv cpp tos w y rest = stack.top loads h went.with_top.are in
       let to = n.finds.returns refl in
       let to_is : to.0 ≡ went.back = same_Some to.0 went.back (sym to.3 ∙ went.back_is) in
       let lv' : ℕ = base (f ∷ fs) in
       let many : ℕ = length s.running.locals in
-      let bottom : 0x8000 ≤ base fs = law.above fs in
+      let bottom : 0x8000 ≤ base fs = above fs in
       let high : top < 0x80000000 = map.high in
       let same : base s.callers ≡ lv' = ap base went.callers_are in
       let two_words : kept_words s.running.back ≡ 2 = ap kept_words went.back_is in
       let fits : lv' + many + 2 + length s.running.operands ≤ top = omega (arith, h.fits) in
       let link : IsLinked w.words (base s.callers) many (caller_lv s.callers) (Some went.back) =
       subst (λ (b : Option ℕ). IsLinked w.words (base s.callers) many (caller_lv s.callers) b) went.back_is h.frames.0.linked in
-      let a : IsWordAccess top w lv lv' = law.access top w lv lv' (h.lv_is ∙ same) (omega arith) in
+      let a : IsWordAccess top w lv lv' = access top w lv lv' (h.lv_is ∙ same) (omega arith) in
       let at : slice_index w.words lv' ≡ lv' + many = rw (← same) link.0 in
-      let b : IsWordAccess top w1 link_word (lv' + many) = law.access top w1 link_word (lv' + many) (a.value ∙ at) (omega arith) in
+      let b : IsWordAccess top w1 link_word (lv' + many) = access top w1 link_word (lv' + many) (a.value ∙ at) (omega arith) in
       let d : IsWordAccess top w2 (next link_word) (lv' + many + 1) =
-      law.access top w2 (next link_word) (lv' + many + 1) (law.words.next_is link_word (lv' + many + 1) (omega (arith, b.is)) (omega arith))
+      access top w2 (next link_word) (lv' + many + 1) (next_is link_word (lv' + many + 1) (omega (arith, b.is)) (omega arith))
       (omega arith) in
+      let words : slice_set w.words lv tos ≡ slice_set w.words lv' y = ap₂ (slice_set w.words) a.is t.tos_is in
+      let below : FramesStand w.words (f ∷ fs) = subst (λ (k : List Frame). FramesStand w.words k) went.callers_are h.frames.1 in
+      let len : length s.running.operands ≡ suc (length rest) = ap length went.with_top.are in
       record {
         first = a.read;
         second = b.read;
@@ -89,16 +98,23 @@ module _ {v : VerifiedView} {o : Origin} {s : State} {sp lv cpp tos : ℕ} {w : 
         high = omega (arith, a.is);
         back = b.value ∙ (rw same at link.1);
         inside = omega (arith, to_is, to.5, loads.image.limits.text_fits);
-        leaves = here.returns y rest f fs went.back lv caller cpp tos
-            (after_write top (after_read top w2 (next link_word)) lv tos) went.with_top.are went.callers_are
-            (d.value ∙ ((rw same at link.2) ∙ ap caller_lv went.callers_are)) refl a.is t.tos_is (ap₂ (slice_set w.words) a.is t.tos_is)
-            (d.untaken ∙ (b.untaken ∙ (a.untaken ∙ h.untaken))) (a.given _ _);
+        leaves = record {
+          sp_is = omega (arith, a.is);
+          lv_is = d.value ∙ ((rw same at link.2) ∙ ap caller_lv went.callers_are);
+          cpp_is = h.cpp_is;
+          tos_is = t.tos_is;
+          frames = frames_at (record f { operands = y ∷ f.operands }) fs (sym words) (pushed w.words lv' y f fs refl (omega (arith, h.memory.long)) below);
+          memory = memory_at (sym words) (memory_set o.words w.words lv' y (omega arith) h.memory);
+          fits = omega arith;
+          untaken = d.untaken ∙ (b.untaken ∙ (a.untaken ∙ h.untaken));
+          given = a.given _ _ ∙ h.given;
+        };
       }
 
   -- The method of a call, whose entry the machine reads at a.
   pub record Named (a k : ℕ) (m : Method) : Type 0 where
     pub from : read_refusal top a ≡ None
-    pub untaken : untaken_after top w.untaken a ≡ w.untaken
+    pub untaken : untaken_after top w.untaken a ≡ s.untaken
     pub entry : read_value top w.words w.untaken a ≡ m.entry
     pub whole : m.entry + 4 < 0x10000
     pub params : m.params ≡ 256 * byte_in o.words m.entry + byte_in o.words (m.entry + 1)
@@ -107,14 +123,12 @@ module _ {v : VerifiedView} {o : Origin} {s : State} {sp lv cpp tos : ℕ} {w : 
 
   pub named : {a : ℕ} {m : Method} (k : ℕ) → method_at v.image.text (slice_get v.image.pool k) ≡ Some m → a ≡ plus cpp k → Named a k m
   named {a} {m} k found is =
-      let f : IsMethod v o k m = law.method v o loads k m found in
-      let c : IsConstant o k m.entry = f.constant in
-      let r : IsWordAccess top w a (0x4000 + k) =
-      law.access top w a (0x4000 + k) (is ∙ law.words.plus_is h.cpp_is refl refl (omega (arith, c.small))) (omega (arith, c.small, map.low)) in
+      let f : IsMethod v o k m = method v o loads k m found in
+      let r = constant_from loads h k f.there is in
       record {
-        from = r.read;
+        from = r.from;
         untaken = r.untaken;
-        entry = r.value ∙ (h.memory.kept (0x4000 + k) (omega (arith, c.small)) ∙ c.there);
+        entry = r.value;
         whole = f.whole;
         params = f.params_are;
         others = f.others_are;
@@ -130,21 +144,21 @@ module _ {v : VerifiedView} {o : Origin} {s : State} {sp lv cpp tos : ℕ} {w : 
   linked : {a k count own link : ℕ} (m : Method) (n : ℕ) → m.params ≡ suc n → n < length s.running.operands → Named a k m →
       count ≡ m.params → own ≡ m.others → link ≡ next (sp + own) → Linked count link n m.others
   linked {a} {k} {count} {own} {link} m n params enough f count_is own_is is =
-      let args : Arguments n s.running.operands = law.arguments n s.running.operands enough in
+      let args : Arguments n s.running.operands = arguments n s.running.operands enough in
       let rest : List ℕ = drop (n + 1) s.running.operands in
       let depth : length s.running.operands ≡ n + suc (length rest) = args.depth in
-      let bottom : 0x8000 ≤ base s.callers = law.above s.callers in
+      let bottom : 0x8000 ≤ base s.callers = above s.callers in
       let high : top < 0x80000000 = map.high in
-      let b2 : byte_in o.words (m.entry + 2) < 256 = law.words.byte_bound o.words (m.entry + 2) in
-      let b3 : byte_in o.words (m.entry + 3) < 256 = law.words.byte_bound o.words (m.entry + 3) in
+      let b2 : byte_in o.words (m.entry + 2) < 256 = byte_bound o.words (m.entry + 2) in
+      let b3 : byte_in o.words (m.entry + 3) < 256 = byte_bound o.words (m.entry + 3) in
       let few : m.others < 65536 = omega (arith, f.others) in
       let at : ℕ = place_behind s rest in
       let sp_is : sp ≡ at + n = omega (arith, h.sp_is) in
       let low : at < top = omega (arith, h.fits) in
-      let start : minus sp count ≡ at - 1 = law.words.minus_is refl count_is (omega arith) (omega (arith, h.fits)) in
+      let start : minus sp count ≡ at - 1 = minus_is refl count_is (omega arith) (omega (arith, h.fits)) in
       record {
-        at = law.access top w (next (minus sp count)) at (law.words.next_is (minus sp count) at (omega arith) (omega arith)) low;
-        link_is = is ∙ law.words.next_is (sp + own) (at + (n + 1 + m.others)) (omega arith) (omega (arith, h.fits));
+        at = access top w (next (minus sp count)) at (next_is (minus sp count) at (omega arith) (omega arith)) low;
+        link_is = is ∙ next_is (sp + own) (at + (n + 1 + m.others)) (omega arith) (omega (arith, h.fits));
         few = few;
       }
 
@@ -168,23 +182,26 @@ module _ {v : VerifiedView} {o : Origin} {s : State} {sp lv cpp tos : ℕ} {w : 
       let more : ℕ = went.method.others in
       let ps : List ℕ = take n s.running.operands in
       let rest : List ℕ = drop (n + 1) s.running.operands in
-      let args : Arguments n s.running.operands = law.arguments n s.running.operands went.enough in
+      let args : Arguments n s.running.operands = arguments n s.running.operands went.enough in
       let l : Linked count link n more = linked went.method n went.params went.enough f count_is own_is is in
       let long : length ps ≡ n = args.long in
-      let bottom : 0x8000 ≤ base s.callers = law.above s.callers in
+      let bottom : 0x8000 ≤ base s.callers = above s.callers in
       let high : top < 0x80000000 = map.high in
-      let locals : length (onto ps (replicate more None)) ≡ length ps + more = law.locals ps more in
+      let many_locals : length (onto ps (replicate more None)) ≡ length ps + more = locals ps more in
       let at : ℕ = place_behind s rest in
       let many : ℕ = length ps + 1 + more in
       let space : at + length ps + 1 + more + 1 < top = omega (arith, went.leads.fits, loads.long) in
       let b : IsWordAccess top w (next (minus sp count)) at = l.at in
       let link_is : link ≡ at + many = l.link_is ∙ omega arith in
-      let d : IsWordAccess top w link (at + many) = law.access top w link (at + many) link_is (omega arith) in
+      let d : IsWordAccess top w link (at + many) = access top w link (at + many) link_is (omega arith) in
       let e : IsWordAccess top w (next link) (at + many + 1) =
-      law.access top w (next link) (at + many + 1) (law.words.next_is link (at + many + 1) (omega arith) (omega arith)) (omega arith) in
+      access top w (next link) (at + many + 1) (next_is link (at + many + 1) (omega arith) (omega arith)) (omega arith) in
       let same : slice_set (slice_set (slice_set w.words (next (minus sp count)) link) link back) (next link) lv ≡ linked_words w.words at many
       (s.at + 3) (base s.callers) =
       λ j. slice_set (slice_set (slice_set w.words (b.is j) (d.is j)) (d.is j) (returns j)) (e.is j) (h.lv_is j) in
+      let m1 : List ℕ = slice_set w.words at (at + many) in
+      let m2 : List ℕ = slice_set m1 (at + many) (s.at + 3) in
+      let g : Frame = frame_of_call ps more (s.at + 3) in
       record {
         first = b.write;
         second = d.write;
@@ -192,9 +209,19 @@ module _ {v : VerifiedView} {o : Origin} {s : State} {sp lv cpp tos : ℕ} {w : 
         high = omega (arith, b.is);
         high' = omega (arith, d.is);
         high'' = omega (arith, e.is);
-        leaves = λ tos'. here.enters ps args.o rest more (s.at + 3) (went.method.entry + 4) (next link) (next (minus sp count)) cpp tos'
-            (after_write top (after_write top (after_write top (after_read top w a) (next (minus sp count)) link) link back) (next link) lv)
-            args.are space b.is refl e.is same (f.untaken ∙ h.untaken) (e.given _ _ ∙ (d.given _ _ ∙ b.given _ _));
+        leaves = λ tos'. record {
+          sp_is = omega (arith, e.is);
+          lv_is = b.is;
+          cpp_is = h.cpp_is;
+          tos_is = tt;
+          frames = frames_at g (frame_with s rest ∷ s.callers) (sym same)
+              (entered w.words ps args.o rest more (s.at + 3) s.running s.callers (omega (arith, h.memory.long)) args.are h.frames);
+          memory = memory_at (sym same) (memory_set o.words m2 (at + many + 1) (base s.callers) (omega arith)
+              (memory_set o.words m1 (at + many) (s.at + 3) (omega arith) (memory_set o.words w.words at (at + many) (omega arith) h.memory)));
+          fits = omega arith;
+          untaken = f.untaken;
+          given = e.given _ _ ∙ (d.given _ _ ∙ (b.given _ _ ∙ h.given));
+        };
       }
 
   -- The second or the third of these words meets the stack's end.
@@ -219,11 +246,11 @@ module _ {v : VerifiedView} {o : Origin} {s : State} {sp lv cpp tos : ℕ} {w : 
       let more : ℕ = over.method.others in
       let ps : List ℕ = take n s.running.operands in
       let rest : List ℕ = drop (n + 1) s.running.operands in
-      let args : Arguments n s.running.operands = law.arguments n s.running.operands over.enough in
+      let args : Arguments n s.running.operands = arguments n s.running.operands over.enough in
       let l : Linked count link n more = linked over.method n over.params over.enough f count_is own_is is in
-      let bottom : 0x8000 ≤ base s.callers = law.above s.callers in
+      let bottom : 0x8000 ≤ base s.callers = above s.callers in
       let near : top ≤ 0x20000 = map.near in
-      let locals : length (onto ps (replicate more None)) ≡ length ps + more = law.locals ps more in
+      let many_locals : length (onto ps (replicate more None)) ≡ length ps + more = locals ps more in
       let depth : length s.running.operands ≡ n + suc (length rest) = args.depth in
       let at : ℕ = place_behind s rest in
       let behind : ℕ = at + (n + 1 + more) in
@@ -235,17 +262,17 @@ module _ {v : VerifiedView} {o : Origin} {s : State} {sp lv cpp tos : ℕ} {w : 
           first = l.at.write;
           high = omega (arith, l.at.is);
           high' = omega arith;
-          untaken = f.untaken ∙ (h.untaken ∙ ap (λ (t : State). t.untaken) over.leads.leaves);
+          untaken = f.untaken ∙ ap (λ (t : State). t.untaken) over.leads.leaves;
           given = l.at.given _ _ ∙ given;
         },
         elim (cases_lt behind top) [
-          | inr full ↦ inl (law.limit top link (omega arith) (omega arith))
+          | inr full ↦ inl (limit top link (omega arith) (omega arith))
           | inl room ↦
-              let d : IsWordAccess top w link behind = law.access top w link behind link_is room in
-              let last : next link ≡ behind + 1 = law.words.next_is link (behind + 1) (omega arith) (omega arith) in
+              let d : IsWordAccess top w link behind = access top w link behind link_is room in
+              let last : next link ≡ behind + 1 = next_is link (behind + 1) (omega arith) (omega arith) in
               inr (record {
                 second = d.write;
-                refused = law.limit top (next link) (omega arith) (omega arith);
+                refused = limit top (next link) (omega arith) (omega arith);
                 given = λ back. d.given _ _ ∙ (l.at.given _ _ ∙ given);
               })
         ],

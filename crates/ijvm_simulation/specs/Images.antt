@@ -9,8 +9,19 @@ use Rattle.ijvm_instr.specs.declared.instr.Instr.{Instr}
 use Rattle.ijvm_instr.specs.Prelude.{word_of, target}
 use Rattle.ijvm_meaning.specs.Prelude.{State, HasWords, start_of, frames_of}
 use Rattle.verifier_facts.specs.Prelude.{VerifiedView}
-use Rattle.ijvm_simulation.specs.Prelude.{Origin, RegistersStand, IsMemory, Loads, Fine, IsNext, IsMapEnd, jump, Lands}
-use Rattle.ijvm_simulation.proofs.Words.{plus_comm}
+use Rattle.ijvm_simulation.specs.Stands.{Origin, RegistersStand, IsMemory}
+use Rattle.ijvm_simulation.specs.Verified.{Loads, Fine, IsNext}
+use Rattle.ijvm_simulation.specs.Accesses.{IsMapEnd}
+use Rattle.ijvm_simulation.specs.Words.{plus_comm}
+
+-- the target of the jump whose two bytes follow this address
+abbrev pub jump : List ℕ → ℕ → ℕ
+jump words at = plus (signed_pair (byte_in words (at + 1)) (byte_in words (at + 2))) at
+
+-- a jump by z comes to an address of the text
+pub record Lands (o : Origin) (s : State) (z : ℤ) : Type 0 where
+  pub is : jump o.words s.at ≡ target s.at z
+  pub inside : jump o.words s.at < 0x10000
 
 pub map : (v : VerifiedView) (o : Origin) → Loads v o → IsMapEnd (length o.words)
 map v o loads = elim loads.accepted.map_is [

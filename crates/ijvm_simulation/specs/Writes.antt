@@ -4,11 +4,19 @@ use Rattle.std.specs.Prelude.{slice_index, slice_set, slice_get}
 use Rattle.std.proofs.lemmas.List.{length-replicate}
 use Rattle.std.proofs.lemmas.Option.{slice_get_within, none-some, same_Some}
 use Rattle.ijvm_meaning.specs.Prelude.{is_own, onto, called, Frame, operands_at, frame_end, base, kept_words}
-use Rattle.ijvm_simulation.specs.Prelude.{OperandsAt, IsLinked, FrameStands, FramesStand, caller_lv, linked_words}
-use Rattle.ijvm_simulation.proofs.Methods.{length-onto}
+use Rattle.ijvm_simulation.specs.Stands.{OperandsAt, IsLinked, FrameStands, FramesStand, caller_lv, IsMemory}
+use Rattle.ijvm_simulation.specs.Methods.{length-onto}
+
+-- the memory with the three words of a method's frame that a call writes: its link word, its return address, and its caller's LV
+abbrev pub linked_words : List ℕ → ℕ → ℕ → ℕ → ℕ → List ℕ
+linked_words words lv many back caller = slice_set (slice_set (slice_set words lv (lv + many)) (lv + many) back) (lv + many + 1) caller
 
 read_other : (words : List ℕ) (a b v : ℕ) → (b < a) ⊎ (a < b) → slice_index (slice_set words a v) b ≡ slice_index words b
 read_other words a b v h = let ne : b ≢ a = omega arith in get_or-set_other words a b v 0 ne
+
+-- a write leaves the memory below the stack
+pub memory_set : (origin words : List ℕ) (a v : ℕ) → 0x8000 ≤ a → IsMemory origin words → IsMemory origin (slice_set words a v)
+memory_set origin words a v le h = record { kept = λ b l. read_other words a b v (inl (omega arith)) ∙ h.kept b l; long = length-set words a v ∙ h.long }
 
 operands_apart : (words : List ℕ) (at a v : ℕ) (xs : List ℕ) → (a < at) ⊎ (at + length xs ≤ a) → OperandsAt words at xs → OperandsAt (slice_set words a v) at xs
 operands_apart words at a v [] h o = tt
