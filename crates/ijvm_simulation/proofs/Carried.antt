@@ -47,5 +47,5 @@ module _ (v : VerifiedView) (image : IsImage v.image) (accepted : IsAccepted v) 
         let b : Boots m store (IsAt m IsReady entry origin) before timing (reset_moment m entry v.main_locals origin input) (start_of v.main_locals input) = promises.boots store origin v input has loads in
         simulates m store (IsAt m IsReady entry origin) before (program timing v) (Fine v) each (keeps v timing accepted image known) bound (first_point (program timing v) v.main_locals input)
         (reset_run m entry v.main_locals (record { words = words; untaken = input; given = before }))
-        (booted m store (IsAt m IsReady entry origin) (program timing v) entry v.main_locals origin input b law.shows bound) (fine_start v known input)
+        (booted m store (IsAt m IsReady entry origin) (program timing v) entry v.main_locals origin input b law.shows bound).is (fine_start v known input)
         (quiet m store (IsAt m IsReady entry origin) (program timing v) entry v.main_locals origin input b law.shows bound)

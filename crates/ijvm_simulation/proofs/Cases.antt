@@ -9,8 +9,8 @@ use Rattle.ijvm_instr.specs.declared.instr.Instr.TheVariants.{Bipush, LdcW, Iloa
 use Rattle.ijvm_instr.specs.Prelude.{word_of}
 use Rattle.ijvm_image.specs.declared.method.Method.{Method}
 use Rattle.ijvm_image.specs.Prelude.{ImageView, method_at}
-use Rattle.ijvm_meaning.specs.Prelude.{Frame, State, frames_of, base, StepOutcome, Goes, Limits, Stuck, limited, moved, pushed_constant, loaded, is_own, with_local, stored, increased, popped, doubled, swapped, combined, way, branched, compared, returned, in_method, entered, called_at, taken, given_out, step}
-use Rattle.ijvm_simulation.specs.Prelude.{WithTop, WithLocal, Stores, Fits, Overflows, push, Went, Overran, IsOutcome}
+use Rattle.ijvm_meaning.specs.Prelude.{Frame, State, frames_of, base, StepOutcome, Goes, Limits, Stuck, limited, pushed_constant, loaded, is_own, with_local, stored, increased, popped, doubled, swapped, combined, branched, compared, returned, in_method, entered, called_at, taken, given_out, step}
+use Rattle.ijvm_simulation.specs.Prelude.{WithLocal, Stores, Fits, Overflows, push, Went, Overran, IsOutcome}
 
 module _ (image : ImageView) (stack_end : ℕ) (s : State) where
   abbrev Says_of : Instr → StepOutcome → Type 0
@@ -56,40 +56,23 @@ module _ (image : ImageView) (stack_end : ℕ) (s : State) where
       leads (with_local s k (plus v (word_of n)) s.running.operands at) (record { value = v; set = e; leads = refl })
   increase i k at n leads _ e = tt
 
-  store_top : (i : Instr) (k at : ℕ) → ((to : State) → WithTop s.running.operands (λ v rest. Stores s k v rest at to) → Went image stack_end s to i) →
-      (xs : List ℕ) → s.running.operands ≡ xs → Says_of i (stored s k xs at)
-  store_top i k at leads [] e = tt
-  store_top i k at leads (v ∷ rest) e =
-      store i k v rest at (λ h. leads (with_local s k v rest at) (record { top = v; rest = rest; are = e; leads = h }))
+  -- an instruction on the last operand, or on the last two, which is stuck where there are fewer
+  with_top : (i : Instr) (f : List ℕ → StepOutcome) → Says_of i (f []) →
+      ((y : ℕ) (rest : List ℕ) → s.running.operands ≡ y ∷ rest → Says_of i (f (y ∷ rest))) → Says_of i (f s.running.operands)
+  with_top i f none some = by_operands s.running.operands refl
+    where
+      by_operands : (xs : List ℕ) → s.running.operands ≡ xs → Says_of i (f xs)
+      by_operands [] e = none
+      by_operands (y ∷ rest) e = some y rest e
 
-  pop : (xs : List ℕ) → s.running.operands ≡ xs → Says_of Pop (popped s xs)
-  pop [] e = tt
-  pop (y ∷ rest) e = record { top = y; rest = rest; are = e; leads = refl }
-
-  double : (xs : List ℕ) → s.running.operands ≡ xs → Says_of Dup (doubled stack_end s xs)
-  double [] e = tt
-  double (y ∷ rest) e =
-      room Dup s (push s y (s.at + 1)) (λ l. record { top = y; rest = rest; are = e; leads = record { fits = l; goes = refl } })
-      (λ l. record { top = y; rest = rest; are = e; leads = record { over = l; leaves = refl } })
-
-  swap : (xs : List ℕ) → s.running.operands ≡ xs → Says_of Swap (swapped s xs)
-  swap (y ∷ x ∷ rest) e = record { top = y; second = x; rest = rest; are = e; leads = refl }
-  swap _ e = tt
-
-  -- two operands become one
-  combine : (i : Instr) (f : ℕ → ℕ → ℕ) → ((y x : ℕ) (rest : List ℕ) → s.running.operands ≡ y ∷ x ∷ rest → Went image stack_end s (moved s (f x y ∷ rest) (s.at + 1)) i) →
-      (xs : List ℕ) → s.running.operands ≡ xs → Says_of i (combined f s xs)
-  combine i f leads (y ∷ x ∷ rest) e = leads y x rest e
-  combine i f leads _ e = tt
-
-  branch : (i : Instr) (test : ℕ → Bool) (o : ℤ) → ((y : ℕ) (rest : List ℕ) → s.running.operands ≡ y ∷ rest → Went image stack_end s (moved s rest (way s.at o (test y))) i) →
-      (xs : List ℕ) → s.running.operands ≡ xs → Says_of i (branched test s o xs)
-  branch i test o leads [] e = tt
-  branch i test o leads (y ∷ rest) e = leads y rest e
-
-  compare : (o : ℤ) (xs : List ℕ) → s.running.operands ≡ xs → Says_of (IfIcmpeq o) (compared s o xs)
-  compare o (y ∷ x ∷ rest) e = record { top = y; second = x; rest = rest; are = e; leads = refl }
-  compare o _ e = tt
+  with_two : (i : Instr) (f : List ℕ → StepOutcome) → Says_of i (f []) → ((y : ℕ) → Says_of i (f (y ∷ []))) →
+      ((y x : ℕ) (rest : List ℕ) → s.running.operands ≡ y ∷ x ∷ rest → Says_of i (f (y ∷ x ∷ rest))) → Says_of i (f s.running.operands)
+  with_two i f none one some = by_operands s.running.operands refl
+    where
+      by_operands : (xs : List ℕ) → s.running.operands ≡ xs → Says_of i (f xs)
+      by_operands [] e = none
+      by_operands (y ∷ []) e = one y
+      by_operands (y ∷ x ∷ rest) e = some y x rest e
 
   return : (back : Option ℕ) (above : List Frame) (xs : List ℕ) → s.running.back ≡ back → s.callers ≡ above → s.running.operands ≡ xs → Says_of Ireturn (returned s back above xs)
   return (Some back) (f ∷ fs) (y ∷ rest) b a e =
@@ -112,31 +95,31 @@ module _ (image : ImageView) (stack_end : ℕ) (s : State) where
   call k None e = tt
   call k (Some m) e = enter k m e m.params refl
 
-  give : (xs : List ℕ) → s.running.operands ≡ xs → Says_of Out (given_out s xs)
-  give [] e = tt
-  give (y ∷ rest) e = record { top = y; rest = rest; are = e; leads = refl }
-
   pub says : (i : Instr) → IsOutcome image stack_end s i (step image stack_end i s)
   says (Bipush b) = room (Bipush b) s (push s (word_of b) (s.at + 2)) (λ l. record { fits = l; goes = refl }) (λ l. record { over = l; leaves = refl })
   says (LdcW k) = constant k (slice_get image.pool k) refl
   says (Iload k) = load (Iload k) k (s.at + 2) (λ to h. h) (λ left h. h) (slice_get s.running.locals k) refl
-  says (Istore k) = store_top (Istore k) k (s.at + 2) (λ to h. h) s.running.operands refl
-  says Pop = pop s.running.operands refl
-  says Dup = double s.running.operands refl
-  says Swap = swap s.running.operands refl
-  says Iadd = combine Iadd plus (λ y x rest e. record { top = y; second = x; rest = rest; are = e; leads = refl }) s.running.operands refl
-  says Isub = combine Isub minus (λ y x rest e. record { top = y; second = x; rest = rest; are = e; leads = refl }) s.running.operands refl
-  says Iand = combine Iand bit_and (λ y x rest e. record { top = y; second = x; rest = rest; are = e; leads = refl }) s.running.operands refl
+  says (Istore k) = with_top (Istore k) (λ xs. stored s k xs (s.at + 2)) tt
+      (λ y rest e. store (Istore k) k y rest (s.at + 2) (λ h. record { top = y; rest = rest; are = e; leads = h }))
+  says Pop = with_top Pop (popped s) tt (λ y rest e. record { top = y; rest = rest; are = e; leads = refl })
+  says Dup = with_top Dup (doubled stack_end s) tt (λ y rest e.
+      room Dup s (push s y (s.at + 1)) (λ l. record { top = y; rest = rest; are = e; leads = record { fits = l; goes = refl } })
+      (λ l. record { top = y; rest = rest; are = e; leads = record { over = l; leaves = refl } }))
+  says Swap = with_two Swap (swapped s) tt (λ y. tt) (λ y x rest e. record { top = y; second = x; rest = rest; are = e; leads = refl })
+  says Iadd = with_two Iadd (combined plus s) tt (λ y. tt) (λ y x rest e. record { top = y; second = x; rest = rest; are = e; leads = refl })
+  says Isub = with_two Isub (combined minus s) tt (λ y. tt) (λ y x rest e. record { top = y; second = x; rest = rest; are = e; leads = refl })
+  says Iand = with_two Iand (combined bit_and s) tt (λ y. tt) (λ y x rest e. record { top = y; second = x; rest = rest; are = e; leads = refl })
   says (Iinc k b) = increase (Iinc k b) k (s.at + 3) b (λ to h. h) (slice_get s.running.locals k) refl
-  says (Ifeq o) = branch (Ifeq o) (λ y. y == 0) o (λ y rest e. record { top = y; rest = rest; are = e; leads = refl }) s.running.operands refl
-  says (Iflt o) = branch (Iflt o) is_negative o (λ y rest e. record { top = y; rest = rest; are = e; leads = refl }) s.running.operands refl
-  says (IfIcmpeq o) = compare o s.running.operands refl
+  says (Ifeq o) = with_top (Ifeq o) (branched (λ y. y == 0) s o) tt (λ y rest e. record { top = y; rest = rest; are = e; leads = refl })
+  says (Iflt o) = with_top (Iflt o) (branched is_negative s o) tt (λ y rest e. record { top = y; rest = rest; are = e; leads = refl })
+  says (IfIcmpeq o) = with_two (IfIcmpeq o) (compared s o) tt (λ y. tt) (λ y x rest e. record { top = y; second = x; rest = rest; are = e; leads = refl })
   says Ireturn = return s.running.back s.callers s.running.operands refl refl refl
-  says Ior = combine Ior bit_or (λ y x rest e. record { top = y; second = x; rest = rest; are = e; leads = refl }) s.running.operands refl
+  says Ior = with_two Ior (combined bit_or s) tt (λ y. tt) (λ y x rest e. record { top = y; second = x; rest = rest; are = e; leads = refl })
   says (Invokevirtual k) = call k (method_at image.text (slice_get image.pool k)) refl
   says (WideIload k) = load (WideIload k) k (s.at + 4) (λ to h. h) (λ left h. h) (slice_get s.running.locals k) refl
-  says (WideIstore k) = store_top (WideIstore k) k (s.at + 4) (λ to h. h) s.running.operands refl
+  says (WideIstore k) = with_top (WideIstore k) (λ xs. stored s k xs (s.at + 4)) tt
+      (λ y rest e. store (WideIstore k) k y rest (s.at + 4) (λ h. record { top = y; rest = rest; are = e; leads = h }))
   says (WideIinc k n) = increase (WideIinc k n) k (s.at + 6) n (λ to h. h) (slice_get s.running.locals k) refl
   says In = room In (taken s) (push (taken s) (next_byte s.untaken) (s.at + 1)) (λ l. record { fits = l; goes = refl }) (λ l. record { over = l; leaves = refl })
-  says Out = give s.running.operands refl
+  says Out = with_top Out (given_out s) tt (λ y rest e. record { top = y; rest = rest; are = e; leads = refl })
   says _ = refl

@@ -1,5 +1,5 @@
 -- What one instruction takes of a machine, and how a run goes on from a boundary or ends after it.
-use Rattle.std.proofs.Common.{◌≡◌, ℕ, zero, suc, ◌+◌, ◌<◌, Bool, true, false, Option, Some, None, List, refl, arith, sym, ◌∙◌, ap, ap₂, subst, inl, inr}
+use Rattle.std.proofs.Common.{◌≡◌, ℕ, suc, ◌+◌, ◌<◌, Bool, true, false, Option, Some, None, List, refl, arith, sym, ◌∙◌, ap, ap₂, subst, inl, inr}
 use Rattle.std.specs.Prelude.{nat_le, ◌==◌, is_some}
 use Rattle.std.proofs.lemmas.Bool.Decides.{nat_tests}
 use Rattle.std.proofs.lemmas.Bool.{cases_lt}
@@ -14,7 +14,34 @@ use Rattle.ijvm_meaning.specs.declared.run.RunEnd.TheVariants as defined
 use Rattle.ijvm_meaning.specs.Prelude.{State, StepOutcome, Goes, Halts, Errs, Limits, Stuck, step_outcome, next_cost, TimedImage, Point, Finish, point_after, finish_from, after_test, after_outcome, completed, stopped}
 use Rattle.ijvm_simulation.specs.Prelude.{point_behind, below, going_on, board_end, IsBoundary, IsEnd, Moment, pass, HasWord, Moves, Stops, StopsHere, StopsBehind, Overruns, ShowsState}
 use Rattle.ijvm_simulation.proofs.Passes.{not_boundary}
-use Rattle.ijvm_simulation.proofs.Turns.{moment_of, run_inside, run_at, IsReady, ready_inside, whole_turn, turns-add, ending_turn, clocks, pass_turns, pass_turns_inside, Shorter, shorter}
+use Rattle.ijvm_simulation.proofs.Turns.{moment_of, run_inside, run_at, IsReady, ready_inside, whole_turn, turns-add, ending_turn, clocks, pass_turns, pass_turns_inside, inside_pass}
+
+-- A run that moves on comes to a boundary.
+module _ {S : Type 0} (m : Meaning S) (words : List ℕ) (IsAt : State → S → World → Type 0) (before : List ℕ)
+    (shows : (s : State) (x : S) (w : World) → IsAt s x w → ShowsState m words IsAt before s x w) (bound : ℕ) (r : MicroRun S) where
+  pub record Arrives (at : Point) (k stalls : ℕ) : Type 0 where
+    pub is : IsBoundary IsAt at (turns m words (Some bound) k r)
+    pub stalled : (turns m words (Some bound) k r).counts.stalls ≡ stalls
+
+  pub arrives : {spent : ℕ} (at : Point) (v : Moves m words IsAt before (moment_of r) spent at.state) → IsReady m bound r →
+      r.counts.cycles + v.n < last_cycles r.counts.boundary + 1024 → r.counts.cycles + spent ≡ at.cycles →
+      r.counts.instructions + number_of (is_some r.counts.boundary) ≡ at.instructions → Arrives at spent v.there.stalls
+  arrives {spent} at v ready nearby counted instructions =
+      let s : ShowsState m words IsAt before at.state v.there.state v.there.world = shows at.state v.there.state v.there.world v.stands in
+      let c : ℕ = r.counts.cycles + v.n + 1 in
+      let cycles : c ≡ at.cycles = omega (arith, v.spent_is) in
+      let e : turns m words (Some bound) (suc v.n) r ≡ run_at m r c v.there = pass_turns m words bound v.n r v.there c refl ready nearby v.passes s.boundary in
+      let many : suc v.n ≡ spent = omega (arith, v.spent_is) in
+      subst (λ (k : ℕ). Arrives at k v.there.stalls) many (record {
+        is = subst (λ (x : MicroRun S). IsBoundary IsAt at x) (sym e) (record {
+          stands = v.stands;
+          cycles = cycles;
+          instructions = instructions;
+          boundary = λ i. Some (record { cycles = cycles i; at = s.address i; sp = s.sp i; lv = s.lv i });
+          not_ended = refl;
+        });
+        stalled = ap (λ (x : MicroRun S). x.counts.stalls) e;
+      })
 
 -- what the states of a run have in common: each is one before it that goes on, and none is stuck
 pub record Keeps (p : TimedImage) (Fine : State → Type 0) : Type 0 where
@@ -35,15 +62,19 @@ pub record Law {S : Type 0} (m : Meaning S) (words : List ℕ) (IsAt : State →
 
 module _ {S : Type 0} (m : Meaning S) (words : List ℕ) (IsAt : State → S → World → Type 0) (before : List ℕ) (p : TimedImage) (Fine : State → Type 0)
     (law : Law m words IsAt before p Fine) (keep : Keeps p Fine) (bound : ℕ) (at : Point) (r : MicroRun S) (h : IsBoundary IsAt at r) (fine : Fine at.state) where
-  ready : nat_le bound at.cycles ≡ false → HasWord m r.state → IsReady m bound r
+  pub ready : nat_le bound at.cycles ≡ false → HasWord m r.state → IsReady m bound r
   ready t begins =
       let e : nat_le bound r.counts.cycles ≡ false = ap (nat_le bound) h.cycles ∙ t in
       record { no_bound = grind (arith, nat_tests); no_halt = begins.no_halt; no_err = begins.no_err; not_ended = h.not_ended }
 
-  near : (n : ℕ) → n < 1024 → r.counts.cycles + n < last_cycles r.counts.boundary + 1024
+  pub near : (n : ℕ) → n < 1024 → r.counts.cycles + n < last_cycles r.counts.boundary + 1024
   near n l =
       let e : last_cycles r.counts.boundary ≡ at.cycles = ap last_cycles h.boundary in
       omega (arith, h.cycles)
+
+  -- the instructions that are counted at the next boundary
+  pub instructions : r.counts.instructions + number_of (is_some r.counts.boundary) ≡ at.instructions + 1
+  instructions = ap₂ (λ (i : ℕ) (b : Option Boundary). i + number_of (is_some b)) h.instructions h.boundary
 
   -- n + 1 cycles inside an instruction
   inside_turns : (n : ℕ) (there : Moment S) → nat_le bound at.cycles ≡ false → HasWord m r.state → n < 1023 → pass m words n (moment_of r) ≡ Some there →
@@ -59,39 +90,16 @@ module _ {S : Type 0} (m : Meaning S) (words : List ℕ) (IsAt : State → S →
     pub is : IsBoundary IsAt (point_after p at to) (turns m words (Some bound) k r)
     pub inside : (j : ℕ) → 0 < j → j < k → m.is_boundary (turns m words (Some bound) j r).state ≡ false
 
-  -- no boundary is inside a pass
-  inside_pass : (n : ℕ) (q : Moment S) → nat_le bound at.cycles ≡ false → HasWord m r.state → n < 1024 → pass m words n (moment_of r) ≡ Some q →
-      (j : ℕ) → 0 < j → j < suc n → m.is_boundary (turns m words (Some bound) j r).state ≡ false
-  inside_pass n q t begins short passes zero pos l = absurd (omega arith)
-  inside_pass n q t begins short passes (suc j) pos l =
-      let lt : j < n = omega arith in
-      let s : Shorter m words bound j (moment_of r) = shorter m words bound n j (moment_of r) q lt passes in
-      let off : m.is_boundary s.to.state ≡ false = not_boundary m s.to.state s.inside in
-      let e : turns m words (Some bound) (suc j) r ≡ run_inside m r (r.counts.cycles + j + 1) s.to =
-      pass_turns_inside m words bound j r s.to (r.counts.cycles + j + 1) refl (ready t begins) (near j (omega arith)) s.passes off in
-      ap (λ (x : MicroRun S). m.is_boundary x.state) e ∙ off
-
   pub moved : (to : State) → nat_le bound at.cycles ≡ false → step_outcome p.image p.stack_end at.state ≡ Goes to → Moved to
   moved to t goes =
       let v : Moves m words IsAt before (moment_of r) (next_cost p.image p.timing at.state) to = law.goes at.state to (moment_of r) fine h.stands goes in
-      let shows : ShowsState m words IsAt before to v.there.state v.there.world = law.shows to v.there.state v.there.world v.stands in
-      let c : ℕ = r.counts.cycles + v.n + 1 in
-      let e : turns m words (Some bound) (suc v.n) r ≡ run_at m r c v.there =
-      pass_turns m words bound v.n r v.there c refl (ready t v.begins) (near v.n v.short) v.passes shows.boundary in
-      let cycles : c ≡ at.cycles + next_cost p.image p.timing at.state = omega (arith, v.spent_is, h.cycles) in
       record {
-        k = suc v.n;
-        spent = v.spent_is ∙ omega arith;
-        some = omega arith;
-        is = subst (λ (x : MicroRun S). IsBoundary IsAt (point_after p at to) x) (sym e)
-            (record {
-              stands = v.stands;
-              cycles = cycles;
-              instructions = ap₂ (λ (i : ℕ) (b : Option Boundary). i + number_of (is_some b)) h.instructions h.boundary;
-              boundary = λ i. Some (record { cycles = cycles i; at = shows.address i; sp = shows.sp i; lv = shows.lv i });
-              not_ended = refl;
-            });
-        inside = inside_pass v.n v.there t v.begins v.short v.passes;
+        k = next_cost p.image p.timing at.state;
+        spent = refl;
+        some = omega (arith, v.spent_is);
+        is = (arrives m words IsAt before law.shows bound r (point_after p at to) v (ready t v.begins) (near v.n v.short)
+            (omega (arith, h.cycles)) instructions).is;
+        inside = λ j pos l. inside_pass m words bound v.n r v.there (ready t v.begins) (near v.n v.short) v.passes j pos (omega (arith, v.spent_is));
       }
 
   -- the run ends after this boundary, where the definition's does
@@ -128,7 +136,7 @@ module _ {S : Type 0} (m : Meaning S) (words : List ℕ) (IsAt : State → S →
         some = omega arith;
         is = subst (λ (x : MicroRun S). IsEnd before f x) (sym whole) is;
         quiet = λ j pos l. elim (cases_lt j (suc n)) [
-          | inl low ↦ inside_pass n there t begins (omega (arith, short)) passes j pos low
+          | inl low ↦ inside_pass m words bound n r there (ready t begins) (near n (omega (arith, short))) passes j pos low
           | inr high ↦
               let here : j ≡ suc n = omega arith in
               ap (λ (i : ℕ). m.is_boundary (turns m words (Some bound) i r).state) here
@@ -143,7 +151,7 @@ module _ {S : Type 0} (m : Meaning S) (words : List ℕ) (IsAt : State → S →
       record {
         end = refl;
         cycles = λ ne. omega (arith, v.spent_is, h.cycles);
-        instructions = rw t (ap₂ (λ (i : ℕ) (b : Option Boundary). i + number_of (is_some b)) h.instructions h.boundary);
+        instructions = rw t (instructions);
         boundary = h.boundary;
         untaken = ap (λ (w : World). w.untaken) v.world ∙ shown.untaken;
         given = ap (λ (w : World). w.given) v.world ∙ shown.given;
@@ -166,7 +174,7 @@ module _ {S : Type 0} (m : Meaning S) (words : List ℕ) (IsAt : State → S →
             (record {
               end = refl;
               cycles = λ ne. omega (arith, v.spent_is, h.cycles);
-              instructions = rw done (ap₂ (λ (i : ℕ) (b : Option Boundary). i + number_of (is_some b)) h.instructions h.boundary);
+              instructions = rw done (instructions);
               boundary = h.boundary;
               untaken = shown.untaken;
               given = shown.given;

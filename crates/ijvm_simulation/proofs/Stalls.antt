@@ -1,20 +1,20 @@
 -- The stalls that a clocked machine has counted at each boundary of its run.
-use Rattle.std.proofs.Common.{◌≡◌, ℕ, suc, ◌+◌, ◌<◌, Some, false, List, refl, arith, sym, ◌∙◌, ap, subst, zero-add}
+use Rattle.std.proofs.Common.{◌≡◌, ℕ, suc, ◌+◌, ◌<◌, Some, false, List, refl, arith, sym, ◌∙◌, ap, ap₂, subst, zero-add}
 use Rattle.std.specs.Prelude.{nat_le}
 use Rattle.std.proofs.lemmas.Bool.Decides.{nat_tests}
 use Rattle.console_port.specs.Prelude.{World}
-use Rattle.mic_clock.specs.Prelude.{Meaning, MicroRun, turns, last_cycles}
+use Rattle.mic_clock.specs.Prelude.{Meaning, MicroRun, turns}
 use Rattle.ijvm_image.specs.Prelude.{ImageView}
 use Rattle.ijvm_instr.specs.declared.instr.Instr.{Instr}
 use Rattle.ijvm_instr.specs.Prelude.{instr_at}
 use Rattle.ijvm_meaning.specs.Prelude.{State, start_of, Goes, Limits, step_outcome, Timing, cost, cost_at, next_cost, TimedImage, Point, point_after, first_point}
 use Rattle.verifier_facts.specs.Prelude.{VerifiedView}
-use Rattle.ijvm_simulation.specs.Prelude.{Origin, Went, Overran, program, Loads, Fine, IsNext, IsBoundary, Law, ShowsState, Boots, reset_moment, MovesWithStalls, OverrunsWithStalls, TakesWithStalls, HasStalled, StoppedWithin, Booted, Behind}
+use Rattle.ijvm_simulation.specs.Prelude.{Origin, Went, Overran, program, Loads, Fine, IsNext, IsBoundary, Law, Boots, reset_moment, MovesWithStalls, OverrunsWithStalls, TakesWithStalls, HasStalled, StoppedWithin, Booted, Behind}
 use Rattle.mic_image_board.specs.Prelude.{reset_run}
-use Rattle.ijvm_simulation.proofs.Turns.{moment_of, run_at, IsReady, turns-add, pass_turns}
-use Rattle.ijvm_simulation.proofs.Instruction.{Law as BoundaryLaw, Keeps, Moved, moved, overrun}
+use Rattle.ijvm_simulation.proofs.Turns.{moment_of, turns-add}
+use Rattle.ijvm_simulation.proofs.Instruction.{Law as BoundaryLaw, Keeps, arrives, ready, near, instructions, overrun}
 use Rattle.ijvm_simulation.proofs.Next.{Known, fine_start, keeps, next_of, said, boundary_law}
-use Rattle.ijvm_simulation.proofs.Boots.{booted}
+use Rattle.ijvm_simulation.proofs.Boots.{ready as ready_first}
 
 module _ {S : Type 0} (m : Meaning S) (store : List ℕ) (IsAt : State → S → World → Type 0) (o : Origin) (v : VerifiedView) (loads : Loads v o) (known : Known)
     (timing : Timing) (law : Law m store IsAt o.given timing v o) (stalls_of : ImageView → Instr → ℕ) (takes : TakesWithStalls m store IsAt o.given timing stalls_of v o (λ i. Unit {0})) (bound : ℕ) where
@@ -30,41 +30,29 @@ module _ {S : Type 0} (m : Meaning S) (store : List ℕ) (IsAt : State → S →
     pub fine : Fine v at.state
     pub stalled : r.counts.stalls ≡ stalls
 
-  -- the stalls after an instruction
-  stalls_behind : (at : Point) (stalls : ℕ) (r : MicroRun S) (i : Instr) (to : State) → IsHere at stalls r → at.cycles < bound →
-      instr_at v.image.text at.state.at ≡ Some i → step_outcome v.image v.map.stack_end at.state ≡ Goes to →
-      (turns m store (Some bound) (next_cost v.image timing at.state) r).counts.stalls ≡ stalls + stalls_of v.image i
-  stalls_behind at stalls r i to h below code goes =
-      let is : IsNext v o at.state i = next_of v o loads known at.state h.fine i code in
-      let went : Went v.image v.map.stack_end at.state to i = said v o loads known at.state i (Goes to) code goes in
-      let w : MovesWithStalls m store IsAt o.given (moment_of r) (cost v.image timing i at.state) (stalls_of v.image i) to =
-      takes.goes at.state to (moment_of r) i tt h.fine is h.boundary.stands went in
-      let shows : ShowsState m store IsAt o.given to w.moves.there.state w.moves.there.world = law.shows to w.moves.there.state w.moves.there.world w.moves.stands in
-      let t : nat_le bound at.cycles ≡ false = grind (arith, nat_tests) in
-      let later : nat_le bound r.counts.cycles ≡ false = ap (nat_le bound) h.boundary.cycles ∙ t in
-      let last : last_cycles r.counts.boundary ≡ at.cycles = ap last_cycles h.boundary.boundary in
-      let ready : IsReady m bound r =
-      record { no_bound = grind (arith, nat_tests); no_halt = w.moves.begins.no_halt; no_err = w.moves.begins.no_err; not_ended = h.boundary.not_ended } in
-      let c : ℕ = r.counts.cycles + w.moves.n + 1 in
-      let e : turns m store (Some bound) (suc w.moves.n) r ≡ run_at m r c w.moves.there =
-      pass_turns m store bound w.moves.n r w.moves.there c refl ready (omega (arith, h.boundary.cycles, w.moves.short)) w.moves.passes shows.boundary in
-      let spent : next_cost v.image timing at.state ≡ suc w.moves.n = ap (cost_at v.image timing at.state) code ∙ (w.moves.spent_is ∙ omega arith) in
-      ap (λ (k : ℕ). (turns m store (Some bound) k r).counts.stalls) spent
-      ∙ (ap (λ (x : MicroRun S). x.counts.stalls) e ∙ (w.stalled ∙ ap (λ (k : ℕ). k + stalls_of v.image i) h.stalled))
+  abbrev keep : Keeps p (Fine v)
+  keep = keeps v timing loads.accepted loads.image known
 
+  -- the boundary after an instruction
   behind : (at : Point) (stalls : ℕ) (r : MicroRun S) (i : Instr) (to : State) → IsHere at stalls r → at.cycles < bound →
       instr_at v.image.text at.state.at ≡ Some i → step_outcome v.image v.map.stack_end at.state ≡ Goes to →
       IsHere (point_after p at to) (stalls + stalls_of v.image i) (turns m store (Some bound) (next_cost v.image timing at.state) r)
   behind at stalls r i to h below code goes =
+      let is : IsNext v o at.state i = next_of v o loads known at.state h.fine i code in
+      let went : Went v.image v.map.stack_end at.state to i = said v o loads known at.state i (Goes to) code goes in
+      let w : MovesWithStalls m store IsAt o.given (moment_of r) (cost v.image timing i at.state) (stalls_of v.image i) to =
+      takes.goes at.state to (moment_of r) i tt h.fine is h.boundary.stands went in
       let t : nat_le bound at.cycles ≡ false = grind (arith, nat_tests) in
-      let keep : Keeps p (Fine v) = keeps v timing loads.accepted loads.image known in
-      let on : Moved m store IsAt o.given p (Fine v) each keep bound at r h.boundary h.fine to =
-      moved m store IsAt o.given p (Fine v) each keep bound at r h.boundary h.fine to t goes in
-      record {
-        boundary = subst (λ (k : ℕ). IsBoundary IsAt (point_after p at to) (turns m store (Some bound) k r)) (sym on.spent) on.is;
+      let spent : cost v.image timing i at.state ≡ next_cost v.image timing at.state = ap (cost_at v.image timing at.state) (sym code) in
+      let on = arrives m store IsAt o.given law.shows bound r (point_after p at to) w.moves
+      (ready m store IsAt o.given p (Fine v) each keep bound at r h.boundary h.fine t w.moves.begins)
+      (near m store IsAt o.given p (Fine v) each keep bound at r h.boundary h.fine w.moves.n w.moves.short)
+      (ap₂ (λ (c d : ℕ). c + d) h.boundary.cycles spent) (instructions m store IsAt o.given p (Fine v) each keep bound at r h.boundary h.fine) in
+      subst (λ (k : ℕ). IsHere (point_after p at to) (stalls + stalls_of v.image i) (turns m store (Some bound) k r)) spent (record {
+        boundary = on.is;
         fine = keep.stays at.state to h.fine goes;
-        stalled = stalls_behind at stalls r i to h below code goes;
-      }
+        stalled = on.stalled ∙ (w.stalled ∙ ap (λ (k : ℕ). k + stalls_of v.image i) h.stalled);
+      })
 
   -- an instruction that the stack's end cuts short
   cut_behind : (at : Point) (stalls : ℕ) (r : MicroRun S) (i : Instr) (left : State) → IsHere at stalls r → at.cycles < bound →
@@ -75,7 +63,7 @@ module _ {S : Type 0} (m : Meaning S) (store : List ℕ) (IsAt : State → S →
       let over : Overran v.image v.map.stack_end at.state left i = said v o loads known at.state i (Limits left) code limits in
       let w : OverrunsWithStalls m store IsAt o.given (moment_of r) (stalls_of v.image i) left = takes.limits at.state left (moment_of r) i tt h.fine is h.boundary.stands over in
       let t : nat_le bound at.cycles ≡ false = grind (arith, nat_tests) in
-      let whole = overrun m store IsAt o.given p (Fine v) each (keeps v timing loads.accepted loads.image known) bound at r h.boundary h.fine left w.overruns t in
+      let whole = overrun m store IsAt o.given p (Fine v) each keep bound at r h.boundary h.fine left w.overruns t in
       (suc w.overruns.n + 1, subst (λ (x : MicroRun S). StoppedWithin (stalls + stalls_of v.image i) x) (sym whole) (record { end = refl; stalled = omega (arith, w.stalled, h.stalled) }))
 
   module _ (entry booting : ℕ) (input : List ℕ) (boots : MovesWithStalls m store IsAt o.given (reset_moment m entry v.main_locals o input) timing.boot booting (start_of v.main_locals input))
@@ -85,18 +73,9 @@ module _ {S : Type 0} (m : Meaning S) (store : List ℕ) (IsAt : State → S →
 
     first : IsHere (first_point p v.main_locals input) booting (turns m store (Some bound) timing.boot start)
     first =
-        let w = boots.moves in
-        let shows : ShowsState m store IsAt o.given (start_of v.main_locals input) w.there.state w.there.world = law.shows (start_of v.main_locals input) w.there.state w.there.world w.stands in
-        let outside : m.is_boundary start.state ≡ false = off.off in
-        let ready : IsReady m bound start = record { no_bound = grind (arith, nat_tests); no_halt = w.begins.no_halt; no_err = w.begins.no_err; not_ended = refl } in
-        let e : turns m store (Some bound) (suc w.n) start ≡ run_at m start (w.n + 1) w.there =
-        pass_turns m store bound w.n start w.there (w.n + 1) (omega arith) ready (omega (arith, w.short)) w.passes shows.boundary in
-        let many : timing.boot ≡ suc w.n = w.spent_is ∙ omega arith in
-        record {
-          boundary = booted m store IsAt p entry v.main_locals o input off law.shows bound;
-          fine = fine_start v known input;
-          stalled = ap (λ (k : ℕ). (turns m store (Some bound) k start).counts.stalls) many ∙ (ap (λ (x : MicroRun S). x.counts.stalls) e ∙ (boots.stalled ∙ zero-add booting));
-        }
+        let on = arrives m store IsAt o.given law.shows bound start (first_point p v.main_locals input) boots.moves
+        (ready_first m store IsAt p entry v.main_locals o input off law.shows bound) (omega (arith, boots.moves.short)) (omega arith) refl in
+        record { boundary = on.is; fine = fine_start v known input; stalled = on.stalled ∙ (boots.stalled ∙ zero-add booting) }
 
     here : (at : Point) (stalls : ℕ) → HasStalled booting stalls_of p bound (first_point p v.main_locals input) at stalls → IsHere at stalls (turns m store (Some bound) at.cycles start)
     here at stalls (Booted at' same) = subst (λ (x : Point). IsHere x booting (turns m store (Some bound) x.cycles start)) (sym same) first

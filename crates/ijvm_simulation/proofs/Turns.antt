@@ -143,3 +143,12 @@ module _ {State : Type 0} (m : Meaning State) (program : List ℕ) (bound : ℕ)
       let i : Inner m program (pass m program n) (stalls_at m program p) (outcome_at m program p) q = inner m program (pass m program n) _ _ q h in
       let s : Shorter k i.mid = shorter n k i.mid q (omega arith) i.rest in
       record { to = s.to; passes = pass_on m program k p (sym i.counted) i.is i.inside s.passes; inside = s.inside }
+
+  -- no boundary is inside a pass
+  pub inside_pass : (n : ℕ) (r : MicroRun State) (q : Moment State) → IsReady m bound r → r.counts.cycles + n < last_cycles r.counts.boundary + 1024 →
+      pass m program n (moment_of r) ≡ Some q → (j : ℕ) → 0 < j → j < suc n → m.is_boundary (turns m program (Some bound) j r).state ≡ false
+  inside_pass n r q ready nearby passes zero pos l = absurd (omega arith)
+  inside_pass n r q ready nearby passes (suc j) pos l =
+      let s : Shorter j (moment_of r) = shorter n j (moment_of r) q (omega arith) passes in
+      let off : m.is_boundary s.to.state ≡ false = not_boundary m s.to.state s.inside in
+      ap (λ (x : MicroRun State). m.is_boundary x.state) (pass_turns_inside j r s.to (r.counts.cycles + j + 1) refl ready (omega arith) s.passes off) ∙ off

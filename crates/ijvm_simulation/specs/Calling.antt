@@ -11,7 +11,7 @@ use Rattle.ijvm_image.specs.Prelude.{method_at}
 use Rattle.ijvm_instr.specs.declared.instr.Instr.TheVariants.{Ireturn}
 use Rattle.ijvm_meaning.specs.Prelude.{Frame, State, base, kept_words, called as frame_of_call, onto, in_method}
 use Rattle.verifier_facts.specs.Prelude.{VerifiedView}
-use Rattle.ijvm_simulation.specs.Stands.{Origin, RegistersStand, FramesStand, IsLinked, IsMemory, caller_lv}
+use Rattle.ijvm_simulation.specs.Stands.{Origin, RegistersStand, FramesStand, IsLinked, caller_lv}
 use Rattle.ijvm_simulation.specs.Verified.{Loads, IsNext}
 use Rattle.ijvm_simulation.specs.Outcomes.{WithMethod, Returns, Fits, Overflows}
 use Rattle.ijvm_simulation.specs.Words.{next_is, minus_is, byte_bound}
@@ -21,7 +21,7 @@ use Rattle.ijvm_simulation.specs.Images as images
 use Rattle.ijvm_simulation.specs.Writes.{linked_words, memory_set, entered, pushed}
 use Rattle.ijvm_simulation.specs.Stack.{place_behind, frame_with, above, frames_at, memory_at, Top}
 use Rattle.ijvm_simulation.specs.Stack as stack
-use Rattle.ijvm_simulation.specs.Leaves.{From, constant_from}
+use Rattle.ijvm_simulation.specs.Leaves.{constant_from}
 
 module _ {v : VerifiedView} {o : Origin} {s : State} {sp lv cpp tos : ℕ} {w : World} (loads : Loads v o)
     (h : RegistersStand o s sp lv cpp tos w) where

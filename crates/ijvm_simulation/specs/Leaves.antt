@@ -12,7 +12,7 @@ use Rattle.ijvm_meaning.specs.Prelude.{Frame, State, IsWord, frames_of, operands
 use Rattle.verifier_facts.specs.Prelude.{VerifiedView}
 use Rattle.ijvm_simulation.specs.Stands.{Origin, RegistersStand, FramesStand, IsTop}
 use Rattle.ijvm_simulation.specs.Verified.{Loads, Fine}
-use Rattle.ijvm_simulation.specs.Outcomes.{WithTop, WithTwo, WithLocal, WithConstant, Stores, Fits, Overflows, push}
+use Rattle.ijvm_simulation.specs.Outcomes.{WithTop, WithTwo, WithLocal, Stores, Fits, Overflows, push}
 use Rattle.ijvm_simulation.specs.Words.{next_is, plus_is, plus_comm, difference_zero}
 use Rattle.ijvm_simulation.specs.Accesses.{IsMapEnd, IsWordAccess, IsConsoleAccess, console_address, console, access, port, limit}
 use Rattle.ijvm_simulation.specs.Methods.{IsConstant}

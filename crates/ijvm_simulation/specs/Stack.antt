@@ -1,7 +1,7 @@
 -- What a machine at a boundary knows of its stack, and what it stands for after a push, and after operands are taken off.
 use Rattle.std.proofs.Common.{◌≡◌, ℕ, suc, ◌+◌, ◌-◌, ◌<◌, ◌≤◌, List, [], ◌∷◌, ◌++◌, length, refl, arith, ◌∙◌, ap, sym, subst}
 use Rattle.std.specs.Prelude.{slice_index, slice_set}
-use Rattle.mic_words.specs.Prelude.{next, before}
+use Rattle.mic_words.specs.Prelude.{before}
 use Rattle.console_port.specs.Prelude.{World, read_value}
 use Rattle.ijvm_meaning.specs.Prelude.{Frame, State, frames_of, operands_at, base, moved}
 use Rattle.verifier_facts.specs.Prelude.{VerifiedView}
@@ -117,7 +117,8 @@ module _ {v : VerifiedView} {o : Origin} {s : State} {sp lv cpp tos : ℕ} {w : 
         lv_is = h.lv_is;
         cpp_is = h.cpp_is;
         tos_is = toss;
-        frames = frames_at (frame_with s (y ∷ xs)) s.callers (sym words) (pushed w.words a y (frame_with s xs) s.callers refl (omega (arith, h.memory.long)) frames);
+        frames = frames_at (frame_with s (y ∷ xs)) s.callers (sym words)
+            (pushed w.words a y (frame_with s xs) s.callers refl (omega (arith, h.memory.long)) frames);
         memory = memory_at (sym words) (memory_set o.words w.words a y (omega arith) h.memory);
         fits = omega arith;
         untaken = untaken;

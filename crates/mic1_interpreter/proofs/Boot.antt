@@ -1,5 +1,5 @@
 -- From the reset of a Mic-1 to its first boundary.
-use Rattle.std.proofs.Common.{◌≡◌, ℕ, ◌+◌, None, List, [], ◌∷◌, length, refl, arith, ap}
+use Rattle.std.proofs.Common.{◌≡◌, ℕ, None, List, [], ◌∷◌, length, refl, arith, ap}
 use Rattle.mic_words.specs.declared.machine.Machine.TheVariants.{Mic1}
 use Rattle.mic_words.specs.Prelude.{next, wrap}
 use Rattle.console_port.specs.Prelude.{fetch_refusal, byte_in}

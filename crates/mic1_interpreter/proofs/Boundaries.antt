@@ -89,7 +89,7 @@ at {o = o} {v} {s} {q} i has loads n h =
     let fourth = place_on loads h.holds {b = s.at + 4} third (omega arith) (omega arith) in
     let fifth = place_on loads h.holds {b = s.at + 5} fourth (omega arith) (omega arith) in
     let sixth = place_on loads h.holds {b = s.at + 6} fifth (omega arith) (omega arith) in
-    record { has = has; loads = loads; stands = h; holds = h.holds; inside = inside; first = first; second = second; third = third; fourth = fourth; fifth = fifth; sixth = sixth }
+    assumption
 
 module _ {program : List ℕ} {o : Origin} {v : VerifiedView} {s : State} {q : Moment Micro} (a : At program o v s q) where
   -- what the instruction takes where it goes on, and where the stack has no room

@@ -4,7 +4,5 @@ pub mod Boundaries
 pub mod Boot
 pub mod Output
 pub mod Instructions
-pub mod Jumps
-pub mod Calls
 pub mod Ends
 pub mod Store

@@ -19,6 +19,7 @@ pub step_grows : (word : ℕ) (m : Micro) (w : World) → OnDone (λ (v : World)
 unfolding step_of_word
 step_grows word m w = by_refusal (refusal (length w.words) (statement_of machines.Mic1 word) m)
   where
-    by_refusal : (r : Option Refusal) → OnDone (λ (v : World). Grows w.given v.given) (outcome r (clock (length w.words) (statement_of machines.Mic1 word) m w) (world_after (length w.words) (statement_of machines.Mic1 word) m w))
+    by_refusal : (r : Option Refusal) → OnDone (λ (v : World). Grows w.given v.given)
+        (outcome r (clock (length w.words) (statement_of machines.Mic1 word) m w) (world_after (length w.words) (statement_of machines.Mic1 word) m w))
     by_refusal (Some why) = tt
     by_refusal None = access_grows (length w.words) (statement_of machines.Mic1 word).part.mem (ports_of (settled (statement_of machines.Mic1 word).part m)) w

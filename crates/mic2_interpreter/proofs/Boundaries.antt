@@ -1,5 +1,5 @@
 -- Mic-2 between two boundaries: what it knows at the one, and when a symbolic run comes to the next.
-use Rattle.std.proofs.Common.{◌≡◌, ℕ, zero, suc, ◌+◌, ◌<◌, ◌≤◌, ◌++◌, Some, None, true, false, List, [], ◌∷◌, length, refl, arith, ◌∙◌, ap, sym, subst, add-zero}
+use Rattle.std.proofs.Common.{◌≡◌, ℕ, zero, suc, ◌+◌, ◌<◌, ◌≤◌, ◌++◌, Some, None, true, false, List, [], ◌∷◌, length, arith, ◌∙◌, ap, sym, subst, add-zero}
 use Rattle.std.specs.Prelude.{nat_lt, ◌==◌}
 use Rattle.std.proofs.lemmas.Bool.Decides.{nat_tests}
 use Rattle.console_port.specs.Prelude.{World, StackLimit, byte_in}
@@ -107,15 +107,7 @@ pub at : {program : List ℕ} {o : Origin} {v : VerifiedView} {s : State} {q : M
     Stands o s q.state q.world → At program o v s q
 at {o = o} {v} {s} {q} i has loads n h =
     let inside : s.at < 0x10000 = images.inside v o s i loads n in
-    record {
-      has = has;
-      loads = loads;
-      stands = h;
-      holds = h.holds;
-      inside = inside;
-      counts = counts o.words s.at q.state.pc h.ready.pc inside;
-      none = sym (add-zero q.stalls);
-    }
+    assumption (counts o.words s.at q.state.pc h.ready.pc inside, sym (add-zero q.stalls))
 
 module _ {program : List ℕ} {o : Origin} {v : VerifiedView} {s : State} {q : Moment Micro} (a : At program o v s q) where
   -- what the instruction takes where it goes on, and where the stack has no room

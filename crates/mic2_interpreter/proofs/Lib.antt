@@ -3,7 +3,5 @@ pub mod Boundaries
 pub mod Boot
 pub mod Instructions
 pub mod Ends
-pub mod Jumps
-pub mod Calls
 pub mod Output
 pub mod Store

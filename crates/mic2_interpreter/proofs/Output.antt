@@ -28,7 +28,8 @@ step_grows word m w = by_stall (is_stalled s m)
     stall_grows (Some why) = tt
     stall_grows None = grows_not w.given
 
-    clock_grows : (r : Option Refusal) → OnDone (λ (v : World). Grows w.given v.given) (outcome r (clock (length w.words) (statement_of machines.Mic2 word) m w) (world_after (length w.words) (statement_of machines.Mic2 word) m w))
+    clock_grows : (r : Option Refusal) → OnDone (λ (v : World). Grows w.given v.given)
+        (outcome r (clock (length w.words) (statement_of machines.Mic2 word) m w) (world_after (length w.words) (statement_of machines.Mic2 word) m w))
     clock_grows (Some why) = tt
     clock_grows None = access_grows (length w.words) (statement_of machines.Mic2 word).part.mem (ports_given (settled (statement_of machines.Mic2 word) m)) w
 

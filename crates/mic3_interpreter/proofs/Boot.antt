@@ -1,5 +1,5 @@
 -- From the reset of a Mic-3 to its first boundary.
-use Rattle.std.proofs.Common.{◌≡◌, ℕ, ◌+◌, List, [], ◌∷◌, length, refl, arith, ◌∙◌, ap}
+use Rattle.std.proofs.Common.{◌≡◌, ℕ, ◌+◌, List, [], ◌∷◌, refl, arith, ◌∙◌, ap}
 use Rattle.mic_words.specs.Prelude.{plus}
 use Rattle.console_port.specs.Prelude.{byte_in}
 use Rattle.mic3_datapath.specs.Prelude.{mic3_meaning, Pipeline}

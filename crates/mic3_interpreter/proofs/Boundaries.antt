@@ -127,8 +127,7 @@ pub at : {program : List ℕ} {o : Origin} {v : VerifiedView} {s : State} {q : M
     IsNext v o s i → Stands o s q.state q.world → At program o v s q
 at {o = o} {v} {s} {q} i has loads n h =
     let inside : s.at < 0x10000 = images.inside v o s i loads n in
-    let counts = counts o.words s.at q.state.micro.pc h.ready.micro.pc inside in
-    record { has = has; loads = loads; stands = h; holds = h.holds; inside = inside; counts = counts }
+    assumption (counts o.words s.at q.state.micro.pc h.ready.micro.pc inside)
 
 module _ {program : List ℕ} {o : Origin} {v : VerifiedView} {s : State} {q : Moment Pipeline} (a : At program o v s q) where
   -- what the instruction takes where it goes on, and where the stack has no room

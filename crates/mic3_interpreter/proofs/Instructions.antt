@@ -1,25 +1,49 @@
 -- What each instruction takes of the machine.
-use Rattle.std.proofs.Common.{ℕ, ◌+◌, List, [], ◌∷◌, refl, arith, sym, ◌∙◌, ap, inl, inr, ◌≡◌}
-use Rattle.std.specs.Prelude.{bit_and, bit_or}
-use Rattle.mic_words.specs.Prelude.{plus, minus, next, signed_byte}
-use Rattle.console_port.specs.Prelude.{byte_in}
+use Rattle.std.proofs.Common.{ℕ, ◌+◌, List, [], ◌∷◌, refl, arith, sym, ◌∙◌, ap, inl, inr, Bool, ◌==◌, length, ◌*◌, true, false, ◌%◌}
+use Rattle.std.specs.Prelude.{bit_and, bit_or, if◌then◌else◌, slice_index}
+use Rattle.mic_words.specs.Prelude.{plus, minus, next, signed_byte, before, is_negative}
+use Rattle.console_port.specs.Prelude.{byte_in, read_value}
 use Rattle.ijvm_instr.specs.declared.instr.Instr.{Instr}
 use Rattle.ijvm_instr.specs.declared.instr.Instr.TheVariants.{Nop, Bipush, LdcW, Iload, Istore, Pop, Dup, Swap, Iadd, Isub, Iand, Iinc, Ifeq, Iflt, IfIcmpeq, Goto, Ireturn, Ior, Invokevirtual, WideIload, WideIstore, WideIinc, In, Out, Err, Halt}
-use Rattle.ijvm_instr.specs.Prelude.{word_of}
-use Rattle.ijvm_meaning.specs.Prelude.{State}
+use Rattle.ijvm_instr.specs.Prelude.{word_of, target}
+use Rattle.ijvm_meaning.specs.Prelude.{State, moved}
 use Rattle.verifier_facts.specs.Prelude.{VerifiedView}
 use Rattle.mic2_datapath.specs.Prelude.{Micro}
 use Rattle.mic3_datapath.specs.Prelude.{mic3_meaning, Pipeline}
-use Rattle.ijvm_simulation.specs.Prelude.{Loads, Origin, Moment, Takes}
-use Rattle.ijvm_simulation.specs.Leaves.{stays, bipush, dup, popped, operated, swapped, push_full, constant_from, local_from, taken_from}
-use Rattle.ijvm_simulation.specs.Leaves.{pushed_from, full_from, stored, changed, gives}
-use Rattle.ijvm_simulation.specs.Places.{byte_after, pair_after, wide_after, signed_pair_at}
+use Rattle.ijvm_simulation.specs.Prelude.{Loads, Origin, Moment, Takes, jump}
+use Rattle.ijvm_simulation.specs.Leaves.{stays, bipush, dup, popped, operated, swapped, push_full, constant_from, local_from, taken_from, pushed_from, full_from, stored, changed, gives, popped_two, branches_by, branches_equal}
+use Rattle.ijvm_simulation.specs.Places.{byte_after, pair_after, wide_after, signed_pair_at, jumps, place_at, place_on, entry_at}
 use Rattle.mic3_interpreter.specs.Prelude.{mic3_timing, Stands}
 use Rattle.mic3_interpreter.proofs.Store.{Known}
-use Rattle.mic3_interpreter.proofs.Guided.{Issues, HeldUp}
+use Rattle.mic3_interpreter.proofs.Guided.{Issues, HeldUp, Turn, Lacks}
 use Rattle.mic3_interpreter.proofs.Boundaries.{At, GoesOn, IsCut, at, arrives, overruns, alone}
-use Rattle.mic3_interpreter.proofs.Jumps.{goto, ifeq, iflt, if_icmpeq}
-use Rattle.mic3_interpreter.proofs.Calls.{return, invoke, invoke_cut}
+use Rattle.std.proofs.lemmas.Bool.{cases_Bool}
+use Rattle.mic2_fetch_unit.specs.Prelude.{WaitsFirst, Waits, WaitsLate, WaitsOn}
+use Rattle.ijvm_simulation.specs.Images.{lands}
+use Rattle.ijvm_simulation.specs.Calling.{returned, named, called, cut_off}
+
+-- where a branch goes on: at T or at F
+abbrev branch : Bool → ℕ
+branch b = if b then 257 else 1
+
+-- The plans of a jump, and of a branch from the word that tests, where it is taken and where it is not.
+
+abbrev jumping : List Turn
+jumping = Issues ∷ Issues ∷ HeldUp ∷ Lacks WaitsFirst ∷ alone []
+
+abbrev taken : List Turn
+taken = Issues ∷ Issues ∷ HeldUp ∷ alone jumping
+
+abbrev fallen : List Turn
+fallen = Issues ∷ Issues ∷ HeldUp ∷ Issues ∷ alone []
+
+-- The plan of a call: at its fourth statement bytes are lacking once, or twice where the entry is the last byte of a word.
+abbrev lacking : Bool → List Turn → List Turn
+lacking false ks = Lacks Waits ∷ ks
+lacking true ks = Lacks WaitsLate ∷ Lacks WaitsOn ∷ ks
+
+abbrev plan : Bool → List Turn → List Turn
+plan late ks = alone (alone (lacking late (alone (Issues ∷ alone (Issues ∷ Issues ∷ HeldUp ∷ ks)))))
 
 module _ {program : List ℕ} {o : Origin} {v : VerifiedView} {s : State} {q : Moment Pipeline} (a : At program o v s q) where
   abbrev m : Micro
@@ -28,6 +52,21 @@ module _ {program : List ℕ} {o : Origin} {v : VerifiedView} {s : State} {q : M
   -- the byte this far after the opcode
   abbrev byte : ℕ → ℕ
   byte k = byte_in o.words (s.at + k)
+
+  -- the byte at the target, and the one after the jump
+  abbrev there : ℕ
+  there = byte_in o.words (jump o.words s.at)
+
+  abbrev behind : ℕ
+  behind = byte_in o.words (s.at + 3)
+
+  -- The terms of the words of INVOKEVIRTUAL: the method's entry, and what the link word holds.
+
+  abbrev entry : ℕ
+  entry = read_value (length o.words) q.world.words q.world.untaken (plus m.cpp (256 * byte_in o.words m.pc + byte_in o.words (m.pc + 1)))
+
+  abbrev link : ℕ
+  link = next (m.sp + (256 * byte_in o.words (plus entry 2) + byte_in o.words (plus entry 2 + 1)))
 
   goes : (i : Instr) → GoesOn a i
   goes Nop to fine n went = arrives a Nop 0x00 Issues (HeldUp ∷ HeldUp ∷ []) (byte 1 ∷ []) n.reads went (assumption (stays a.loads a.holds (s.at + 1)))
@@ -38,20 +77,15 @@ module _ {program : List ℕ} {o : Origin} {v : VerifiedView} {s : State} {q : M
       let l = popped a.loads a.holds went.are in
       arrives a Pop 0x57 Issues (alone (alone [])) (byte 1 ∷ []) n.reads went.leads (assumption (l.leaves (s.at + 1)))
   goes Dup to fine n went =
-      let l = dup a.loads a.holds went in
-      arrives a Dup 0x59 Issues (alone []) (byte 1 ∷ []) n.reads went.leads.goes (assumption)
+      arrives a Dup 0x59 Issues (alone []) (byte 1 ∷ []) n.reads went.leads.goes (assumption (dup a.loads a.holds went))
   goes Swap to fine n went =
-      let l = swapped a.loads a.holds went in
-      arrives a Swap 0x5F Issues (alone (Issues ∷ Issues ∷ Issues ∷ alone [])) (byte 1 ∷ []) n.reads went.leads (assumption)
+      arrives a Swap 0x5F Issues (alone (Issues ∷ Issues ∷ Issues ∷ alone [])) (byte 1 ∷ []) n.reads went.leads (assumption (swapped a.loads a.holds went))
   goes Iadd to fine n went =
-      let l = operated a.loads a.holds plus went in
-      arrives a Iadd 0x60 Issues (alone (alone [])) (byte 1 ∷ []) n.reads went.leads (assumption)
+      arrives a Iadd 0x60 Issues (alone (alone [])) (byte 1 ∷ []) n.reads went.leads (assumption (operated a.loads a.holds plus went))
   goes Isub to fine n went =
-      let l = operated a.loads a.holds minus went in
-      arrives a Isub 0x64 Issues (alone (alone [])) (byte 1 ∷ []) n.reads went.leads (assumption)
+      arrives a Isub 0x64 Issues (alone (alone [])) (byte 1 ∷ []) n.reads went.leads (assumption (operated a.loads a.holds minus went))
   goes Iand to fine n went =
-      let l = operated a.loads a.holds bit_and went in
-      arrives a Iand 0x7E Issues (alone (alone [])) (byte 1 ∷ []) n.reads went.leads (assumption)
+      arrives a Iand 0x7E Issues (alone (alone [])) (byte 1 ∷ []) n.reads went.leads (assumption (operated a.loads a.holds bit_and went))
   goes Ior to fine n went =
       let l = operated a.loads a.holds bit_or went in
       elim n.reads [
@@ -83,12 +117,67 @@ module _ {program : List ℕ} {o : Origin} {v : VerifiedView} {s : State} {q : M
       (signed_pair_at o.words (plus (plus m.pc 1) 2) (s.at + 4) (s.at + 5) a.counts.p12 (omega arith) ∙ sym n.reads.3) in
       arrives a (WideIinc k z) 0xC4 Issues (Issues ∷ Issues ∷ alone (alone [])) (0x84 ∷ byte 6 ∷ [])
       n.reads.0 went.leads (assumption (a.counts.p0.byte ∙ n.reads.1))
-  goes (Goto z) to fine n went = goto a z to fine n went
-  goes (Ifeq z) to fine n went = ifeq a z to fine n went
-  goes (Iflt z) to fine n went = iflt a z to fine n went
-  goes (IfIcmpeq z) to fine n went = if_icmpeq a z to fine n went
-  goes Ireturn to fine n went = return a to fine n went
-  goes (Invokevirtual k) to fine n went = invoke a k to fine n went
+  goes (Goto z) to fine n went =
+      let land = lands v o s z a.loads n.reads.1 (n.finds.inside (target s.at z) (inr (z, refl, refl))) in
+      let j = jumps a.stands.ready.micro.low a.counts land.inside in
+      arrives a (Goto z) 0xA7 Issues (HeldUp ∷ HeldUp ∷ jumping) (there ∷ []) n.reads.0 (ap (moved s s.running.operands) land.is ∙ went)
+      (assumption (stays a.loads a.holds (jump o.words s.at)))
+  goes (Ifeq z) to fine n went =
+      let land = lands v o s z a.loads n.reads.1 (n.finds.inside (target s.at z) (inr (z, refl, refl))) in
+      let j = jumps a.stands.ready.micro.low a.counts land.inside in
+      let l = popped a.loads a.holds went.are in
+      let b = branches_by a.loads a.holds (λ y. y == 0) land went in
+      let spent : Bool → ℕ = λ e. if e then 17 else 11 in
+      elim (cases_Bool (q.state.micro.tos == 0)) [
+        | inl t ↦ arrives a (Ifeq z) 0x99 Issues (alone taken) (257 ∷ there ∷ []) n.reads.0 (b.taken t).0
+            (assumption (ap branch t, ap spent (b.taken t).1, l.leaves (jump o.words s.at)))
+        | inr t ↦ arrives a (Ifeq z) 0x99 Issues (alone fallen) (1 ∷ behind ∷ []) n.reads.0 (b.falls t).0
+            (assumption (ap branch t, ap spent (b.falls t).1, l.leaves (s.at + 3)))
+      ]
+  goes (Iflt z) to fine n went =
+      let land = lands v o s z a.loads n.reads.1 (n.finds.inside (target s.at z) (inr (z, refl, refl))) in
+      let j = jumps a.stands.ready.micro.low a.counts land.inside in
+      let l = popped a.loads a.holds went.are in
+      let b = branches_by a.loads a.holds is_negative land went in
+      let spent : Bool → ℕ = λ e. if e then 17 else 11 in
+      elim (cases_Bool (is_negative q.state.micro.tos)) [
+        | inl t ↦ arrives a (Iflt z) 0x9B Issues (alone taken) (257 ∷ there ∷ []) n.reads.0 (b.taken t).0
+            (assumption (ap branch t, ap spent (b.taken t).1, l.leaves (jump o.words s.at)))
+        | inr t ↦ arrives a (Iflt z) 0x9B Issues (alone fallen) (1 ∷ behind ∷ []) n.reads.0 (b.falls t).0
+            (assumption (ap branch t, ap spent (b.falls t).1, l.leaves (s.at + 3)))
+      ]
+  goes (IfIcmpeq z) to fine n went =
+      let land = lands v o s z a.loads n.reads.1 (n.finds.inside (target s.at z) (inr (z, refl, refl))) in
+      let j = jumps a.stands.ready.micro.low a.counts land.inside in
+      let l = popped_two a.loads a.holds went.are in
+      let b = branches_equal a.loads a.holds fine land went in
+      let spent : Bool → ℕ = λ e. if e then 23 else 17 in
+      elim (cases_Bool (minus q.state.micro.tos (read_value (length o.words) q.world.words q.world.untaken (before q.state.micro.sp)) == 0)) [
+        | inl t ↦ arrives a (IfIcmpeq z) 0x9F Issues (HeldUp ∷ HeldUp ∷ alone (Issues ∷ alone taken)) (257 ∷ there ∷ []) n.reads.0 (b.taken t).0
+            (assumption (ap branch t, ap spent (b.taken t).1, l.leaves (jump o.words s.at)))
+        | inr t ↦ arrives a (IfIcmpeq z) 0x9F Issues (HeldUp ∷ HeldUp ∷ alone (Issues ∷ alone fallen)) (1 ∷ behind ∷ []) n.reads.0 (b.falls t).0
+            (assumption (ap branch t, ap spent (b.falls t).1, l.leaves (s.at + 3)))
+      ]
+  goes Ireturn to fine n went =
+      let l = returned a.loads a.holds n went in
+      let p0 = place_at o.words _ went.back l.back (omega (arith, l.inside)) in
+      let p1 = place_on 1 (went.back + 1) p0 refl (omega (arith, l.inside)) in
+      arrives a Ireturn 0xAC Issues (alone (alone (alone (Issues ∷ alone (Issues ∷ alone []))))) (byte_in o.words went.back ∷ []) n.reads
+      went.with_top.leads (assumption)
+  goes (Invokevirtual k) to fine n went =
+      let f = named a.loads a.holds k went.found (pair_after m.cpp a.counts n.reads.1) in
+      let e = entry_at went.method f.entry f.whole f.params f.others in
+      let l = called a.loads a.holds {link = link} went f e.params e.others refl a.counts.p2.is in
+      let stands = l.leaves m.tos in
+      let late = ap (λ (j : ℕ). j % 4 == 3) (f.entry ∙ sym f.pool) in
+      let spent : Bool → ℕ = λ b. if b then 24 else 23 in
+      let gs : List ℕ = byte_in o.words (went.method.entry + 4) ∷ [] in
+      elim (cases_Bool (slice_index v.image.pool k % 4 == 3)) [
+        | inl t ↦ arrives a (Invokevirtual k) 0xB6 Issues (plan true (Issues ∷ Issues ∷ alone [])) gs n.reads.0 went.leads.goes
+            (assumption (late ∙ t, ap spent t))
+        | inr t ↦ arrives a (Invokevirtual k) 0xB6 Issues (plan false (Issues ∷ Issues ∷ alone [])) gs n.reads.0 went.leads.goes
+            (assumption (late ∙ t, ap spent t))
+      ]
   goes In to fine n went =
       let l = pushed_from a.loads a.holds (taken_from a.loads a.holds) went in
       arrives a In 0xFC Issues (HeldUp ∷ HeldUp ∷ alone (Issues ∷ alone (alone []))) (byte 1 ∷ []) n.reads went.goes (assumption)
@@ -115,7 +204,24 @@ module _ {program : List ℕ} {o : Origin} {v : VerifiedView} {s : State} {q : M
       let l = full_from a.loads a.holds (local_from a.loads a.holds k over.set (wide_after m.lv a.counts n.reads.2)) over.leads in
       overruns a left 0xC4 (next m.sp) Issues (Issues ∷ alone (Issues ∷ HeldUp ∷ [])) (0x15 ∷ byte_in o.words (plus (plus m.pc 1) 2) ∷ []) HeldUp
       n.reads.0 (assumption (a.counts.p0.byte ∙ n.reads.1))
-  limits (Invokevirtual k) left n over = invoke_cut a k left n over
+  limits (Invokevirtual k) left n over =
+      let f = named a.loads a.holds k over.found (pair_after m.cpp a.counts n.reads.1) in
+      let e = entry_at over.method f.entry f.whole f.params f.others in
+      let l = cut_off a.loads a.holds {link = link} over f e.params e.others refl in
+      let late = ap (λ (j : ℕ). j % 4 == 3) (f.entry ∙ sym f.pool) in
+      let cut = overruns a left 0xB6 in
+      let three : List Turn = Issues ∷ Issues ∷ Issues ∷ [] in
+      let gs : List ℕ = byte_in o.words (plus (plus entry 2) 2) ∷ [] in
+      elim (cases_Bool (slice_index v.image.pool k % 4 == 3)) [
+        | inl t ↦ elim l.1 [
+          | inl refused ↦ cut link Issues (plan true []) [] Issues n.reads.0 (assumption (late ∙ t))
+          | inr third ↦ cut (next link) Issues (plan true three) gs HeldUp n.reads.0 (assumption (late ∙ t, third.given (plus m.pc 2)))
+        ]
+        | inr t ↦ elim l.1 [
+          | inl refused ↦ cut link Issues (plan false []) [] Issues n.reads.0 (assumption (late ∙ t))
+          | inr third ↦ cut (next link) Issues (plan false three) gs HeldUp n.reads.0 (assumption (late ∙ t, third.given (plus m.pc 2)))
+        ]
+      ]
   limits In left n over =
       let l = full_from a.loads a.holds (taken_from a.loads a.holds) over in
       overruns a left 0xFC (next m.sp) Issues (HeldUp ∷ HeldUp ∷ alone (Issues ∷ alone (Issues ∷ HeldUp ∷ []))) (byte_in o.words m.pc ∷ []) HeldUp

@@ -3,8 +3,6 @@ pub mod Examples
 pub mod Guided
 pub mod Boundaries
 pub mod Instructions
-pub mod Jumps
-pub mod Calls
 pub mod Ends
 pub mod Boot
 pub mod Output
