@@ -1,10 +1,14 @@
 -- Reading the pieces between semicolons one after the other.
-use Rattle.std.proofs.Common.{◌≡◌, ℕ, zero, suc, length-drop, ◌+◌, ◌<◌, ◌≤◌, Bool, true, false, List, [], ◌∷◌, Some, None, length, drop, take, refl, sym, ap, ◌∙◌, arith, cond, inl, inr}
+use Rattle.std.proofs.Common.{◌≡◌, ℕ, zero, suc, length-drop, ◌+◌, ◌<◌, ◌≤◌, List, [], ◌∷◌, Some, None, length, drop, take, refl, sym, ap, ◌∙◌, arith, inl, inr}
 use Rattle.std.proofs.lemmas.Bool.{cases_lt}
 use Rattle.std.specs.Prelude.{not, option_and_then}
-use Rattle.std.specs.List.{prefix_len, onto_first}
+use Rattle.std.specs.List.{prefix_len}
+use Rattle.std.proofs.lemmas.List.{take_all}
+use Rattle.std.proofs.lemmas.List.Splits.{slice_split_first, slice_split_none}
+use Rattle.std.proofs.lemmas.List.Sums.{fails_before_first}
 use Rattle.mic_words.specs.declared.machine.Machine.{Machine}
 use Rattle.mal_tokens.specs.declared.token.Token.{Token}
+use Rattle.mal_tokens.specs.declared.token.Token.TheVariants as tokens
 use Rattle.mal_line.specs.declared.gathering.Gathered.{Gathered}
 use Rattle.mal_line.specs.Prelude.{is_semicolon, pieces, add_tokens, adds, ended}
 
@@ -12,33 +16,12 @@ use Rattle.mal_line.specs.Prelude.{is_semicolon, pieces, add_tokens, adds, ended
 abbrev pub len : List Token → ℕ
 len = prefix_len (λ t. not (is_semicolon t))
 
-pub split_more : (xs : List Token) → len xs < length xs → pieces xs ≡ take (len xs) xs ∷ pieces (drop (len xs + 1) xs)
-split_more [] lt = absurd (omega arith)
-split_more (x ∷ xs) lt = go (is_semicolon x) lt (split_more xs)
-  where
-    go : (w : Bool) → cond (not w) (1 + len xs) 0 < length (x ∷ xs)
-        → (len xs < length xs → pieces xs ≡ take (len xs) xs ∷ pieces (drop (len xs + 1) xs))
-        → cond w ([] ∷ pieces xs) (onto_first x (pieces xs)) ≡ take (cond (not w) (1 + len xs) 0) (x ∷ xs) ∷ pieces (drop (cond (not w) (1 + len xs) 0 + 1) (x ∷ xs))
-    go true lt rec = refl
-    go false lt rec =
-        let n = len xs in
-        let k : 1 + n ≡ suc n = omega arith in
-        let k1 : suc n + 1 ≡ suc (n + 1) = omega arith in
-        let r = rec (omega (arith, lt)) in
-        rw (k, k1, r) refl
+split_more : (xs : List Token) → len xs < length xs → pieces xs ≡ take (len xs) xs ∷ pieces (drop (len xs + 1) xs)
+split_more xs lt = slice_split_first is_semicolon xs (tokens.Name []) lt
 
-pub split_last : (xs : List Token) → length xs ≤ len xs → pieces xs ≡ take (len xs) xs ∷ []
-split_last [] le = refl
-split_last (x ∷ xs) le = go (is_semicolon x) le (split_last xs)
-  where
-    go : (w : Bool) → length (x ∷ xs) ≤ cond (not w) (1 + len xs) 0 → (length xs ≤ len xs → pieces xs ≡ take (len xs) xs ∷ [])
-        → cond w ([] ∷ pieces xs) (onto_first x (pieces xs)) ≡ take (cond (not w) (1 + len xs) 0) (x ∷ xs) ∷ []
-    go true le rec = absurd (omega (arith, le))
-    go false le rec =
-        let n = len xs in
-        let k : 1 + n ≡ suc n = omega arith in
-        let r = rec (omega (arith, le)) in
-        rw (k, r) refl
+split_last : (xs : List Token) → length xs ≤ len xs → pieces xs ≡ take (len xs) xs ∷ []
+split_last xs le =
+    slice_split_none is_semicolon xs (λ k d lt. fails_before_first is_semicolon xs k d (omega arith)) ∙ ap (λ ys. ys ∷ []) (sym (take_all (len xs) xs le))
 
 tail_at : (xs : List Token) (n : ℕ) (y : Token) (ys : List Token) → drop n xs ≡ y ∷ ys → (n < length xs) × (drop (n + 1) xs ≡ ys)
 tail_at [] zero y ys h = absurd (cc)
