@@ -19,41 +19,25 @@ module _ {T : Type 0} (L : Table T) where
   pub goes_blank : (front : List T) (b : ℕ) (rest all : List ℕ) (total : Option (List T)) → all ≡ b ∷ rest → is_blank b ≡ true → onto front (lex L 0 all) ≡ total → onto front (lex L 0 rest) ≡ total
   goes_blank front b rest all total e h so_far = ap (onto front) (sym (lex_blank L b rest h)) ∙ (ap (λ r. onto front (lex L 0 r)) (sym e) ∙ so_far)
 
-  goes_on : (front : List T) (b : ℕ) (rest : List ℕ) (t : T) (total : Option (List T)) → is_blank b ≡ false
-      → token_of L (take (extent L (b ∷ rest)) (b ∷ rest)) ≡ Some t → onto front (lex L 0 (b ∷ rest)) ≡ total → onto (front ++ t ∷ []) (lex L 0 (drop (extent L (b ∷ rest)) (b ∷ rest))) ≡ total
-  goes_on front b rest t total h found so_far =
-      let next = lex L 0 (drop (extent L (b ∷ rest)) (b ∷ rest)) in
-      let one : lex L 0 (b ∷ rest) ≡ option_map (λ ts. t ∷ ts) next =
-      lex_token L b rest h ∙ ap (λ (o : Option T). option_and_then (λ t. option_map (λ ts. t ∷ ts) next) o) found in
-      sym (regroup front t next) ∙ (ap (onto front) (sym one) ∙ so_far)
-
-  is_bad : (front : List T) (b : ℕ) (rest : List ℕ) (total : Option (List T)) → is_blank b ≡ false
-      → token_of L (take (extent L (b ∷ rest)) (b ∷ rest)) ≡ None → onto front (lex L 0 (b ∷ rest)) ≡ total → total ≡ None
-  is_bad front b rest total h none so_far =
-      let next = lex L 0 (drop (extent L (b ∷ rest)) (b ∷ rest)) in
-      let one : lex L 0 (b ∷ rest) ≡ None =
-      lex_token L b rest h ∙ ap (λ (o : Option T). option_and_then (λ t. option_map (λ ts. t ∷ ts) next) o) none in
-      sym so_far ∙ ap (onto front) one
-
   pub is_done : (front : List T) (rest : List ℕ) (total : Option (List T)) → length rest ≡ 0 → onto front (lex L 0 rest) ≡ total → total ≡ Some front
   unfolding lex
   is_done front [] total none so_far = sym so_far ∙ ap Some (append-nil front)
   is_done front (b ∷ rest) total none so_far = absurd (omega arith)
 
-  pub steps_on : (front : List T) (b : ℕ) (rest all : List ℕ) (n : ℕ) (text behind : List ℕ) (t : T) (total : Option (List T)) → all ≡ b ∷ rest → n ≡ extent L (b ∷ rest)
-      → text ≡ take n all → behind ≡ drop n all → is_blank b ≡ false → token_of L text ≡ Some t → onto front (lex L 0 all) ≡ total → onto (front ++ t ∷ []) (lex L 0 behind) ≡ total
-  steps_on front b rest all n text behind t total e en et eb h found so_far =
-      let whole : onto front (lex L 0 (b ∷ rest)) ≡ total = subst (λ x. onto front (lex L 0 x) ≡ total) e so_far in
-      let c = subst (λ x. token_of L x ≡ Some t) (cut_at L b rest all n text e en et) found in
+  -- a token, or none, and what is left
+  pub steps_on : (front : List T) (b : ℕ) (rest all : List ℕ) (n : ℕ) (text behind : List ℕ) (o : Option T) (total : Option (List T)) → all ≡ b ∷ rest → n ≡ extent L (b ∷ rest)
+      → text ≡ take n all → behind ≡ drop n all → is_blank b ≡ false → token_of L text ≡ o → onto front (lex L 0 all) ≡ total → option_and_then (λ t. onto (front ++ t ∷ []) (lex L 0 behind)) o ≡ total
+  steps_on front b rest all n text behind o total e en et eb h found so_far =
+      let next = lex L 0 (drop (extent L (b ∷ rest)) (b ∷ rest)) in
+      let c = subst (λ x. token_of L x ≡ o) (cut_at L b rest all n text e en et) found in
       let d : behind ≡ drop (extent L (b ∷ rest)) (b ∷ rest) = eb ∙ (ap (λ k. drop k all) en ∙ ap (λ x. drop (extent L (b ∷ rest)) x) e) in
-      rw d (goes_on front b rest t total h c whole)
-
-  pub steps_bad : (front : List T) (b : ℕ) (rest all : List ℕ) (n : ℕ) (text : List ℕ) (total : Option (List T)) → all ≡ b ∷ rest → n ≡ extent L (b ∷ rest)
-      → text ≡ take n all → is_blank b ≡ false → token_of L text ≡ None → onto front (lex L 0 all) ≡ total → total ≡ None
-  steps_bad front b rest all n text total e en et h found so_far =
-      let whole : onto front (lex L 0 (b ∷ rest)) ≡ total = subst (λ x. onto front (lex L 0 x) ≡ total) e so_far in
-      let c = subst (λ x. token_of L x ≡ None) (cut_at L b rest all n text e en et) found in
-      is_bad front b rest total h c whole
+      let one : lex L 0 all ≡ option_and_then (λ t. option_map (λ ts. t ∷ ts) next) o =
+      ap (lex L 0) e ∙ (lex_token L b rest h ∙ ap (λ (o : Option T). option_and_then (λ t. option_map (λ ts. t ∷ ts) next) o) c) in
+      ap (λ r. option_and_then (λ t. onto (front ++ t ∷ []) (lex L 0 r)) o) d ∙ (spread o next ∙ (ap (onto front) (sym one) ∙ so_far))
+    where
+      spread : (o : Option T) (next : Option (List T)) → option_and_then (λ t. onto (front ++ t ∷ []) next) o ≡ onto front (option_and_then (λ t. option_map (λ ts. t ∷ ts) next) o)
+      spread None next = refl
+      spread (Some t) next = sym (regroup front t next)
 
 module _ {T : Type 0} (L : Table T) where
   spells_blank : (b : ℕ) (rest : List ℕ) (ts : List T) → is_blank b ≡ true → Spells L rest ts → Spells L (b ∷ rest) ts
