@@ -1,14 +1,15 @@
 -- A worked program whose names are known, and an image in which it is laid out.
-use Rattle.std.proofs.Common.{◌≡◌, ◌≢◌, ℕ, zero, suc, List, [], ◌∷◌, Some, refl, subst, arith}
+use Rattle.std.proofs.Common.{◌≡◌, ◌≢◌, ℕ, zero, suc, ◌+◌, ◌≤◌, List, [], ◌∷◌, Some, refl, subst, arith}
 use Rattle.std.specs.Prelude.{slice_get}
 use Rattle.std.proofs.lemmas.Option.{same_Some}
 use Rattle.std.proofs.lemmas.List.Elements.{All-nil}
-use Rattle.ijvm_instr.specs.Prelude.{instr_at, of_bytes}
+use Rattle.ijvm_instr.specs.declared.instr.Instr.{Instr}
+use Rattle.ijvm_instr.specs.Prelude.{instr_at, of_bytes, row_of, size_of}
 use Rattle.ijvm_image.specs.Prelude.{ImageView, params, others}
 use Rattle.tiny_tree.specs.declared.tree.Operator.{Operator}
 use Rattle.tiny_tree.specs.declared.tree.Operator.TheVariants.{Plus, Minus}
 use Rattle.tiny_tree.specs.Prelude.{Term, Number, Variable, Called, Expr, Sum, no_steps, step, Different, Statement, Var, Assign, While, Return, Put, Function, Program, arguments_of, statements_of, IsNamed, IsNamedFunction}
-use Rattle.tiny_code.specs.Prelude.{Places, IsMethodAt, IsLaidOut}
+use Rattle.tiny_code.specs.Prelude.{Places, code_size, main_code, method_code, CodeAt, IsMethodAt, IsLaidOut}
 
 abbrev alone : Term → Expr
 alone t = Sum t no_steps
@@ -78,6 +79,14 @@ named = record { main = main; main_is = refl; no_parameters = refl; functions = 
     named_by (suc zero) g h = subst (IsNamedFunction countdown 1) (same_Some main g h) main_named
     named_by (suc (suc f)) g h = cc
 
+abbrev AreRead : List ℕ → ℕ → List Instr → Type 0
+AreRead text at [] = Unit {0}
+AreRead text at (i ∷ is) = (instr_at text at ≡ Some i) × AreRead text (at + size_of (row_of i)) is
+
+stands : (text : List ℕ) (at : ℕ) (is : List Instr) → at + code_size is ≤ 65536 → AreRead text at is → CodeAt text at is
+stands text at [] h r = omega (arith, h)
+stands text at (i ∷ is) h r = (omega (arith, h), r.0, stands text (at + size_of (row_of i)) is (omega (arith, h)) r.1)
+
 add_at : IsMethodAt image places 33 0 add
 unfolding of_bytes instr_at params others
 add_at = record {
@@ -85,7 +94,7 @@ add_at = record {
   inside = omega arith;
   params = refl;
   others = refl;
-  code = (omega arith, refl, (omega arith, refl, (omega arith, refl, (omega arith, refl, (omega arith, refl, (omega arith, refl, omega arith))))));
+  code = stands image.text 37 (method_code places add) (omega arith) assumption;
 }
 
 laid_out : IsLaidOut image places countdown
@@ -95,62 +104,6 @@ laid_out = record {
   numbers = All-nil _;
   main = main;
   main_is = refl;
-  main_at = (
-    omega arith,
-    refl,
-    (
-      omega arith,
-      refl,
-      (
-        omega arith,
-        refl,
-        (
-          omega arith,
-          refl,
-          (
-            omega arith,
-            refl,
-            (
-              omega arith,
-              refl,
-              (
-                omega arith,
-                refl,
-                (
-                  omega arith,
-                  refl,
-                  (
-                    omega arith,
-                    refl,
-                    (
-                      omega arith,
-                      refl,
-                      (
-                        omega arith,
-                        refl,
-                        (
-                          omega arith,
-                          refl,
-                          (
-                            omega arith,
-                            refl,
-                            (
-                              omega arith,
-                              refl,
-                              (omega arith, refl, (omega arith, refl, omega arith)),
-                            ),
-                          ),
-                        ),
-                      ),
-                    ),
-                  ),
-                ),
-              ),
-            ),
-          ),
-        ),
-      ),
-    ),
-  );
+  main_at = stands image.text 0 (main_code places main) (omega arith) assumption;
   methods = (add_at, tt);
 }

@@ -122,19 +122,19 @@ module _ (image : ImageView) (whole : List Item) where
   stands_back [] b at last h = let e : at ≡ at + 0 = omega arith in subst (λ (x : ℕ). Stands x b last) e h
   stands_back (Code i n ∷ a) b at last h =
       let e : at + size_of (row_of i) + items_size a ≡ at + (size_of (row_of i) + items_size a) = omega arith in
-      subst (λ (x : ℕ). Stands x b last) e (stands_back a b (at + size_of (row_of i)) last h.2)
+      subst (λ (x : ℕ). Stands x b last) e (stands_back a b _ last h.2)
   stands_back (Header ∷ a) b at last h = absurd h
 
   pub stands_front : (a b : List Item) (at : ℕ) (last m : Note) → Stands at (a ++ b) last → note_at whole (at + items_size a) ≡ Some m → Stands at a m
   stands_front [] b at last m h e = let z : at ≡ at + 0 = omega arith in ap (note_at whole) z ∙ e
   stands_front (Code i n ∷ a) b at last m h e =
       let z : at + size_of (row_of i) + items_size a ≡ at + (size_of (row_of i) + items_size a) = omega arith in
-      (h.0, h.1, stands_front a b (at + size_of (row_of i)) last m h.2 (ap (note_at whole) z ∙ e))
+      (h.0, h.1, stands_front a b _ last m h.2 (ap (note_at whole) z ∙ e))
   stands_front (Header ∷ a) b at last m h e = absurd h
 
   pub stands_end : (a : List Item) (at : ℕ) (last : Note) → Stands at a last → note_at whole (at + items_size a) ≡ Some last
   stands_end [] at last h = let e : at + 0 ≡ at = omega arith in ap (note_at whole) e ∙ h
   stands_end (Code i n ∷ a) at last h =
       let e : at + (size_of (row_of i) + items_size a) ≡ at + size_of (row_of i) + items_size a = omega arith in
-      ap (note_at whole) e ∙ stands_end a (at + size_of (row_of i)) last h.2
+      ap (note_at whole) e ∙ stands_end a _ last h.2
   stands_end (Header ∷ a) at last h = absurd h

@@ -117,8 +117,7 @@ module _ (u : Scene) (seen : Seen) where
       → Suits u.frame seen 0 m
       → IsMet u.frame.image u.whole at (Goto o) (note 0)
   goto_met at to o m is there is_note s =
-      meets_by (Goto o) at 0 is (plain (Goto o) 0 (record { needs = refl; no_call = λ k e. cc; no_read = refl; no_store = refl }) tt
-      (omega arith) (λ e. cc)) leads
+      meets_by _ at 0 is (plain _ 0 (record { needs = refl; no_call = λ k e. cc; no_read = refl; no_store = refl }) tt (omega arith) (λ e. cc)) leads
     where
       leads : (x : ℕ) → GoesOn (flows.Jump o) at (at + 3) x → Led (Goto o) 0 x
       leads x (inl h) = let z : false ≡ true = h.0 in cc
@@ -147,33 +146,26 @@ module _ (u : Scene) (seen : Seen) where
   pub branch_met : (i : Instr) (o : ℤ) (at d to : ℕ) (m n : Note) → IsBranch i o d → instr_at u.frame.image.text at ≡ Some i → note_at u.whole (at + 3) ≡ Some m
       → Suits u.frame seen 0 m → target at o ≡ to → note_at u.whole to ≡ Some n → Suits u.frame seen 0 n → IsMet u.frame.image u.whole at i (note d)
   branch_met i o at d to m n b is next s there at_to t =
+      let no_call : (k : ℕ) → flows.Branch o ≡ flows.Call k → ⊥ = λ k e. cc in
+      let no_return : flows.Branch o ≡ flows.Return → u.frame.unit ≢ None = λ e. cc in
+      let need_is : need_of u.frame.image (row_of i).needs (row_of i).flow ≡ Some (takes u.frame.image i) =
+      ap (λ (x : Flow). need_of u.frame.image (row_of i).needs x) b.flow ∙ ap Some (b.needs ∙ sym b.takes_is) in
+      let is_plain : IsPlain u i = record { needs = need_is; no_call = λ k e. no_call k (sym b.flow ∙ e); no_read = b.reads; no_store = b.stores } in
       meets_by i at d is
       (plain i d is_plain (subst (HasConstant u.frame.image.pool) (sym b.constant) tt) (omega (arith, b.takes_is)) (λ e. no_return (sym b.flow ∙ e)))
       (λ x h. leads x (subst (λ (y : Flow). GoesOn y at (at + size_of (row_of i)) x) b.flow h))
     where
-      no_call : (k : ℕ) → flows.Branch o ≡ flows.Call k → ⊥
-      no_call k e = cc
-
-      no_return : flows.Branch o ≡ flows.Return → u.frame.unit ≢ None
-      no_return e = cc
-
-      need_is : need_of u.frame.image (row_of i).needs (row_of i).flow ≡ Some (takes u.frame.image i)
-      need_is = ap (λ (x : Flow). need_of u.frame.image (row_of i).needs x) b.flow ∙ ap Some (b.needs ∙ sym b.takes_is)
-
-      is_plain : IsPlain u i
-      is_plain = record { needs = need_is; no_call = λ k e. no_call k (sym b.flow ∙ e); no_read = b.reads; no_store = b.stores }
-
       none_left : next_depth u.frame.image i d ≡ 0
       none_left = omega (arith, b.takes_is, b.gives)
 
       leads : (x : ℕ) → GoesOn (flows.Branch o) at (at + size_of (row_of i)) x → Led i d x
       leads x (inl h) =
           led_to i d x m (ap (note_at u.whole) (h.1 ∙ ap (λ (y : ℕ). at + y) b.size) ∙ next) (omega (arith, b.takes_is))
-          (at_depth u.frame seen 0 (next_depth u.frame.image i d) m (sym none_left) s)
+          (at_depth u.frame seen 0 _ m (sym none_left) s)
       leads x (inr h) =
           let same : o ≡ h.0 = same_Some o h.0 h.1 in
           led_to i d x n (ap (note_at u.whole) (h.2 ∙ ap (target at) (sym same) ∙ there) ∙ at_to) (omega (arith, b.takes_is))
-          (at_depth u.frame seen 0 (next_depth u.frame.image i d) n (sym none_left) t)
+          (at_depth u.frame seen 0 _ n (sym none_left) t)
 
   -- ---- instructions that take a value
 
@@ -195,7 +187,7 @@ module _ (u : Scene) (seen : Seen) where
         returns = λ e. cc;
         reads = λ k e. cc;
         names = λ k. ⊎_elim (λ e. let z : None ≡ Some k = e in cc)
-            (λ e. let same : u.frame.local + x ≡ k = same_Some (u.frame.local + x) k e in (omega (arith, same), omega (arith, same, fits)));
+            (λ e. let same : u.frame.local + x ≡ k = same_Some _ k e in (omega (arith, same), omega (arith, same, fits)));
       }) leads
     where
       i : Instr
@@ -205,10 +197,6 @@ module _ (u : Scene) (seen : Seen) where
       leads to (inl h) = (
         last,
         ap (note_at u.whole) h.1 ∙ next,
-        record {
-          unit = s.unit;
-          depth = omega (arith, s.depth);
-          set = λ k e. ⊎_elim (λ a. inl a) (λ a. inr (ap Some a)) (set_stored u.frame.local x k seen (s.set k e));
-        },
+        record { unit = s.unit; depth = omega (arith, s.depth); set = λ k e. ⊎_elim (λ a. inl a) (λ a. inr (ap Some a)) (set_stored _ x k seen (s.set k e)) },
       )
       leads to (inr h) = let z : None ≡ Some h.0 = h.1 in cc

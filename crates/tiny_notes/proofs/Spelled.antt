@@ -65,14 +65,10 @@ module _ (f : Frame) where
   choice_spells : (seen : Seen) (test : List Instr) (jump : ℤ → Instr) (d : ℕ) (first second : List Item) (c1 c2 : List Instr)
       → Spells first c1 → Spells second c2 → Spells (choice_items f seen test jump d first second) (choice test jump c1 c2)
   choice_spells seen test jump d first second c1 c2 h k =
+      let items : List Item = choice_items f seen test jump d first second in
       subst (λ (x : ℕ). Spells items (test ++ (jump (pos (6 + x)) ∷ (c1 ++ (Goto (pos (3 + code_size c2)) ∷ c2))))) h.size
       (subst (λ (y : ℕ). Spells items (test ++ (jump (pos (6 + items_size first)) ∷ (c1 ++ (Goto (pos (3 + y)) ∷ c2))))) k.size
-      (joins (straight f seen 0 test) _ test _ (straight_spells seen 0 test)
-      (begins (jump (pos (6 + items_size first))) (note_of f seen d) _ _
-      (joins first _ c1 _ h (begins (Goto (pos (3 + items_size second))) (note_of f seen 0) second c2 k)))))
-    where
-      items : List Item
-      items = choice_items f seen test jump d first second
+      (joins _ _ test _ (straight_spells seen 0 test) (begins _ _ _ _ (joins first _ c1 _ h (begins _ _ second c2 k)))))
 
   leave_spells : (seen : Seen) (c : Cond) (size : ℕ) → Spells (leave_items f seen c size) (leave_code f.places f.local c size)
   leave_spells seen (Equal a b) size = begins _ _ _ _ (begins _ _ [] [] nothing)
@@ -84,12 +80,10 @@ module _ (f : Frame) where
   loop_spells seen c body code h =
       let test : List Instr = test_code f.places f.local c in
       let leave : List Item = leave_items f seen c (items_size body) in
-      let l : Spells leave (leave_code f.places f.local c (items_size body)) = leave_spells seen c (items_size body) in
+      let l : Spells leave (leave_code f.places f.local c (items_size body)) = leave_spells seen c _ in
       let far : ℕ = code_size test + items_size leave + items_size body in
       let all : Spells (loop_items f seen c body) (test ++ (leave_code f.places f.local c (items_size body) ++ (code ++ Goto (neg_ℤ (pos far)) ∷ []))) =
-      joins (straight f seen 0 test) _ test _ (straight_spells seen 0 test)
-      (joins leave _ (leave_code f.places f.local c (items_size body)) _ l
-      (joins body _ code _ h (begins (Goto (neg_ℤ (pos far))) (note_of f seen 0) [] [] nothing))) in
+      joins _ _ test _ (straight_spells seen 0 test) (joins leave _ _ _ l (joins body _ code _ h (begins _ _ [] [] nothing))) in
       subst (λ (x : ℕ). Spells (loop_items f seen c body) (loop test (leave_code f.places f.local c x) code)) h.size
       (subst (λ (x : ℕ). Spells (loop_items f seen c body) (test ++ (leave_code f.places f.local c (items_size body) ++ (code ++ Goto (neg_ℤ (pos x)) ∷ []))))
       (omega (arith, l.size, h.size)) all)
@@ -99,15 +93,9 @@ module _ (f : Frame) where
     statement_spells (Var x e) seen = last_spells seen (expr_code f.places f.local e) (Istore (f.local + x))
     statement_spells (Assign x e) seen = last_spells seen (expr_code f.places f.local e) (Istore (f.local + x))
     statement_spells (Calls g args) seen = last_spells seen (term_code f.places f.local (Called g args)) Pop
-    statement_spells (If line (Equal a b) taken other) seen =
-        choice_spells seen (test_code f.places f.local (Equal a b)) IfIcmpeq 2 (else_items f other seen) (statements_items f taken seen)
-        (else_code f.places f.local other) (statements_code f.places f.local taken) (else_spells other seen) (statements_spell taken seen)
-    statement_spells (If line (Less a b) taken other) seen =
-        choice_spells seen (test_code f.places f.local (Less a b)) Iflt 1 (else_items f other seen) (statements_items f taken seen)
-        (else_code f.places f.local other) (statements_code f.places f.local taken) (else_spells other seen) (statements_spell taken seen)
-    statement_spells (If line (Different a b) taken other) seen =
-        choice_spells seen (test_code f.places f.local (Different a b)) IfIcmpeq 2 (statements_items f taken seen) (else_items f other seen)
-        (statements_code f.places f.local taken) (else_code f.places f.local other) (statements_spell taken seen) (else_spells other seen)
+    statement_spells (If line (Equal a b) taken other) seen = choice_spells seen _ IfIcmpeq 2 _ _ _ _ (else_spells other seen) (statements_spell taken seen)
+    statement_spells (If line (Less a b) taken other) seen = choice_spells seen _ Iflt 1 _ _ _ _ (else_spells other seen) (statements_spell taken seen)
+    statement_spells (If line (Different a b) taken other) seen = choice_spells seen _ IfIcmpeq 2 _ _ _ _ (statements_spell taken seen) (else_spells other seen)
     statement_spells (While line c body) seen =
         loop_spells seen c (statements_items f body seen) (statements_code f.places f.local body) (statements_spell body seen)
     statement_spells (Return e) seen = last_spells seen (expr_code f.places f.local e) Ireturn
@@ -116,10 +104,7 @@ module _ (f : Frame) where
 
     pub statements_spell : (row : Statements) (seen : Seen) → Spells (statements_items f row seen) (statements_code f.places f.local row)
     statements_spell no_statements seen = nothing
-    statements_spell (statement s rest) seen =
-        joins (statement_items f s seen) (statements_items f rest (seen_after s seen)) (statement_code f.places f.local s)
-        (statements_code f.places f.local rest)
-        (statement_spells s seen) (statements_spell rest (seen_after s seen))
+    statements_spell (statement s rest) seen = joins _ _ _ _ (statement_spells s seen) (statements_spell rest _)
 
     pub else_spells : (other : Else) (seen : Seen) → Spells (else_items f other seen) (else_code f.places f.local other)
     else_spells no_else seen = nothing

@@ -146,8 +146,8 @@ module _ (u : Scene) where
         → At at (straight u.frame seen 0 code ++ rest) last → note_at u.whole (at + items_size (straight u.frame seen 0 code)) ≡ Some (note d)
         → At at (straight u.frame seen 0 code) (note d) × Suits u.frame seen (depth_after u.frame.image 0 code) (note d)
     test_begin code d at rest last run h next = (
-      stands_front u.frame.image u.whole (straight u.frame seen 0 code) rest at last (note d) h next,
-      at_depth u.frame seen d (depth_after u.frame.image 0 code) (note d) (sym run.depth) (its_own u.frame seen d),
+      stands_front u.frame.image u.whole _ rest at last _ h next,
+      at_depth u.frame seen d _ _ (sym run.depth) (its_own u.frame seen d),
     )
 
     test_fine : (code : List Instr) (d at : ℕ) (rest : List Item) (last : Note) → Runs u seen code 0 d
@@ -155,10 +155,9 @@ module _ (u : Scene) where
         → Met (at + items_size (straight u.frame seen 0 code)) rest → Fine seen at (straight u.frame seen 0 code ++ rest)
     test_fine code d at rest last run h next after =
         let front = test_begin code d at rest last run h next in
-        let begin = head_note u seen code at 0 (note d) front.0 front.1 in
+        let begin = head_note u seen code at 0 _ front.0 front.1 in
         record {
-          met = met_append u.frame.image u.whole (straight u.frame seen 0 code) rest at
-              (straight_met u seen code at 0 (note d) run.simple front.0 front.1) after;
+          met = met_append u.frame.image u.whole (straight u.frame seen 0 code) rest at (straight_met u seen code at 0 _ run.simple front.0 front.1) after;
           first = begin.0;
           there = begin.1;
           suits = begin.2;
@@ -167,8 +166,8 @@ module _ (u : Scene) where
     pub last_part : (after : Seen) (code : List Instr) (i : Instr) → Runs u seen code 0 1 → Takes after i → Part seen after (with_last u.frame seen code i)
     last_part after code i run met at last h s small =
         let a : List Item = straight u.frame seen 0 code in
-        let b : At (at + items_size a) (Code i (note 1) ∷ []) last = stands_back u.frame.image u.whole a (Code i (note 1) ∷ []) at last h in
-        test_fine code 1 at (Code i (note 1) ∷ []) last run h b.1 (met (at + items_size a) last s b.0 b.2, tt)
+        let b : At (at + items_size a) (Code i (note 1) ∷ []) last = stands_back u.frame.image u.whole a _ at last h in
+        test_fine code 1 at _ last run h b.1 (met (at + items_size a) last s b.0 b.2, tt)
 
     pub halt_part : Part seen seen (Code HaltCode (note 0) ∷ [])
     halt_part at last h s small = record { met = (halt_met u seen at 0 h.0, tt); first = note 0; there = h.1; suits = its_own u.frame seen 0 }
@@ -185,22 +184,21 @@ module _ (u : Scene) where
         let mid : ℕ = at + items_size a in
         let over : ℕ = mid + 3 + items_size first in
         let end : ℕ = over + 3 + items_size second in
-        let j : At mid (Code i (note d) ∷ tail) last = stands_back u.frame.image u.whole a (Code i (note d) ∷ tail) at last h in
+        let j : At mid (Code i (note d) ∷ tail) last = stands_back u.frame.image u.whole a _ at last h in
         let rest : At (mid + 3) tail last = subst (λ (x : ℕ). At (mid + x) tail last) b.size j.2 in
-        let g : At over tail2 last = stands_back u.frame.image u.whole first tail2 (mid + 3) last rest in
-        let inner : At (mid + 3) first (note 0) = stands_front u.frame.image u.whole first tail2 (mid + 3) last (note 0) rest g.1 in
+        let g : At over tail2 last = stands_back u.frame.image u.whole first tail2 _ last rest in
+        let inner : At (mid + 3) first (note 0) = stands_front u.frame.image u.whole first tail2 _ last _ rest g.1 in
         let total : at + items_size (choice_items u.frame seen test jump d first second) ≡ end =
         omega (arith, b.size, items_append a (Code i (note d) ∷ tail), items_append first tail2) in
         let x : Fine seen (mid + 3) first = one (mid + 3) (note 0) inner (its_own u.frame seen 0) (omega (arith, small, total)) in
         let y : Fine seen (over + 3) second = two (over + 3) last g.2 suits (omega (arith, small, total)) in
         let t1 : target mid (pos (6 + items_size first)) ≡ over + 3 = forward mid (6 + items_size first) (omega (arith, small, total)) ∙ omega arith in
         let t2 : target over (pos (3 + items_size second)) ≡ end = forward over (3 + items_size second) (omega (arith, small, total)) ∙ omega arith in
-        let there : note_at u.whole end ≡ Some last = stands_end u.frame.image u.whole second (over + 3) last g.2 in
-        let jumps : IsMet u.frame.image u.whole mid i (note d) =
-        branch_met u seen i (pos (6 + items_size first)) mid d (over + 3) x.first y.first b j.0 x.there x.suits t1 y.there y.suits in
-        let past : IsMet u.frame.image u.whole over o (note 0) = goto_met u seen over end (pos (3 + items_size second)) last g.0 t2 there suits in
+        let there : note_at u.whole end ≡ Some last = stands_end u.frame.image u.whole second _ last g.2 in
+        let jumps : IsMet u.frame.image u.whole mid i (note d) = branch_met u seen i _ mid d _ x.first y.first b j.0 x.there x.suits t1 y.there y.suits in
+        let past : IsMet u.frame.image u.whole over o (note 0) = goto_met u seen over end _ last g.0 t2 there suits in
         let all_tail : Met (mid + 3) tail = met_append u.frame.image u.whole first tail2 (mid + 3) x.met (past, y.met) in
-        test_fine test d at (Code i (note d) ∷ tail) last run h j.1 (jumps, subst (λ (x : ℕ). Met (mid + x) tail) (sym b.size) all_tail)
+        test_fine test d at _ last run h j.1 (jumps, subst (λ (x : ℕ). Met (mid + x) tail) (sym b.size) all_tail)
 
     -- ---- loops
 
@@ -219,9 +217,8 @@ module _ (u : Scene) where
         let g : At (mid + 3) (Code o (note 0) ∷ []) m = subst (λ (x : ℕ). At (mid + x) (Code o (note 0) ∷ []) m) b.size h.2 in
         let t1 : target mid (pos 6) ≡ mid + 3 + 3 = forward mid 6 (omega (arith, small)) ∙ omega arith in
         let t2 : target (mid + 3) (pos (6 + size)) ≡ mid + 9 + size = forward (mid + 3) (6 + size) (omega (arith, small)) ∙ omega arith in
-        let one : IsMet u.frame.image u.whole mid i (note d) =
-        branch_met u seen i (pos 6) mid d (mid + 3 + 3) (note 0) m b h.0 g.1 (its_own u.frame seen 0) t1 g.2 s in
-        let two : IsMet u.frame.image u.whole (mid + 3) o (note 0) = goto_met u seen (mid + 3) (mid + 9 + size) (pos (6 + size)) last g.0 t2 end t in
+        let one : IsMet u.frame.image u.whole mid i (note d) = branch_met u seen i _ mid d _ _ m b h.0 g.1 (its_own u.frame seen 0) t1 g.2 s in
+        let two : IsMet u.frame.image u.whole (mid + 3) o (note 0) = goto_met u seen _ _ _ last g.0 t2 end t in
         (one, subst (λ (x : ℕ). Met (mid + x) (Code o (note 0) ∷ [])) (sym b.size) (two, tt))
 
     leave_met : (c : Cond) (size mid : ℕ) (m last : Note) → At mid (leave_items u.frame seen c size) m → Suits u.frame seen 0 m
@@ -230,16 +227,15 @@ module _ (u : Scene) where
         → Met mid (leave_items u.frame seen c size)
     leave_met (Different a b) size mid m last h s small end t =
         let t2 : target mid (pos (6 + size)) ≡ mid + 3 + size + 3 = forward mid (6 + size) (omega (arith, small)) ∙ omega arith in (
-          branch_met u seen (IfIcmpeq (pos (6 + size))) (pos (6 + size)) mid 2 (mid + 3 + size + 3) m last (icmpeq u seen (pos (6 + size))) h.0
-              h.2 s t2 end t,
+          branch_met u seen _ _ mid 2 _ m last (icmpeq u seen _) h.0 h.2 s t2 end t,
           tt,
         )
     leave_met (Equal a b) size mid m last h s small end t =
         let e : mid + 9 + size ≡ mid + 6 + size + 3 = omega arith in
-        over_met (IfIcmpeq (pos 6)) 2 size mid m last (icmpeq u seen (pos 6)) h s (omega (arith, small)) (ap (note_at u.whole) e ∙ end) t
+        over_met _ 2 size mid m last (icmpeq u seen _) h s (omega (arith, small)) (ap (note_at u.whole) e ∙ end) t
     leave_met (Less a b) size mid m last h s small end t =
         let e : mid + 9 + size ≡ mid + 6 + size + 3 = omega arith in
-        over_met (Iflt (pos 6)) 1 size mid m last (iflt u seen (pos 6)) h s (omega (arith, small)) (ap (note_at u.whole) e ∙ end) t
+        over_met _ 1 size mid m last (iflt u seen _) h s (omega (arith, small)) (ap (note_at u.whole) e ∙ end) t
 
     leave_first : (c : Cond) (size mid : ℕ) (m : Note) → At mid (leave_items u.frame seen c size) m → note_at u.whole mid ≡ Some (note (test_depth c))
     leave_first (Equal a b) size mid m h = h.1
@@ -257,35 +253,34 @@ module _ (u : Scene) where
         let mid : ℕ = at + items_size a in
         let b : ℕ = mid + items_size leave in
         let size : items_size a ≡ code_size test = straight_size u seen 0 test in
-        let l : At mid (leave ++ tail) last = stands_back u.frame.image u.whole a (leave ++ tail) at last h in
+        let l : At mid (leave ++ tail) last = stands_back u.frame.image u.whole a _ at last h in
         let t : At b tail last = stands_back u.frame.image u.whole leave tail mid last l in
         let g : At (b + items_size body) again last = stands_back u.frame.image u.whole body again b last t in
-        let in_body : At b body (note 0) = stands_front u.frame.image u.whole body again b last (note 0) t g.1 in
+        let in_body : At b body (note 0) = stands_front u.frame.image u.whole body again b last _ t g.1 in
         let total : at + items_size (loop_items u.frame seen c body) ≡ b + items_size body + 3 =
         omega (arith, items_append a (leave ++ tail), items_append leave tail, items_append body again) in
         let x : Fine seen b body = inner b (note 0) in_body (its_own u.frame seen 0) (omega (arith, small, total)) in
         let in_leave : At mid leave x.first = stands_front u.frame.image u.whole leave tail mid last x.first l x.there in
-        let leaves : Met mid leave = leave_met c (items_size body) mid x.first last in_leave x.suits (omega (arith, small, total)) g.2 suits in
-        let next : note_at u.whole mid ≡ Some (note (test_depth c)) = leave_first c (items_size body) mid x.first in_leave in
+        let leaves : Met mid leave = leave_met c _ mid x.first last in_leave x.suits (omega (arith, small, total)) g.2 suits in
+        let next : note_at u.whole mid ≡ Some (note (test_depth c)) = leave_first c _ mid x.first in_leave in
         let place : b + items_size body ≡ at + far = omega (arith, size) in
         let leads : target (b + items_size body) (neg_ℤ (pos far)) ≡ at =
         ap (λ (y : ℕ). target y (neg_ℤ (pos far))) place ∙ backward at far (omega (arith, small, total, size)) in
-        let front = test_begin test (test_depth c) at (leave ++ tail) last run h next in
-        let begin = head_note u seen test at 0 (note (test_depth c)) front.0 front.1 in
+        let front = test_begin test _ at _ last run h next in
+        let begin = head_note u seen test at 0 _ front.0 front.1 in
         let back : IsMet u.frame.image u.whole (b + items_size body) (Goto (neg_ℤ (pos far))) (note 0) =
-        goto_met u seen (b + items_size body) at (neg_ℤ (pos far)) begin.0 g.0 leads begin.1 begin.2 in
+        goto_met u seen _ at _ begin.0 g.0 leads begin.1 begin.2 in
         let after : Met mid (leave ++ tail) =
         met_append u.frame.image u.whole leave tail mid leaves (met_append u.frame.image u.whole body again b x.met (back, tt)) in
-        test_fine test (test_depth c) at (leave ++ tail) last run h next after
+        test_fine test _ at _ last run h next after
 
     -- ---- from the tree
 
     sides_run : (a b : Expr) → Has (expr_numbers a ++ expr_numbers b) → IsNamedExpr u.program u.names seen a × IsNamedExpr u.program u.names seen b
         → Runs u seen (expr_code u.frame.places u.frame.local a ++ expr_code u.frame.places u.frame.local b) 0 2
     sides_run a b known named =
-        let has : Has (expr_numbers a) × Has (expr_numbers b) = all_append IsKnown (expr_numbers a) (expr_numbers b) known in
-        joined u seen (expr_code u.frame.places u.frame.local a) (expr_code u.frame.places u.frame.local b) 0 1 2
-        (expr_runs u seen a 0 has.0 named.0) (expr_runs u seen b 1 has.1 named.1)
+        let has : Has (expr_numbers a) × Has (expr_numbers b) = all_append IsKnown _ _ known in
+        joined u seen _ _ 0 1 2 (expr_runs u seen a 0 has.0 named.0) (expr_runs u seen b 1 has.1 named.1)
 
     pub test_runs : (c : Cond) → Has (cond_numbers c) → IsNamedCond u.program u.names seen c
         → Runs u seen (test_code u.frame.places u.frame.local c) 0 (test_depth c)
@@ -297,8 +292,7 @@ module _ (u : Scene) where
         let less : Runs u seen (Isub ∷ []) 2 1 =
         begun u seen Isub [] 2 1 1 (plain_simple u seen Isub 2 (record { needs = refl; no_call = λ k e. cc; no_read = refl; no_store = refl })
         refl tt (omega arith)) refl (none u seen 1) in
-        subst (λ (is : List Instr). Runs u seen is 0 1) (append_assoc left right (Isub ∷ []))
-        (joined u seen (left ++ right) (Isub ∷ []) 0 2 1 (sides_run a b known named) less)
+        subst (λ (is : List Instr). Runs u seen is 0 1) (append_assoc left right (Isub ∷ [])) (joined u seen _ _ 0 2 1 (sides_run a b known named) less)
 
     value_runs : (e : Expr) → Has (expr_numbers e) → IsNamedExpr u.program u.names seen e → Runs u seen (expr_code u.frame.places u.frame.local e) 0 1
     value_runs e known named = expr_runs u seen e 0 known named
@@ -324,8 +318,8 @@ module _ (u : Scene) where
   choice_numbers : (c : Cond) (taken : Statements) (other : Else) → Has (cond_numbers c ++ (statements_numbers taken ++ else_numbers other))
       → Has (cond_numbers c) × Has (statements_numbers taken) × Has (else_numbers other)
   choice_numbers c taken other known =
-      let one = all_append IsKnown (cond_numbers c) (statements_numbers taken ++ else_numbers other) known in
-      let two = all_append IsKnown (statements_numbers taken) (else_numbers other) one.1 in
+      let one = all_append IsKnown _ _ known in
+      let two = all_append IsKnown _ _ one.1 in
       (one.0, two.0, two.1)
 
   -- a block in braces
@@ -336,34 +330,27 @@ module _ (u : Scene) where
   mutual
     pub statement_part : (s : Statement) (seen : Seen) → Has (statement_numbers s)
         → IsNamedStatement u.program u.in_main u.names s seen → Part seen (seen_after s seen) (statement_items u.frame s seen)
-    statement_part (Var x e) seen known named =
-        last_part seen (seen_with seen x) (expr_code u.frame.places u.frame.local e) (Istore (u.frame.local + x))
-        (value_runs seen e known named.0) (store_takes seen x named.1)
+    statement_part (Var x e) seen known named = last_part seen _ _ _ (value_runs seen e known named.0) (store_takes seen x named.1)
     statement_part (Assign x e) seen known named =
-        last_part seen seen (expr_code u.frame.places u.frame.local e) (Istore (u.frame.local + x)) (value_runs seen e known named.0)
-        (λ mid last s is there. store_takes seen x named.2 mid last (suits_wider seen (seen_with seen x) 0 last (grows_with seen x) s) is there)
+        last_part seen seen _ _ (value_runs seen e known named.0)
+        (λ mid last s is there. store_takes seen x named.2 mid last (suits_wider seen _ 0 last (grows_with seen x) s) is there)
     statement_part (Calls g args) seen known named =
         last_part seen seen (term_code u.frame.places u.frame.local (Called g args)) Pop (term_runs u seen (Called g args) 0 known named) (pop_takes seen)
     statement_part (If line (Equal a b) taken other) seen known named =
         let has = choice_numbers (Equal a b) taken other known in
-        choice_part seen (test_code u.frame.places u.frame.local (Equal a b)) IfIcmpeq 2 (else_items u.frame other seen) (statements_items u.frame taken seen)
-        (test_runs seen (Equal a b) has.0 named.0) (icmpeq u seen (pos (6 + items_size (else_items u.frame other seen))))
+        choice_part seen _ IfIcmpeq 2 _ _ (test_runs seen (Equal a b) has.0 named.0) (icmpeq u seen _)
         (else_part other seen has.2 named.2) (block taken seen (statements_part taken seen has.1 named.1))
     statement_part (If line (Less a b) taken other) seen known named =
         let has = choice_numbers (Less a b) taken other known in
-        choice_part seen (test_code u.frame.places u.frame.local (Less a b)) Iflt 1 (else_items u.frame other seen) (statements_items u.frame taken seen)
-        (test_runs seen (Less a b) has.0 named.0) (iflt u seen (pos (6 + items_size (else_items u.frame other seen))))
+        choice_part seen _ Iflt 1 _ _ (test_runs seen (Less a b) has.0 named.0) (iflt u seen _)
         (else_part other seen has.2 named.2) (block taken seen (statements_part taken seen has.1 named.1))
     statement_part (If line (Different a b) taken other) seen known named =
         let has = choice_numbers (Different a b) taken other known in
-        choice_part seen (test_code u.frame.places u.frame.local (Different a b)) IfIcmpeq 2 (statements_items u.frame taken seen)
-        (else_items u.frame other seen)
-        (test_runs seen (Different a b) has.0 named.0) (icmpeq u seen (pos (6 + items_size (statements_items u.frame taken seen))))
+        choice_part seen _ IfIcmpeq 2 _ _ (test_runs seen (Different a b) has.0 named.0) (icmpeq u seen _)
         (block taken seen (statements_part taken seen has.1 named.1)) (else_part other seen has.2 named.2)
     statement_part (While line c body) seen known named =
-        let has : Has (cond_numbers c) × Has (statements_numbers body) =
-        all_append IsKnown (cond_numbers c) (statements_numbers body) known in
-        loop_part seen c (statements_items u.frame body seen) (test_runs seen c has.0 named.0) (block body seen (statements_part body seen has.1 named.1))
+        let has : Has (cond_numbers c) × Has (statements_numbers body) = all_append IsKnown _ _ known in
+        loop_part seen c _ (test_runs seen c has.0 named.0) (block body seen (statements_part body seen has.1 named.1))
     statement_part (Return e) seen known named =
         last_part seen seen (expr_code u.frame.places u.frame.local e) Ireturn (value_runs seen e known named.0) (return_takes seen seen named.1)
     statement_part (Put e) seen known named =
@@ -374,11 +361,8 @@ module _ (u : Scene) where
         → AreNamed u.program u.in_main u.names row seen → Part seen (seen_afters row seen) (statements_items u.frame row seen)
     statements_part no_statements seen known named = part_none seen
     statements_part (statement s rest) seen known named =
-        let has : Has (statement_numbers s) × Has (statements_numbers rest) =
-        all_append IsKnown (statement_numbers s) (statements_numbers rest) known in
-        part_append seen (seen_after s seen) (seen_afters rest (seen_after s seen)) (statement_items u.frame s seen)
-        (statements_items u.frame rest (seen_after s seen))
-        (statement_part s seen has.0 named.0) (statements_part rest (seen_after s seen) has.1 named.1)
+        let has : Has (statement_numbers s) × Has (statements_numbers rest) = all_append IsKnown _ _ known in
+        part_append seen _ _ _ _ (statement_part s seen has.0 named.0) (statements_part rest _ has.1 named.1)
 
     pub else_part : (other : Else) (seen : Seen) → Has (else_numbers other)
         → IsNamedElse u.program u.in_main u.names other seen → Part seen seen (else_items u.frame other seen)

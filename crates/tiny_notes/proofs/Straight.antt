@@ -21,8 +21,8 @@ use Rattle.tiny_notes.proofs.Single.{IsSimple, IsPlain, plain, simple_met}
 pub all_append : {X : Type 0} (P : X → Type 0) (xs ys : List X) → All P (xs ++ ys) → All P xs × All P ys
 all_append P [] ys h = (All-nil P, h)
 all_append P (x ∷ xs) ys h =
-    let rest : All P xs × All P ys = all_append P xs ys (All-tail P x (xs ++ ys) h) in
-    (All-cons P x xs (All-head P x (xs ++ ys) h) rest.0, rest.1)
+    let rest : All P xs × All P ys = all_append P xs ys (All-tail P x _ h) in
+    (All-cons P x xs (All-head P x _ h) rest.0, rest.1)
 
 pub in_pool : (xs : List ℕ) (k n : ℕ) → slice_get xs k ≡ Some n → k < length xs
 in_pool [] k n h = cc
@@ -69,8 +69,8 @@ module _ (u : Scene) (seen : Seen) where
       → Suits u.frame seen (depth_after u.frame.image d is) last → AllMet u.frame.image u.whole at (straight u.frame seen d is)
   straight_met [] at d last simple h s = tt
   straight_met (i ∷ is) at d last simple h s =
-      let m = head_note is (at + size_of (row_of i)) (next_depth u.frame.image i d) last h.2 s in
-      (simple_met u seen i at d m.0 simple.0 h.0 m.1 m.2, straight_met is (at + size_of (row_of i)) (next_depth u.frame.image i d) last simple.1 h.2 s)
+      let m = head_note is _ _ last h.2 s in
+      (simple_met u seen i at d m.0 simple.0 h.0 m.1 m.2, straight_met is _ _ last simple.1 h.2 s)
 
   simple_append : (a b : List Instr) (d : ℕ) → AllSimple d a → AllSimple (depth_after u.frame.image d a) b → AllSimple d (a ++ b)
   simple_append [] b d h k = k
@@ -106,13 +106,9 @@ module _ (u : Scene) (seen : Seen) where
 
   number_runs : (b : Bool) (n d : ℕ) → Has (if b then [] else n ∷ []) → Runs ((if b then Bipush (pos n) else LdcW (u.frame.places.constant n)) ∷ []) d (d + 1)
   number_runs true n d known =
-      begun (Bipush (pos n)) [] d (d + 1) (d + 1)
-      (plain_simple (Bipush (pos n)) d (record { needs = refl; no_call = λ j e. cc; no_read = refl; no_store = refl }) refl tt (omega arith))
-      (omega arith) (none (d + 1))
-  number_runs false n d known =
-      begun (LdcW (u.frame.places.constant n)) [] d (d + 1) (d + 1)
-      (constant_simple (u.frame.places.constant n) d (in_pool u.frame.image.pool (u.frame.places.constant n) n (All-head IsKnown n [] known)))
-      (omega arith) (none (d + 1))
+      begun _ [] d _ _ (plain_simple _ d (record { needs = refl; no_call = λ j e. cc; no_read = refl; no_store = refl }) refl tt (omega arith))
+      (omega arith) (none _)
+  number_runs false n d known = begun _ [] d _ _ (constant_simple _ d (in_pool _ _ n (All-head IsKnown n [] known))) (omega arith) (none _)
 
   pub operator_plain : (op : Operator) → IsPlain u (operator_code op)
   operator_plain Plus = record { needs = refl; no_call = λ j e. cc; no_read = refl; no_store = refl }
@@ -127,22 +123,21 @@ module _ (u : Scene) (seen : Seen) where
   operator_runs op is d e k = begun (operator_code op) is (d + 1 + 1) (d + 1) e (operator_simple op d).0 (operator_simple op d).1 k
 
   variable_simple : (x d : ℕ) → (seen x ≡ true) × (x < u.names) → IsSimple u seen (Iload (u.frame.local + x)) d
-  variable_simple x d h = record {
-    ready = record {
-      constant = tt;
-      needs = refl;
-      enough = omega arith;
-      calls = λ k e. cc;
-      returns = λ e. cc;
-      reads = λ k e. ap (set_of first seen) (sym (same_Some (first + x) k e)) ∙ set_first first x seen ∙ h.0;
-      names = λ k. ⊎_elim (λ e. let same : first + x ≡ k = same_Some (first + x) k e in (omega (arith, same), omega (arith, same, h.1)))
-          (λ e. let z : None ≡ Some k = e in cc);
-    };
-    no_jump = refl;
-  }
-    where
-      first : ℕ
-      first = u.frame.local
+  variable_simple x d h =
+      let first : ℕ = u.frame.local in
+      record {
+        ready = record {
+          constant = tt;
+          needs = refl;
+          enough = omega arith;
+          calls = λ k e. cc;
+          returns = λ e. cc;
+          reads = λ k e. ap (set_of first seen) (sym (same_Some _ k e)) ∙ set_first first x seen ∙ h.0;
+          names = λ k. ⊎_elim (λ e. let same : first + x ≡ k = same_Some _ k e in (omega (arith, same), omega (arith, same, h.1)))
+              (λ e. let z : None ≡ Some k = e in cc);
+        };
+        no_jump = refl;
+      }
 
   call_simple : (g m d : ℕ) → CallFinds u.frame.image u.whole (u.frame.places.entry g) m → m + 1 ≤ d
       → IsSimple u seen (Invokevirtual (u.frame.places.entry g)) d
@@ -170,32 +165,25 @@ module _ (u : Scene) (seen : Seen) where
     term_runs (Called g args) d known named =
         let m : ℕ = arguments_count args in
         let c : CallFinds u.frame.image u.whole (u.frame.places.entry g) m = u.finds g m named.0 in
-        let call : Runs (Invokevirtual (u.frame.places.entry g) ∷ []) (d + 1 + m) (d + 1) =
-        begun (Invokevirtual (u.frame.places.entry g)) [] (d + 1 + m) (d + 1) (d + 1) (call_simple g m (d + 1 + m) c (omega arith))
-        (omega (arith, c.takes_is)) (none (d + 1)) in
-        begun (LdcW 0) (arguments_code u.frame.places u.frame.local args ++ Invokevirtual (u.frame.places.entry g) ∷ []) d (d + 1) (d + 1)
-        (constant_simple 0 d u.object) (omega arith)
-        (joined (arguments_code u.frame.places u.frame.local args) (Invokevirtual (u.frame.places.entry g) ∷ []) (d + 1) (d + 1 + m) (d + 1)
-        (arguments_run args (d + 1) known named.1) call)
+        let call : Runs (Invokevirtual (u.frame.places.entry g) ∷ []) (d + 1 + m) (d + 1) = begun _ [] _ _ _ (call_simple g m _ c (omega arith))
+        (omega (arith, c.takes_is)) (none _) in
+        begun _ _ d _ _ (constant_simple 0 d u.object) (omega arith) (joined _ _ _ _ _ (arguments_run args _ known named.1) call)
     term_runs Get d known named =
-        begun In [] d (d + 1) (d + 1) (plain_simple In d (record { needs = refl; no_call = λ j e. cc; no_read = refl; no_store = refl }) refl tt
-        (omega arith)) (omega arith) (none (d + 1))
+        begun In [] d _ _ (plain_simple In d (record { needs = refl; no_call = λ j e. cc; no_read = refl; no_store = refl }) refl tt
+        (omega arith)) (omega arith) (none _)
     term_runs (Group e) d known named = expr_runs e d known named
 
     pub expr_runs : (e : Expr) (d : ℕ) → Has (expr_numbers e) → IsNamedExpr u.program u.names seen e → Runs (expr_code u.frame.places u.frame.local e) d (d + 1)
     expr_runs (Sum first rest) d known named =
-        let has : Has (term_numbers first) × Has (steps_numbers rest) = all_append IsKnown (term_numbers first) (steps_numbers rest) known in
-        joined (term_code u.frame.places u.frame.local first) (steps_code u.frame.places u.frame.local rest) d (d + 1) (d + 1)
-        (term_runs first d has.0 named.0) (steps_run rest d has.1 named.1)
+        let has : Has (term_numbers first) × Has (steps_numbers rest) = all_append IsKnown _ _ known in
+        joined _ _ d _ _ (term_runs first d has.0 named.0) (steps_run rest d has.1 named.1)
 
     pub steps_run : (rest : Steps) (d : ℕ) → Has (steps_numbers rest) → AreNamedSteps u.program u.names seen rest
         → Runs (steps_code u.frame.places u.frame.local rest) (d + 1) (d + 1)
     steps_run no_steps d known named = none (d + 1)
     steps_run (step op t rest) d known named =
-        let has : Has (term_numbers t) × Has (steps_numbers rest) = all_append IsKnown (term_numbers t) (steps_numbers rest) known in
-        joined (term_code u.frame.places u.frame.local t) (operator_code op ∷ steps_code u.frame.places u.frame.local rest) (d + 1) (d + 1 + 1) (d + 1)
-        (term_runs t (d + 1) has.0 named.0)
-        (operator_runs op (steps_code u.frame.places u.frame.local rest) d (d + 1) (steps_run rest d has.1 named.1))
+        let has : Has (term_numbers t) × Has (steps_numbers rest) = all_append IsKnown _ _ known in
+        joined _ _ _ _ _ (term_runs t _ has.0 named.0) (operator_runs op _ d _ (steps_run rest d has.1 named.1))
 
     pub arguments_run : (args : Arguments) (d : ℕ) → Has (arguments_numbers args) → AreNamedArguments u.program u.names seen args
         → Runs (arguments_code u.frame.places u.frame.local args) d (d + arguments_count args)
@@ -203,7 +191,6 @@ module _ (u : Scene) (seen : Seen) where
     arguments_run (argument e rest) d known named =
         let m : ℕ = arguments_count rest in
         let ends : d + 1 + m ≡ d + (m + 1) = omega arith in
-        let has : Has (expr_numbers e) × Has (arguments_numbers rest) = all_append IsKnown (expr_numbers e) (arguments_numbers rest) known in
-        joined (expr_code u.frame.places u.frame.local e) (arguments_code u.frame.places u.frame.local rest) d (d + 1) (d + (m + 1))
-        (expr_runs e d has.0 named.0)
-        (subst (λ (x : ℕ). Runs (arguments_code u.frame.places u.frame.local rest) (d + 1) x) ends (arguments_run rest (d + 1) has.1 named.1))
+        let has : Has (expr_numbers e) × Has (arguments_numbers rest) = all_append IsKnown _ _ known in
+        joined _ _ d _ _ (expr_runs e d has.0 named.0)
+        (subst (λ (x : ℕ). Runs (arguments_code u.frame.places u.frame.local rest) (d + 1) x) ends (arguments_run rest _ has.1 named.1))

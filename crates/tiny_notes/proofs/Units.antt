@@ -115,15 +115,8 @@ module _ (image : ImageView) (p : Places) (program : Program) where
     -- ---- calls
 
     head : (f : ℕ) (g : Function) (l : Lies f g) → Begins (method_frame l.begin) (parameters_seen g) (body_items l.begin g ++ (end_items l.begin g ++ l.post))
-    head f g l = row_begins (method_frame l.begin) g.body (parameters_seen g) (end_items l.begin g ++ l.post)
-        (record {
-          i = Bipush (pos 0);
-          n = method_note l.begin g 0;
-          rest = Code Ireturn (method_note l.begin g 1)
-              ∷ l.post;
-          is = refl;
-          suits = its_own (method_frame l.begin) (parameters_seen g) 0;
-        })
+    head f g l = row_begins _ g.body _ _
+        (record { i = Bipush (pos 0); n = method_note l.begin g 0; rest = Code Ireturn (method_note l.begin g 1) ∷ l.post; is = refl; suits = its_own _ _ 0 })
 
     begins_there : (f : ℕ) (g : Function) (l : Lies f g) → note_at whole (l.begin + 4) ≡ Some (head f g l).n
     begins_there f g l =
@@ -144,32 +137,27 @@ module _ (image : ImageView) (p : Places) (program : Program) where
         by false t e = omega (arith, ltb-false k 1 t, ltb-true (k - 1) g.parameters e)
 
     lies_found : (f m : ℕ) (g : Function) (l : Lies f g) → g.parameters ≡ m → CallFinds image whole (p.entry f) m
-    lies_found f m g l same = record {
-      method = record {
-        entry = l.begin;
-        constant = l.stands.entry;
-        inside = l.stands.inside;
-        begins = (head f g l).n;
-        there = begins_there f g l;
-        unit = (head f g l).suits.unit;
-        depth = (head f g l).suits.depth;
-        unset = λ k own. unset_by ((head f g l).n.set k) (λ t. outside k own (set_below g k ((head f g l).suits.set k t)));
-      };
-      constant = in_pool image.pool (p.entry f) l.begin l.stands.entry;
-      needs = ap (λ (c : Option ℕ). option_map (λ (x : Method). x.params) (method_at image.text c)) l.stands.entry
-          ∙ ap (λ (b : Bool). option_map (λ (x : Method). x.params) (if b then Some here else None)) (lt-ltb (l.begin + 4) (length image.text) l.stands.inside)
-          ∙ ap Some counted;
-      takes_is = ap (params_by image.text) l.stands.entry ∙ counted;
-    }
-      where
-        here : Method
-        here = record { entry = l.begin; params = params image.text l.begin; others = others image.text l.begin }
-
-        counted : params image.text l.begin ≡ m + 1
-        counted = omega (arith, l.stands.params, same)
-
-        outside : (k : ℕ) → IsOwn image.text l.begin k → k < g.parameters + 1 → ⊥
-        outside k own lt = omega (arith, own.0, lt, l.stands.params)
+    lies_found f m g l same =
+        let here : Method = record { entry = l.begin; params = params image.text l.begin; others = others image.text l.begin } in
+        let counted : params image.text l.begin ≡ m + 1 = omega (arith, l.stands.params, same) in
+        let outside : (k : ℕ) → IsOwn image.text l.begin k → k < g.parameters + 1 → ⊥ = λ k own lt. omega (arith, own.0, lt, l.stands.params) in
+        record {
+          method = record {
+            entry = l.begin;
+            constant = l.stands.entry;
+            inside = l.stands.inside;
+            begins = (head f g l).n;
+            there = begins_there f g l;
+            unit = (head f g l).suits.unit;
+            depth = (head f g l).suits.depth;
+            unset = λ k own. unset_by _ (λ t. outside k own (set_below g k ((head f g l).suits.set k t)));
+          };
+          constant = in_pool _ _ l.begin l.stands.entry;
+          needs = ap (λ (c : Option ℕ). option_map (λ (x : Method). x.params) (method_at image.text c)) l.stands.entry
+              ∙ ap (λ (b : Bool). option_map (λ (x : Method). x.params) (if b then Some here else None)) (lt-ltb (l.begin + 4) (length image.text) l.stands.inside)
+              ∙ ap Some counted;
+          takes_is = ap (params_by image.text) l.stands.entry ∙ counted;
+        }
 
     -- ---- methods
 
@@ -179,103 +167,67 @@ module _ (image : ImageView) (p : Places) (program : Program) where
       object = in_pool image.pool 0 0 holds.object
 
       abbrev method_scene : (f : ℕ) (g : Function) (l : Lies f g) → Scene
-      method_scene f g l = record {
-        frame = method_frame l.begin;
-        whole = whole;
-        program = program;
-        in_main = f == program.main;
-        names = names_count g;
-        object = object;
-        finds = finds;
-        counted = counted;
-        headed = headed;
-        main = λ e. cc;
-      }
-        where
-          counted : (e : ℕ) → Some l.begin ≡ Some e → (0 < params image.text e) × (1 + names_count g ≡ params image.text e + others image.text e)
-          counted e u =
-              let same : l.begin ≡ e = same_Some l.begin e u in
-              let c : params image.text l.begin ≡ params image.text e = ap (params image.text) same in
-              let o : others image.text l.begin ≡ others image.text e = ap (others image.text) same in
-              (omega (arith, c, l.stands.params), omega (arith, c, o, l.stands.params, l.stands.others))
-
-          headed : (e : ℕ) → Some l.begin ≡ Some e → (0 < 1) × HasHeader 0 whole e
-          headed e u =
-              let h : HasHeader 0 whole (0 + items_size l.pre) =
-              subst (λ (x : List Item). HasHeader 0 x (0 + items_size l.pre)) (sym l.split)
-              (header_after l.pre ((body_items l.begin g ++ end_items l.begin g) ++ l.post) 0) in
-              let z : 0 + items_size l.pre ≡ e = omega (arith, l.at, same_Some l.begin e u) in
-              (omega arith, subst (λ (x : ℕ). HasHeader 0 whole x) z h)
+      method_scene f g l =
+          let counted : (e : ℕ) → Some l.begin ≡ Some e → (0 < params image.text e) × (1 + names_count g ≡ params image.text e + others image.text e) =
+          (λ e u. let same : l.begin ≡ e = same_Some l.begin e u in
+          let c : params image.text l.begin ≡ params image.text e = ap (params image.text) same in
+          let o : others image.text l.begin ≡ others image.text e = ap (others image.text) same in
+          (omega (arith, c, l.stands.params), omega (arith, c, o, l.stands.params, l.stands.others))) in
+          let headed : (e : ℕ) → Some l.begin ≡ Some e → (0 < 1) × HasHeader 0 whole e =
+          (λ e u. let h : HasHeader 0 whole (0 + items_size l.pre) =
+          subst (λ (x : List Item). HasHeader 0 x (0 + items_size l.pre)) (sym l.split)
+          (header_after l.pre ((body_items l.begin g ++ end_items l.begin g) ++ l.post) 0) in
+          let z : 0 + items_size l.pre ≡ e = omega (arith, l.at, same_Some l.begin e u) in
+          (omega arith, subst (λ (x : ℕ). HasHeader 0 whole x) z h)) in
+          record {
+            frame = method_frame l.begin;
+            whole = whole;
+            program = program;
+            in_main = f == program.main;
+            names = names_count g;
+            object = object;
+            finds = finds;
+            counted = counted;
+            headed = headed;
+            main = λ e. cc;
+          }
 
       -- a method's items meet their notes
       method_met : (f : ℕ) (g : Function) (l : Lies f g) → slice_get program.functions f ≡ Some g → AllMet image whole l.begin (method_items l.begin g)
-      method_met f g l is = met_append image whole body (end_items l.begin g) b fine.met (one, (two, tt))
-        where
-          u : Scene
-          u = method_scene f g l
-
-          seen : Seen
-          seen = parameters_seen g
-
-          body : List Item
-          body = body_items l.begin g
-
-          b : ℕ
-          b = l.begin + 4
-
-          code : List Instr
-          code = statements_code p 1 g.body
-
-          ends : List Instr
-          ends = Bipush (pos 0) ∷ Ireturn ∷ []
-
-          spells : Spells body code
-          spells = body_spells l.begin g
-
-          here : Note
-          here = method_note l.begin g 0
-
-          pre : List Item
-          pre = l.pre ++ Header ∷ []
-
-          stands : Stands image whole b body here
-          stands = stands_at image whole pre body (Code Ireturn (method_note l.begin g 1) ∷ l.post) (Bipush (pos 0)) here b (code_split f g l)
-              (code_begins f g l)
-              (subst (CodeAt image.text b) (sym spells.code_is) (front_at image.text b code ends l.stands.code)) spells.clean
-
-          after : CodeAt image.text (b + code_size code) ends
-          after = back_at image.text b code ends l.stands.code
-
-          fine : Fine u seen b body
-          fine = statements_part u g.body seen (holds.numbers f g is) (named.functions f g is).body b here stands
-              (suits_wider u seen (seen_afters g.body seen) 0 here (grows_all g.body seen) (its_own (method_frame l.begin) seen 0))
-              (omega (arith, after.0, spells.size))
-
-          mid : b + items_size body ≡ b + code_size code
-          mid = omega (arith, spells.size)
-
-          second : CodeAt image.text (b + items_size body) ends
-          second = subst (λ (x : ℕ). CodeAt image.text x ends) (sym mid) after
-
-          third : CodeAt image.text (b + items_size body + 2) (Ireturn ∷ [])
-          third = second.2
-
-          next_note : note_at whole (b + items_size body + 2) ≡ Some (method_note l.begin g 1)
-          next_note =
-              let push : List Item = Code (Bipush (pos 0)) here ∷ [] in
-              let last : List Item = Code Ireturn (method_note l.begin g 1) ∷ l.post in
-              let e : whole ≡ (pre ++ (body ++ push)) ++ last =
-              code_split f g l ∙ ap (λ x. pre ++ x) (sym (append_assoc body push last)) ∙ sym (append_assoc pre (body ++ push) last) in
-              note_at_seam whole (pre ++ (body ++ push)) Ireturn (method_note l.begin g 1) l.post (b + items_size body + 2) e
-              (omega (arith, code_begins f g l, items_append pre (body ++ push), items_append body push))
-
-          one : IsMet image whole (b + items_size body) (Bipush (pos 0)) here
-          one = simple_met u seen (Bipush (pos 0)) (b + items_size body) 0 (method_note l.begin g 1)
-              (plain_simple u seen (Bipush (pos 0)) 0 (record { needs = refl; no_call = λ k e. cc; no_read = refl; no_store = refl }) refl tt (omega arith))
-              second.1 next_note (its_own (method_frame l.begin) seen 1)
-
-          two : IsMet image whole (b + items_size body + 2) Ireturn (method_note l.begin g 1)
-          two = return_met u seen (b + items_size body + 2) 1 (omega arith) (λ e. cc) third.1
+      method_met f g l is =
+          let u : Scene = method_scene f g l in
+          let seen : Seen = parameters_seen g in
+          let body : List Item = body_items l.begin g in
+          let b : ℕ = l.begin + 4 in
+          let code : List Instr = statements_code p 1 g.body in
+          let ends : List Instr = Bipush (pos 0) ∷ Ireturn ∷ [] in
+          let spells : Spells body code = body_spells l.begin g in
+          let here : Note = method_note l.begin g 0 in
+          let pre : List Item = l.pre ++ Header ∷ [] in
+          let stands : Stands image whole b body here =
+          stands_at image whole pre body _ _ here b (code_split f g l) (code_begins f g l)
+          (subst (CodeAt image.text b) (sym spells.code_is) (front_at image.text b code ends l.stands.code)) spells.clean in
+          let after : CodeAt image.text (b + code_size code) ends = back_at image.text b code ends l.stands.code in
+          let fine : Fine u seen b body =
+          statements_part u g.body seen (holds.numbers f g is) (named.functions f g is).body b here stands
+          (suits_wider u seen _ 0 here (grows_all g.body seen) (its_own _ seen 0)) (omega (arith, after.0, spells.size)) in
+          let mid : b + items_size body ≡ b + code_size code = omega (arith, spells.size) in
+          let second : CodeAt image.text (b + items_size body) ends = subst (λ (x : ℕ). CodeAt image.text x ends) (sym mid) after in
+          let third : CodeAt image.text (b + items_size body + 2) (Ireturn ∷ []) = second.2 in
+          let next_note : note_at whole (b + items_size body + 2) ≡ Some (method_note l.begin g 1) =
+          let push : List Item = Code (Bipush (pos 0)) here ∷ [] in
+          let last : List Item = Code Ireturn (method_note l.begin g 1) ∷ l.post in
+          let e : whole ≡ (pre ++ (body ++ push)) ++ last =
+          code_split f g l ∙ ap (λ x. pre ++ x) (sym (append_assoc body push last)) ∙ sym (append_assoc pre (body ++ push) last) in
+          note_at_seam whole (pre ++ (body ++ push)) Ireturn (method_note l.begin g 1) l.post (b + items_size body + 2) e
+          (omega (arith, code_begins f g l, items_append pre (body ++ push), items_append body push)) in
+          let one : IsMet image whole (b + items_size body) (Bipush (pos 0)) here =
+          simple_met u seen _ _ 0 _
+          (plain_simple u seen _ 0 (record { needs = refl; no_call = λ k e. cc; no_read = refl; no_store = refl }) refl tt (omega arith))
+          second.1 next_note (its_own _ seen 1) in
+          let two : IsMet image whole (b + items_size body + 2) Ireturn (method_note l.begin g 1) =
+          return_met u seen (b + items_size body + 2) 1 (omega arith) (λ e. cc) third.1 in
+          met_append image whole body (end_items l.begin g) b fine.met (one, (two, tt))
 
     -- ---- one method after the other
 
@@ -321,8 +273,7 @@ module _ (image : ImageView) (p : Places) (program : Program) where
         met_append image whole (method_items begin m.1) (methods_items next ms) begin
         (method_met named holds finds m.0 m.1 (first_lies pre begin m ms at split laid) (All-head known m ms are))
         (subst (λ (x : ℕ). AllMet image whole x (methods_items next ms)) (sym place)
-        (methods_met named holds finds ms (pre ++ method_items begin m.1) next (next_at pre begin m.1 at) (next_split pre begin m ms split)
-        laid.1 (All-tail known m ms are)))
+        (methods_met named holds finds ms _ next (next_at pre begin m.1 at) (next_split pre begin m ms split) laid.1 (All-tail known m ms are)))
 
   -- ---- main, and the whole list
 
@@ -331,98 +282,54 @@ module _ (image : ImageView) (p : Places) (program : Program) where
       → ((f : ℕ) (g : Function) → Contains (methods program) (f, g) → (slice_get program.functions f ≡ Some g) × (f ≢ program.main))
       → (g : Function) → slice_get program.functions program.main ≡ Some g → CodeAt image.text 0 (main_code p g)
       → AreMethodsAt image p (code_size (main_code p g)) (methods program) → IsListed image (program_items g)
-  listed named holds complete sound g is code_at stand = record {
-    start = (begin.n, begins_there_0, begin.suits.unit, begin.suits.depth);
-    met = met_append image whole (main_items g) others_items 0 (met_append image whole body (halting ∷ []) 0 fine.met (halts, tt))
-        (subst (λ (x : ℕ). AllMet image whole x others_items) (sym place) rest);
-  }
-    where
-      whole : List Item
-      whole = program_items g
-
-      seen : Seen
-      seen = parameters_seen g
-
-      body : List Item
-      body = statements_items main_frame g.body seen
-
-      here : Note
-      here = note_of main_frame seen 0
-
-      halting : Item
-      halting = Code HaltCode here
-
-      code : List Instr
-      code = statements_code p 0 g.body
-
-      size : ℕ
-      size = code_size (main_code p g)
-
-      others_items : List Item
-      others_items = methods_items size (methods program)
-
-      spells : Spells body code
-      spells = statements_spell main_frame g.body seen
-
-      place : 0 + items_size (main_items g) ≡ size
-      place = omega (arith, main_size_is g)
-
-      at : size ≡ items_size (main_items g)
-      at = sym (main_size_is g)
-
-      finds : (f m : ℕ) → IsCallable program f m → CallFinds image whole (p.entry f) m
-      finds f m c =
-          lies_found whole f m c.function
-          (lies_by whole (methods program) (main_items g) size f c.function at refl stand
-          (has_of (methods program) f c.function (complete f c.function c.is c.other))) c.counts
-
-      are : AreFunctions whole (methods program)
-      are = All-weaker (Contains (methods program)) (λ m. slice_get program.functions m.0 ≡ Some m.1) (λ m c. (sound m.0 m.1 c).0)
-          (methods program) (All-contains_itself (methods program))
-
-      rest : AllMet image whole size others_items
-      rest = methods_met whole named holds finds (methods program) (main_items g) size at refl stand are
-
-      few : names_count g ≤ 255
-      few = (named.functions program.main g is).few
-
-      u : Scene
-      u = record {
+  listed named holds complete sound g is code_at stand =
+      let whole : List Item = program_items g in
+      let seen : Seen = parameters_seen g in
+      let body : List Item = statements_items main_frame g.body seen in
+      let here : Note = note_of main_frame seen 0 in
+      let halting : Item = Code HaltCode here in
+      let code : List Instr = statements_code p 0 g.body in
+      let size : ℕ = code_size (main_code p g) in
+      let others_items : List Item = methods_items size (methods program) in
+      let spells : Spells body code = statements_spell main_frame g.body seen in
+      let place : 0 + items_size (main_items g) ≡ size = omega (arith, main_size_is g) in
+      let at : size ≡ items_size (main_items g) = sym (main_size_is g) in
+      let finds : (f m : ℕ) → IsCallable program f m → CallFinds image whole (p.entry f) m =
+      λ f m c. lies_found whole f m _ (lies_by whole _ _ size f _ at refl stand (has_of _ f _ (complete f c.function c.is c.other))) c.counts in
+      let are : AreFunctions whole (methods program) =
+      All-weaker (Contains (methods program)) (λ m. slice_get program.functions m.0 ≡ Some m.1) (λ m c. (sound m.0 m.1 c).0)
+      (methods program) (All-contains_itself (methods program)) in
+      let rest : AllMet image whole size others_items = methods_met whole named holds finds (methods program) (main_items g) size at refl stand are in
+      let few : names_count g ≤ 255 = (named.functions program.main g is).few in
+      let u : Scene =
+      record {
         frame = main_frame;
         whole = whole;
         program = program;
         in_main = program.main == program.main;
         names = names_count g;
-        object = in_pool image.pool 0 0 holds.object;
+        object = in_pool _ 0 0 holds.object;
         finds = finds;
         counted = λ e h. cc;
         headed = λ e h. cc;
         main = λ h. (eq-eqb program.main program.main refl, omega (arith, few));
+      } in
+      let split : whole ≡ body ++ (halting ∷ others_items) = append_assoc body (halting ∷ []) others_items in
+      let stands : Stands image whole 0 body here =
+      stands_at image whole [] body others_items HaltCode here 0 split refl
+      (subst (CodeAt image.text 0) (sym spells.code_is) (front_at image.text 0 code (HaltCode ∷ []) code_at)) spells.clean in
+      let after : CodeAt image.text (0 + code_size code) (HaltCode ∷ []) = back_at image.text 0 code (HaltCode ∷ []) code_at in
+      let halt_is : instr_at image.text (0 + items_size body) ≡ Some HaltCode = ap (λ (x : ℕ). instr_at image.text (0 + x)) spells.size ∙ after.1 in
+      let halts : IsMet image whole (0 + items_size body) HaltCode here = halt_met u seen (0 + items_size body) 0 halt_is in
+      let fine : Fine u seen 0 body =
+      statements_part u g.body seen (holds.numbers program.main g is) (named.functions program.main g is).body 0 here stands
+      (suits_wider u seen (seen_afters g.body seen) 0 here (grows_all g.body seen) (its_own main_frame seen 0)) (omega (arith, after.0, spells.size)) in
+      let begin : Begins main_frame seen (body ++ (halting ∷ others_items)) =
+      row_begins main_frame g.body seen (halting ∷ others_items)
+      (record { i = HaltCode; n = here; rest = others_items; is = refl; suits = its_own main_frame seen 0 }) in
+      let begins_there_0 : note_at whole 0 ≡ Some begin.n = note_at_seam whole [] begin.i begin.n begin.rest 0 (split ∙ begin.is) refl in
+      record {
+        start = (begin.n, begins_there_0, begin.suits.unit, begin.suits.depth);
+        met = met_append image whole (main_items g) others_items 0 (met_append image whole body (halting ∷ []) 0 fine.met (halts, tt))
+            (subst (λ (x : ℕ). AllMet image whole x others_items) (sym place) rest);
       }
-
-      split : whole ≡ body ++ (halting ∷ others_items)
-      split = append_assoc body (halting ∷ []) others_items
-
-      stands : Stands image whole 0 body here
-      stands = stands_at image whole [] body others_items HaltCode here 0 split refl
-          (subst (CodeAt image.text 0) (sym spells.code_is) (front_at image.text 0 code (HaltCode ∷ []) code_at)) spells.clean
-
-      after : CodeAt image.text (0 + code_size code) (HaltCode ∷ [])
-      after = back_at image.text 0 code (HaltCode ∷ []) code_at
-
-      halt_is : instr_at image.text (0 + items_size body) ≡ Some HaltCode
-      halt_is = ap (λ (x : ℕ). instr_at image.text (0 + x)) spells.size ∙ after.1
-
-      halts : IsMet image whole (0 + items_size body) HaltCode here
-      halts = halt_met u seen (0 + items_size body) 0 halt_is
-
-      fine : Fine u seen 0 body
-      fine = statements_part u g.body seen (holds.numbers program.main g is) (named.functions program.main g is).body 0 here stands
-          (suits_wider u seen (seen_afters g.body seen) 0 here (grows_all g.body seen) (its_own main_frame seen 0)) (omega (arith, after.0, spells.size))
-
-      begin : Begins main_frame seen (body ++ (halting ∷ others_items))
-      begin = row_begins main_frame g.body seen (halting ∷ others_items)
-          (record { i = HaltCode; n = here; rest = others_items; is = refl; suits = its_own main_frame seen 0 })
-
-      begins_there_0 : note_at whole 0 ≡ Some begin.n
-      begins_there_0 = note_at_seam whole [] begin.i begin.n begin.rest 0 (split ∙ begin.is) refl

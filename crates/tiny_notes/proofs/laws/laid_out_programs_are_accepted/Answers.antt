@@ -6,5 +6,4 @@ returns c image p program named laid end map =
     c.listed_images_are_accepted.ensures image (program_items image p program laid.main) end
     (listed image p program named (c.laid_out_programs_hold.ensures image p program laid)
     (λ f g found other. c.methods_are_the_others.ensures.complete program f g (found, other)) (c.methods_are_the_others.ensures.sound program)
-    laid.main laid.main_is laid.main_at laid.methods)
-    map
+    _ laid.main_is laid.main_at laid.methods) map
