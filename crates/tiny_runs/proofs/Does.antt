@@ -42,10 +42,8 @@ module _ {image : ImageView} {stack_end : ℕ} where
       Does image stack_end d (and_then r f) w s L on
   does_then {d} {A} {B} {r} {w} {s} {K} {to} {f} {L} {on} does e =
       record {
-        by = λ go h. subst (λ (m : Meaning). Follows image stack_end m (d + w.turns) s) (sym (after_then r f go))
-            (does.by (λ a u. ending (f a u) go)
-            (λ a x u le. lower image stack_end (ending (f a u) go) u.turns (0 + u.turns) (to a x u) (omega arith)
-            ((e a x u le).by go (λ b y v le'. h b y v (omega (arith, le, le'))))));
+        by = λ go h. subst (λ (m : Meaning). Follows image stack_end m (d + w.turns) s) (sym (after_then r f go)) (does.by (λ a u. ending (f a u) go)
+            (λ a x u le. lower image _ _ u.turns _ _ (omega arith) ((e a x u le).by go (λ b y v le'. h b y v (omega (arith, le, le'))))));
       }
 
   pub does_lower : {A : Type 0} {r : Result A} {w : TinyWorld} {K : A → Type 0} {to : (a : A) → K a → TinyWorld → State} {s : State} (d : ℕ) →
@@ -59,8 +57,7 @@ module _ {image : ImageView} {stack_end : ℕ} where
   does_after {A} {r} {w} {K} {to} s t e same d =
       record {
         by = λ go h. let f : Follows image stack_end (ending r go) (0 + w.turns) t = d.by go h in
-            goes image stack_end (ending r go) (1 + w.turns) (0 + w.turns) s t e (omega arith)
-            (subst (λ (g : List ℕ). IsPrefix g (output (ending r go))) same f.prefix) f;
+            goes image _ _ _ _ s t e (omega arith) (subst (λ (g : List ℕ). IsPrefix g (output (ending r go))) same f.prefix) f;
       }
 
   -- an instruction on the way that puts out nothing, but may meet the stack's end
@@ -70,8 +67,7 @@ module _ {image : ImageView} {stack_end : ℕ} where
   does_push {A} {r} {w} {K} {to} s t left e same d =
       record {
         by = λ go h. let f : Follows image stack_end (ending r go) (0 + w.turns) t = d.by go h in
-            pushes image stack_end (ending r go) (1 + w.turns) (0 + w.turns) s t left e (omega arith)
-            (subst (λ (g : List ℕ). IsPrefix g (output (ending r go))) same f.prefix) f;
+            pushes image _ _ _ _ s t left e (omega arith) (subst (λ (g : List ℕ). IsPrefix g (output (ending r go))) same f.prefix) f;
       }
 
   -- where the run gets stuck, something else might come
@@ -80,7 +76,7 @@ module _ {image : ImageView} {stack_end : ℕ} where
   does_stuck {A} {r} {w} {K} {to} s t e same d =
       record {
         by = λ go h. let f : Follows image stack_end (ending r go) (0 + w.turns) t = d.by go h in
-            stuck image stack_end (ending r go) (1 + w.turns) s e (subst (λ (g : List ℕ). IsPrefix g (output (ending r go))) same f.prefix);
+            stuck image _ _ _ s e (subst (λ (g : List ℕ). IsPrefix g (output (ending r go))) same f.prefix);
       }
 
   -- a value is given, and the run is where that leads
@@ -97,10 +93,7 @@ module _ {image : ImageView} {stack_end : ℕ} where
   pub does_halt : {A : Type 0} (w : TinyWorld) (s : State) (K : A → Type 0) (to : (a : A) → K a → TinyWorld → State) →
       step_outcome image stack_end s ≡ StepHalts → s.given ≡ w.given → s.untaken ≡ w.untaken → Does image stack_end 0 (Halts w) w s K to
   does_halt w s K to e given untaken =
-      record {
-        by = λ go h. halts image stack_end (Ended w.given w.untaken) (0 + w.turns) s e
-            (ap (λ (g : List ℕ). Ended g w.untaken) (sym given) ∙ ap (λ (g : List ℕ). Ended s.given g) (sym untaken));
-      }
+      record { by = λ go h. halts image _ _ _ s e (ap (λ (g : List ℕ). Ended g w.untaken) (sym given) ∙ ap (λ (g : List ℕ). Ended s.given g) (sym untaken)) }
 
   pub does_cut : {A : Type 0} (w : TinyWorld) (s : State) (K : A → Type 0) (to : (a : A) → K a → TinyWorld → State) →
       w.turns ≡ 0 → s.given ≡ w.given → Does image stack_end 0 (Cuts w) w s K to
@@ -114,10 +107,7 @@ module _ {image : ImageView} {stack_end : ℕ} where
       Does image stack_end 0 (in_turn w t go) w s K to
   does_turn w s K to go zero e given d = does_cut w s K to e given
   does_turn w s K to go (suc m) e given d =
-      record {
-        by = λ next h. lower image stack_end (ending (go (record w { turns = m })) next) (0 + w.turns) (1 + m) s (omega (arith, e))
-            ((d m refl).by next (λ a x u le. h a x u (omega (arith, le, e))));
-      }
+      record { by = λ next h. lower image _ _ _ _ s (omega (arith, e)) ((d m refl).by next (λ a x u le. h a x u (omega (arith, le, e)))) }
 
   -- a further part of the same result, from there on
   pub does_more : {A : Type 0} {d : ℕ} {r : Result A} {w : TinyWorld} {s : State} {K L : A → Type 0} {to : (a : A) → K a → TinyWorld → State}
@@ -126,7 +116,5 @@ module _ {image : ImageView} {stack_end : ℕ} where
       Does image stack_end d r w s L on
   does_more {A} {d} {r} {w} {s} {K} {L} {to} {on} does e =
       record {
-        by = λ go h. does.by go
-            (λ a x u le. lower image stack_end (go a u) u.turns (0 + u.turns) (to a x u) (omega arith)
-            ((e a x u le).by go (λ b y v le'. h b y v (omega (arith, le, le')))));
+        by = λ go h. does.by go (λ a x u le. lower image _ _ u.turns _ _ (omega arith) ((e a x u le).by go (λ b y v le'. h b y v (omega (arith, le, le')))));
       }

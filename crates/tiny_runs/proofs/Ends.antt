@@ -83,8 +83,7 @@ module _ (p : TimedImage) (advances : Advances p.timing) where
     tell_on m j k last at t below e le (IsHalted f h is same) = IsHalted f (ends_on at t f below e h) is same
     tell_on m j k last at t below e le (IsBounded f h is q small) = IsBounded f (ends_on at t f below e h) is q small
     tell_on m j k last at t below e le (IsCut c h is far lt) =
-        IsCut c (passes_on p bound at (point_after p at t) c t (leb-false bound at.cycles below) e refl h) is
-        (omega (arith, far, le, rises at t e)) lt
+        IsCut c (passes_on p bound at _ c t (leb-false bound at.cycles below) e refl h) is (omega (arith, far, le, rises at t e)) lt
 
     last_above : {m : Meaning} {k : ℕ} {s : State} (l : Led p.image p.stack_end m k s) (at : Point) → at.state ≡ s → at.cycles ≤ last p l at
     last_above (Finishes k s e is) at same = omega arith
@@ -102,25 +101,20 @@ module _ (p : TimedImage) (advances : Advances p.timing) where
     bounded : {m : Meaning} {k : ℕ} {s : State} (l : Led p.image p.stack_end m k s) (at : Point) → at.state ≡ s →
         nat_le bound at.cycles ≡ true → Tale p bound at m k (last p l at)
     bounded {m} l at same above =
-        IsBounded (stopped at ends.Bound at.state) (1, ap (after_test (finish_from p bound 0) p at) above) refl
-        (subst (λ (x : State). IsPrefix x.given (output m)) (sym same) (prefix_led l))
-        (omega (arith, leb-true bound at.cycles above, last_above l at same))
+        IsBounded _ (1, ap (after_test (finish_from p bound 0) p at) above) refl
+        (subst (λ (x : State). IsPrefix x.given (output m)) (sym same) (prefix_led l)) (omega (arith, leb-true bound at.cycles above, last_above l at same))
 
     tell_by : {m : Meaning} {k : ℕ} {s : State} (b : Bool) (l : Led p.image p.stack_end m k s) (at : Point) → at.state ≡ s →
         nat_le bound at.cycles ≡ b → Tale p bound at m k (last p l at)
     tell_by true l at same above = bounded l at same above
     tell_by {m} false (Finishes k s e is) at same below =
-        IsHalted (completed p at ends.Halt)
-        (ends_here at Halts (completed p at ends.Halt) below (ap (step_outcome p.image p.stack_end) same ∙ e) refl) refl
+        IsHalted _ (ends_here at Halts _ below (ap (step_outcome p.image p.stack_end) same ∙ e) refl) refl
         (subst (λ (x : State). m ≡ Ended x.given x.untaken) (sym same) is)
     tell_by {m} false (Stops s is) at same below =
         IsCut at (Start at refl) (subst (λ (x : State). m ≡ Cut x.given) (sym same) is) (omega arith) (leb-false bound at.cycles below)
-    tell_by false (Limited k s left e q) at same below =
-        IsLimited (stopped at ends.StackLimit left)
-        (ends_here at (Limits left) (stopped at ends.StackLimit left) below (ap (step_outcome p.image p.stack_end) same ∙ e) refl) refl
+    tell_by false (Limited k s left e q) at same below = IsLimited _ (ends_here at _ _ below (ap (step_outcome p.image p.stack_end) same ∙ e) refl) refl
     tell_by {m} false (Leads k j s t e le q l) at same below =
-        tell_on m j k (last p l (point_after p at t)) at t below (ap (step_outcome p.image p.stack_end) same ∙ e) le
-        (tell_by (nat_le bound (point_after p at t).cycles) l (point_after p at t) refl refl)
+        tell_on m j k _ at t below (ap (step_outcome p.image p.stack_end) same ∙ e) le (tell_by _ l _ refl refl)
 
     pub tell : {m : Meaning} {k : ℕ} {s : State} (l : Led p.image p.stack_end m k s) (at : Point) → at.state ≡ s → Tale p bound at m k (last p l at)
     tell l at same = tell_by (nat_le bound at.cycles) l at same refl

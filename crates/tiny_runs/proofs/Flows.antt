@@ -30,13 +30,9 @@ set_get (x ∷ xs) (suc i) v (suc j) u h =
 stored_agrees : (local : ℕ) (locals : List (Option ℕ)) (vars : Variables) (x v : ℕ) → Agrees local locals vars →
     Agrees local (slice_set locals (local + x) (Some v)) (with_value vars x v)
 stored_agrees local locals vars x v agrees y u h =
-    ⊎_elim
-    (λ a. let same : y ≡ x = omega (arith, a.0) in a.1 ∙ sym (ap (λ (b : Bool). if b then v else vars y) (eq-eqb y x same)))
-    (λ a. ⊎_elim
-    (λ t. absurd (a.0 (ap (λ (z : ℕ). local + z) t.1)))
-    (λ f. agrees y u a.1 ∙ sym (ap (λ (b : Bool). if b then v else vars y) f.0))
-    (eqb_tells y x))
-    (set_get locals (local + x) v (local + y) u h)
+    ⊎_elim (λ a. let same : y ≡ x = omega (arith, a.0) in a.1 ∙ sym (ap (λ (b : Bool). if b then v else vars y) (eq-eqb y x same))) (λ a. ⊎_elim
+    (λ t. absurd (a.0 (ap (λ (z : ℕ). local + z) t.1))) (λ f. agrees y u a.1 ∙ sym (ap (λ (b : Bool). if b then v else vars y) f.0)) (eqb_tells y x))
+    (set_get locals _ v _ u h)
 
 -- ---- two sides
 
@@ -103,7 +99,7 @@ module _ (c : Setting) (f : Running) where
       (flow : Flow) (x : After flow) (u : TinyWorld) → u.turns ≤ w.turns → Follows c.image c.stack_end (go flow u) u.turns (to b flow x u)
   on_by b end go w e h (GoesOn vars) x u le =
       let g : Follows c.image c.stack_end (go (GoesOn vars) u) u.turns (place x.0 end [] u) = h (GoesOn vars) x u le in
-      goes c.image c.stack_end (go (GoesOn vars) u) u.turns u.turns _ _ (e x.0 u) (omega arith) g.prefix g
+      goes c.image _ _ u.turns u.turns _ _ (e x.0 u) (omega arith) g.prefix g
   on_by b end go w e h (Returns v) x u le = h (Returns v) x u le
 
   does_on : (d : ℕ) (r : Result Flow) (w : TinyWorld) (locals : List (Option ℕ)) (at b end : ℕ) →
@@ -143,12 +139,9 @@ module _ (c : Setting) (f : Running) where
   assign_does x e seen named has at end s vars locals w few agrees =
       let a : List Instr = expr_code c.places f.local e in
       let mid : ℕ = at + code_size a in
-      let last : Stands mid end (Istore (f.local + x) ∷ []) = back a (Istore (f.local + x) ∷ []) s in
-      does_then
-      (does_lower 1 (expr_does c f seen locals vars agrees e at mid [] w few named has (front a (Istore (f.local + x) ∷ []) s)))
-      (λ v y u le. does_lower 1
-      (stored_by (is_own f.back (f.local + x)) (nat_lt (f.local + x) (length locals)) x v mid end locals vars u agrees (none (next _ _ last))
-      (at_code c.image c.stack_end (place locals mid (v ∷ []) u) (Istore (f.local + x)) (here _ _ last))))
+      let last : Stands mid end (Istore (f.local + x) ∷ []) = back a _ s in
+      does_then (does_lower 1 (expr_does c f seen locals vars agrees e at mid [] w few named has (front a _ s))) (λ v y u le. does_lower 1
+      (stored_by _ _ x v mid end locals vars u agrees (none (next _ _ last)) (at_code c.image _ _ _ (here _ _ last))))
 
   put_does : (e : Expr) (seen : Seen) → IsNamedExpr c.program f.names seen e → Has (expr_numbers e) →
       RunsAs (expr_code c.places f.local e ++ Out ∷ [])
@@ -156,17 +149,16 @@ module _ (c : Setting) (f : Running) where
   put_does e seen named has at end s vars locals w few agrees =
       let a : List Instr = expr_code c.places f.local e in
       let mid : ℕ = at + code_size a in
-      let last : Stands mid end (Out ∷ []) = back a (Out ∷ []) s in
+      let last : Stands mid end (Out ∷ []) = back a _ s in
       let stops : mid + 1 ≡ end = none (next _ _ last) in
-      does_then (does_lower 1 (expr_does c f seen locals vars agrees e at mid [] w few named has (front a (Out ∷ []) s)))
+      does_then (does_lower 1 (expr_does c f seen locals vars agrees e at mid [] w few named has (front a _ s)))
       (λ v y u le. let z : TinyWorld = record u { given = u.given ++ (v % 256) ∷ [] } in
       record {
         by = λ go h. let g : Follows c.image c.stack_end (go (GoesOn vars) z) z.turns (place locals (mid + 1) [] z) =
             subst (λ (x : ℕ). Follows c.image c.stack_end (go (GoesOn vars) z) z.turns (place locals x [] z)) (sym stops)
             (h (GoesOn vars) (locals, agrees) z (omega arith)) in
-            goes c.image c.stack_end (go (GoesOn vars) z) (0 + u.turns) z.turns (place locals mid (v ∷ []) u) (place locals (mid + 1) [] z)
-            (at_code c.image c.stack_end (place locals mid (v ∷ []) u) Out (here _ _ last)) (omega arith)
-            (prefix_trans u.given z.given (output (go (GoesOn vars) z)) ((v % 256) ∷ [], refl) g.prefix) g;
+            goes c.image _ _ _ z.turns _ _ (at_code c.image _ _ Out (here _ _ last)) (omega arith)
+            (prefix_trans u.given z.given _ ((v % 256) ∷ [], refl) g.prefix) g;
       })
 
   return_does : (e : Expr) (seen : Seen) → IsNamedExpr c.program f.names seen e → Has (expr_numbers e) →
@@ -174,8 +166,8 @@ module _ (c : Setting) (f : Running) where
   return_does e seen named has at end s vars locals w few agrees =
       let a : List Instr = expr_code c.places f.local e in
       let mid : ℕ = at + code_size a in
-      does_then (does_lower 1 (expr_does c f seen locals vars agrees e at mid [] w few named has (front a (Ireturn ∷ []) s)))
-      (λ v y u le. does_give (Returns v) u u After (to end) _ (locals, mid, here _ _ (back a (Ireturn ∷ []) s)) refl refl)
+      does_then (does_lower 1 (expr_does c f seen locals vars agrees e at mid [] w few named has (front a _ s)))
+      (λ v y u le. does_give _ u u After _ _ (locals, mid, here _ _ (back a (Ireturn ∷ []) s)) refl refl)
 
   -- a value that is dropped
   drop_does : (t : Term) (seen : Seen) → IsNamedTerm c.program f.names seen t → Has (term_numbers t) →
@@ -183,11 +175,9 @@ module _ (c : Setting) (f : Running) where
   drop_does t seen named has at end s vars locals w few agrees =
       let a : List Instr = term_code c.places f.local t in
       let mid : ℕ = at + code_size a in
-      let last : Stands mid end (Pop ∷ []) = back a (Pop ∷ []) s in
-      does_then (does_lower 1 (term_does c f seen locals vars agrees t at mid [] w few named has (front a (Pop ∷ []) s)))
-      (λ v y u le. does_lower 1 (does_after (place locals mid (v ∷ []) u) (place locals (mid + 1) [] u)
-      (at_code c.image c.stack_end (place locals mid (v ∷ []) u) Pop (here _ _ last)) refl
-      (does_give (GoesOn vars) u u After (to end) _ (locals, agrees) refl (there locals (mid + 1) end [] u (none (next _ _ last))))))
+      let last : Stands mid end (Pop ∷ []) = back a _ s in
+      does_then (does_lower 1 (term_does c f seen locals vars agrees t at mid [] w few named has (front a _ s))) (λ v y u le. does_lower 1 (does_after _ _
+      (at_code c.image _ _ Pop (here _ _ last)) refl (does_give _ u u After _ _ (locals, agrees) refl (there locals _ end [] u (none (next _ _ last))))))
 
   halt_does : RunsAs (HaltCode ∷ []) (λ vars w. Halts w)
   halt_does at end s vars locals w few agrees =
@@ -204,13 +194,9 @@ module _ (c : Setting) (f : Running) where
   both_does a b test at mid seen locals vars w land few agrees named has s last =
       let ca : List Instr = expr_code c.places f.local a in
       let cb : List Instr = expr_code c.places f.local b in
-      does_then
-      (expr_does c f seen locals vars agrees a at (at + code_size ca) [] w few named.0 (all_front HasOne (expr_numbers a) (expr_numbers b) has)
-      (front ca cb s))
-      (λ x k u le. does_then
-      (does_lower 1 (expr_does c f seen locals vars agrees b (at + code_size ca) mid (x ∷ []) u (omega (arith, le, few)) named.1
-      (all_back HasOne (expr_numbers a) (expr_numbers b) has) (back ca cb s)))
-      (λ y k z le'. last x y z))
+      does_then (expr_does c f seen locals vars agrees a at _ [] w few named.0 (all_front HasOne (expr_numbers a) (expr_numbers b) has) (front ca cb s))
+      (λ x k u le. does_then (does_lower 1 (expr_does c f seen locals vars agrees b _ mid _ u (omega (arith, le, few)) named.1
+      (all_back HasOne (expr_numbers a) (expr_numbers b) has) (back ca cb s))) (λ y k z le'. last x y z))
 
   -- a test whose jump, by this offset, stands at `mid`
   condition_does : (t : Cond) (o : ℤ) (at mid : ℕ) (seen : Seen) (locals : List (Option ℕ)) (vars : Variables) (w : TinyWorld) → w.turns ≤ c.turns →
@@ -219,35 +205,24 @@ module _ (c : Setting) (f : Running) where
       Does c.image c.stack_end 1 (evaluate_cond c.calls vars t w) w (place locals at [] w) AnyBool
       (λ holds k u. place locals (way mid o (jumps t holds)) [] u)
   condition_does (Equal a b) o at mid seen locals vars w few agrees named has s jump =
-      both_does a b (λ x y. x == y) at mid seen locals vars w (λ holds u. place locals (way mid o holds) [] u) few agrees named has s
-      (λ x y u. does_lower 1 (does_after (place locals mid (y ∷ x ∷ []) u) (place locals (way mid o (x == y)) [] u)
-      (at_code c.image c.stack_end (place locals mid (y ∷ x ∷ []) u) (IfIcmpeq o) jump) refl
-      (does_give (x == y) u u AnyBool _ _ tt refl refl)))
+      both_does a b _ at mid seen locals vars w _ few agrees named has s (λ x y u. does_lower 1 (does_after _ _ (at_code c.image _ _ _ jump) refl
+      (does_give _ u u AnyBool _ _ tt refl refl)))
   condition_does (Different a b) o at mid seen locals vars w few agrees named has s jump =
-      both_does a b (λ x y. not (x == y)) at mid seen locals vars w (λ holds u. place locals (way mid o (not holds)) [] u) few agrees named has s
-      (λ x y u. does_lower 1 (does_after (place locals mid (y ∷ x ∷ []) u) (place locals (way mid o (x == y)) [] u)
-      (at_code c.image c.stack_end (place locals mid (y ∷ x ∷ []) u) (IfIcmpeq o) jump) refl
-      (does_give (not (x == y)) u u AnyBool _ _ tt refl (ap (λ (b : Bool). place locals (way mid o b) [] u) (sym (not_not (x == y)))))))
+      both_does a b _ at mid seen locals vars w _ few agrees named has s (λ x y u. does_lower 1 (does_after _ _ (at_code c.image _ _ _ jump) refl
+      (does_give _ u u AnyBool _ _ tt refl (ap (λ (b : Bool). place locals (way mid o b) [] u) (sym (not_not _))))))
   condition_does (Less a b) o at mid seen locals vars w few agrees named has s jump =
       let ab : List Instr = expr_code c.places f.local a ++ expr_code c.places f.local b in
       let same : expr_code c.places f.local a ++ (expr_code c.places f.local b ++ Isub ∷ []) ≡ ab ++ Isub ∷ [] =
       sym (append_assoc (expr_code c.places f.local a) (expr_code c.places f.local b) (Isub ∷ [])) in
       let whole : Stands at mid (ab ++ Isub ∷ []) = subst (λ (is : List Instr). Stands at mid is) same s in
       let m : ℕ = at + code_size ab in
-      let sub : Stands m mid (Isub ∷ []) = back ab (Isub ∷ []) whole in
+      let sub : Stands m mid (Isub ∷ []) = back ab _ whole in
       let after : m + 1 ≡ mid = none (next _ _ sub) in
       let jump' : instr_at c.image.text (m + 1) ≡ Some (Iflt o) = subst (λ (x : ℕ). instr_at c.image.text x ≡ Some (Iflt o)) (sym after) jump in
-      subst
-      (λ (x : ℕ). Does c.image c.stack_end 1 (evaluate_cond c.calls vars (Less a b) w) w (place locals at [] w) AnyBool
-      (λ holds k u. place locals (way x o holds) [] u))
-      after
-      (both_does a b (λ x y. is_negative (minus x y)) at m seen locals vars w (λ holds u. place locals (way (m + 1) o holds) [] u)
-      few agrees named has (front ab (Isub ∷ []) whole)
-      (λ x y u. does_lower 1 (does_after (place locals m (y ∷ x ∷ []) u) (place locals (m + 1) (minus x y ∷ []) u)
-      (at_code c.image c.stack_end (place locals m (y ∷ x ∷ []) u) Isub (here _ _ sub)) refl
-      (does_lower 1 (does_after (place locals (m + 1) (minus x y ∷ []) u) (place locals (way (m + 1) o (is_negative (minus x y))) [] u)
-      (at_code c.image c.stack_end (place locals (m + 1) (minus x y ∷ []) u) (Iflt o) jump') refl
-      (does_give (is_negative (minus x y)) u u AnyBool _ _ tt refl refl))))))
+      subst (λ (x : ℕ). Does c.image c.stack_end 1 (evaluate_cond c.calls vars (Less a b) w) w (place locals at [] w) AnyBool
+      (λ holds k u. place locals (way x o holds) [] u)) after (both_does a b _ at m seen locals vars w _ few agrees named has (front ab _ whole)
+      (λ x y u. does_lower 1 (does_after _ _ (at_code c.image _ _ Isub (here _ _ sub)) refl (does_lower 1 (does_after _ _ (at_code c.image _ _ _ jump') refl
+      (does_give _ u u AnyBool _ _ tt refl refl))))))
 
   -- ---- choices
 
@@ -258,19 +233,18 @@ module _ (c : Setting) (f : Running) where
       Works 0 (either_side taken (r2 vars w) (r1 vars w)) w locals (way mid (pos (6 + code_size first)) taken) end
   choice_does true r1 r2 first second mid end s one two vars locals w few agrees =
       let past : Instr = Goto (pos (3 + code_size second)) in
-      let g : Stands (mid + 3 + code_size first) end (past ∷ second) = back first (past ∷ second) s in
-      let t : target mid (pos (6 + code_size first)) ≡ mid + (6 + code_size first) =
-      forward mid (6 + code_size first) (omega (arith, near _ s, g.ends)) in
+      let g : Stands (mid + 3 + code_size first) end (past ∷ second) = back first _ s in
+      let t : target mid (pos (6 + code_size first)) ≡ mid + (6 + code_size first) = forward mid (6 + code_size first) (omega (arith, near _ s, g.ends)) in
       let e : mid + 3 + code_size first + 3 ≡ target mid (pos (6 + code_size first)) = omega (arith, t) in
       two (target mid (pos (6 + code_size first))) end (subst (λ (x : ℕ). Stands x end second) e (next past second g)) vars locals w few agrees
   choice_does false r1 r2 first second mid end s one two vars locals w few agrees =
       let past : Instr = Goto (pos (3 + code_size second)) in
       let stop : ℕ = mid + 3 + code_size first in
-      let g : Stands stop end (past ∷ second) = back first (past ∷ second) s in
+      let g : Stands stop end (past ∷ second) = back first _ s in
       let t : target stop (pos (3 + code_size second)) ≡ stop + (3 + code_size second) =
       forward stop (3 + code_size second) (omega (arith, near _ s, g.ends)) in
-      does_on 0 (r1 vars w) w locals (mid + 3) stop end (goto_by stop end (pos (3 + code_size second)) (here past second g) (omega (arith, t, g.ends)))
-      (one (mid + 3) stop (front first (past ∷ second) s) vars locals w few agrees)
+      does_on 0 _ w locals _ stop end (goto_by stop end _ (here past second g) (omega (arith, t, g.ends)))
+      (one (mid + 3) stop (front first _ s) vars locals w few agrees)
 
   -- the second side is the one of the test's jump
   sides_do : (t : Cond) (seen : Seen) (first second : List Instr) (r1 r2 : Variables → TinyWorld → Result Flow)
@@ -286,12 +260,11 @@ module _ (c : Setting) (f : Running) where
       let jump : Instr = test_jump c.places f.local t o in
       let tail : List Instr = first ++ (Goto (pos (3 + code_size second)) ∷ second) in
       let mid : ℕ = at + code_size test in
-      let j : Stands mid end (jump ∷ tail) = back test (jump ∷ tail) s in
+      let j : Stands mid end (jump ∷ tail) = back test _ s in
       let rest : Stands (mid + 3) end tail = subst (λ (x : ℕ). Stands (mid + x) end tail) three (next jump tail j) in
-      does_then
-      (does_lower 1 (condition_does t o at mid seen locals vars w few agrees named has (front test (jump ∷ tail) s) (here jump tail j)))
+      does_then (does_lower 1 (condition_does t o at mid seen locals vars w few agrees named has (front test _ s) (here jump tail j)))
       (λ b k u le. subst (λ (x : Result Flow). Works 0 x u locals (way mid o (jumps t b)) end) (sym (same b vars u))
-      (choice_does (jumps t b) r1 r2 first second mid end rest one two vars locals u (omega (arith, le, few)) agrees))
+      (choice_does _ r1 r2 first second mid end rest one two vars locals u (omega (arith, le, few)) agrees))
 
   -- ---- loops
 
@@ -304,9 +277,7 @@ module _ (c : Setting) (f : Running) where
       does_give true u u AnyBool _ _ tt refl (there locals _ _ [] u (t ∙ begins))
   two_ways mid b size end locals false u is small begins ends =
       let t : target (mid + 3) (pos (6 + size)) ≡ mid + 3 + (6 + size) = forward (mid + 3) (6 + size) (omega (arith, small, begins, ends)) in
-      does_lower 1 (does_after (place locals (mid + 3) [] u) (place locals end [] u)
-      (goto_by (mid + 3) end (pos (6 + size)) is (omega (arith, t, begins, ends)) locals u) refl
-      (does_give false u u AnyBool _ _ tt refl refl))
+      does_lower 1 (does_after _ _ (goto_by _ end _ is (omega (arith, t, begins, ends)) locals u) refl (does_give false u u AnyBool _ _ tt refl refl))
 
   -- after a test that jumps to the end
   one_way : (mid b size end : ℕ) (locals : List (Option ℕ)) (holds : Bool) (u : TinyWorld) → end ≤ 65536 → mid + 3 ≡ b → end ≡ b + size + 3 →
@@ -358,8 +329,7 @@ module _ (c : Setting) (f : Running) where
   repeat_does test body at b stop end enter inner again zero vars locals w fuel few agrees =
       does_cut w (place locals at [] w) After (to end) (omega (arith, fuel)) refl
   repeat_does test body at b stop end enter inner again (suc m) vars locals w fuel few agrees =
-      does_turn w (place locals at [] w) After (to end) _ w.turns refl refl
-      (λ t e. does_then (enter vars locals (record w { turns = t }) (omega (arith, e, few)) agrees)
+      does_turn w _ After _ _ w.turns refl refl (λ t e. does_then (enter vars locals (record w { turns = t }) (omega (arith, e, few)) agrees)
       (λ holds k u le. turn_by t (omega (arith, e, few))
       (λ vars' ls z ok agrees'. repeat_does test body at b stop end enter inner again m vars' ls z (omega (arith, ok, e, fuel)) (omega (arith, ok, e, few)) agrees')
       holds u le))
@@ -391,22 +361,19 @@ module _ (c : Setting) (f : Running) where
       let d : ℕ = code_size test + code_size leave + code_size code in
       let again : Instr = Goto (neg_ℤ (pos d)) in
       let tail : List Instr = code ++ again ∷ [] in
-      let both : Stands at end ((test ++ leave) ++ tail) =
-      subst (λ (is : List Instr). Stands at end is) (sym (append_assoc test leave tail)) s in
+      let both : Stands at end ((test ++ leave) ++ tail) = subst (λ (is : List Instr). Stands at end is) (sym (append_assoc test leave tail)) s in
       let b : ℕ = at + code_size (test ++ leave) in
       let stop : ℕ = b + code_size code in
-      let rest : Stands b end tail = back (test ++ leave) tail both in
-      let jump : Stands stop end (again ∷ []) = back code (again ∷ []) rest in
+      let rest : Stands b end tail = back _ tail both in
+      let jump : Stands stop end (again ∷ []) = back code _ rest in
       let stops : stop + 3 ≡ end = none (next _ _ jump) in
       let small : end ≤ 65536 = near _ s in
       let place_of : stop ≡ at + d = omega (arith, size_append test leave) in
       let leads : target stop (neg_ℤ (pos d)) ≡ at =
       ap (λ (x : ℕ). target x (neg_ℤ (pos d))) place_of ∙ backward at d (omega (arith, small, stops, place_of)) in
-      repeat_does (λ vars. evaluate_cond c.calls vars t) body at b stop end
-      (λ vars ls u ok agrees'. enter_does t (code_size code) at b end seen ls vars u ok agrees' named has (front (test ++ leave) tail both) small
-      (omega (arith, stops)))
-      (λ vars ls u ok agrees'. inner b stop (front code (again ∷ []) rest) vars ls u ok agrees')
-      (goto_by stop at (neg_ℤ (pos d)) (here _ _ jump) leads) c.turns vars locals w few few agrees
+      repeat_does _ body at b stop end (λ vars ls u ok agrees'. enter_does t _ at b end seen ls vars u ok agrees' named has (front _ tail both) small
+      (omega (arith, stops))) (λ vars ls u ok agrees'. inner b stop (front code _ rest) vars ls u ok agrees')
+      (goto_by stop at _ (here _ _ jump) leads) c.turns vars locals w few few agrees
 
   -- ---- one after the other
 
@@ -420,8 +387,7 @@ module _ (c : Setting) (f : Running) where
   both_run : (a b : List Instr) (r q : Variables → TinyWorld → Result Flow) → RunsAs a r → RunsAs b q →
       RunsAs (a ++ b) (λ vars w. and_then (r vars w) (λ flow w. unless_returned flow w q))
   both_run a b r q one two at end s vars locals w few agrees =
-      does_then (one at (at + code_size a) (front a b s) vars locals w few agrees)
-      (λ flow x u le. after_by (at + code_size a) end q
+      does_then (one at (at + code_size a) (front a b s) vars locals w few agrees) (λ flow x u le. after_by _ end q
       (λ vars' ls z ok agrees'. two (at + code_size a) end (back a b s) vars' ls z ok agrees') flow x u (omega (arith, le, few)))
 
   nothing_runs : RunsAs [] (λ vars w. Gives (GoesOn vars) w)
@@ -435,30 +401,20 @@ module _ (c : Setting) (f : Running) where
     statement_does (Assign x e) seen named has = assign_does x e seen named.0 has
     statement_does (Calls g args) seen named has = drop_does (Called g args) seen named has
     statement_does (If line (Equal a b) taken other) seen named has =
-        sides_do (Equal a b) seen (else_code c.places f.local other) (statements_code c.places f.local taken)
-        (execute_else c.calls c.turns other) (execute_all c.calls c.turns taken)
-        (λ h vars u. either_side h (execute_all c.calls c.turns taken vars u) (execute_else c.calls c.turns other vars u))
-        named.0 (all_front HasOne (cond_numbers (Equal a b)) _ has) refl (λ h vars u. refl)
+        sides_do (Equal a b) seen _ _ _ _ _ named.0 (all_front HasOne (cond_numbers (Equal a b)) _ has) refl (λ h vars u. refl)
         (else_does other seen named.2 (all_back HasOne (statements_numbers taken) _ (all_back HasOne (cond_numbers (Equal a b)) _ has)))
         (statements_do taken seen named.1 (all_front HasOne (statements_numbers taken) _ (all_back HasOne (cond_numbers (Equal a b)) _ has)))
     statement_does (If line (Less a b) taken other) seen named has =
-        sides_do (Less a b) seen (else_code c.places f.local other) (statements_code c.places f.local taken)
-        (execute_else c.calls c.turns other) (execute_all c.calls c.turns taken)
-        (λ h vars u. either_side h (execute_all c.calls c.turns taken vars u) (execute_else c.calls c.turns other vars u))
-        named.0 (all_front HasOne (cond_numbers (Less a b)) _ has) refl (λ h vars u. refl)
+        sides_do (Less a b) seen _ _ _ _ _ named.0 (all_front HasOne (cond_numbers (Less a b)) _ has) refl (λ h vars u. refl)
         (else_does other seen named.2 (all_back HasOne (statements_numbers taken) _ (all_back HasOne (cond_numbers (Less a b)) _ has)))
         (statements_do taken seen named.1 (all_front HasOne (statements_numbers taken) _ (all_back HasOne (cond_numbers (Less a b)) _ has)))
     statement_does (If line (Different a b) taken other) seen named has =
-        sides_do (Different a b) seen (statements_code c.places f.local taken) (else_code c.places f.local other)
-        (execute_all c.calls c.turns taken) (execute_else c.calls c.turns other)
-        (λ h vars u. either_side h (execute_all c.calls c.turns taken vars u) (execute_else c.calls c.turns other vars u))
-        named.0 (all_front HasOne (cond_numbers (Different a b)) _ has) refl
+        sides_do (Different a b) seen _ _ _ _ _ named.0 (all_front HasOne (cond_numbers (Different a b)) _ has) refl
         (λ h vars u. sym (either_side_not h (execute_all c.calls c.turns taken vars u) (execute_else c.calls c.turns other vars u)))
         (statements_do taken seen named.1 (all_front HasOne (statements_numbers taken) _ (all_back HasOne (cond_numbers (Different a b)) _ has)))
         (else_does other seen named.2 (all_back HasOne (statements_numbers taken) _ (all_back HasOne (cond_numbers (Different a b)) _ has)))
     statement_does (While line t body) seen named has =
-        loop_does t seen (statements_code c.places f.local body) (execute_all c.calls c.turns body) named.0
-        (all_front HasOne (cond_numbers t) (statements_numbers body) has)
+        loop_does t seen _ _ named.0 (all_front HasOne (cond_numbers t) (statements_numbers body) has)
         (statements_do body seen named.1 (all_back HasOne (cond_numbers t) (statements_numbers body) has))
     statement_does (Return e) seen named has = return_does e seen named.0 has
     statement_does (Put e) seen named has = put_does e seen named has
@@ -468,10 +424,8 @@ module _ (c : Setting) (f : Running) where
         RunsAs (statements_code c.places f.local ts) (execute_all c.calls c.turns ts)
     statements_do no_statements seen named has = nothing_runs
     statements_do (statement t rest) seen named has =
-        both_run (statement_code c.places f.local t) (statements_code c.places f.local rest)
-        (execute c.calls c.turns t) (execute_all c.calls c.turns rest)
-        (statement_does t seen named.0 (all_front HasOne (statement_numbers t) (statements_numbers rest) has))
-        (statements_do rest (seen_after t seen) named.1 (all_back HasOne (statement_numbers t) (statements_numbers rest) has))
+        both_run _ _ _ _ (statement_does t seen named.0 (all_front HasOne (statement_numbers t) (statements_numbers rest) has))
+        (statements_do rest _ named.1 (all_back HasOne (statement_numbers t) (statements_numbers rest) has))
 
     pub else_does : (other : Else) (seen : Seen) → IsNamedElse c.program f.in_main f.names other seen → Has (else_numbers other) →
         RunsAs (else_code c.places f.local other) (execute_else c.calls c.turns other)

@@ -51,10 +51,7 @@ module _ (image : ImageView) (stack_end : ℕ) where
 
   pub cut : (m : Meaning) (k : ℕ) (s : State) → k ≡ 0 → m ≡ Cut s.given → Fol m k s
   cut m k s zero_is is =
-      record {
-        prefix = given_prefix m s (Cut s.given) refl is;
-        led = λ never. subst (λ (x : ℕ). Led image stack_end m x s) (sym zero_is) (Stops s is);
-      }
+      record { prefix = given_prefix m s _ refl is; led = λ never. subst (λ (x : ℕ). Led image stack_end m x s) (sym zero_is) (Stops s is) }
 
   pub stuck : (m : Meaning) (k : ℕ) (s : State) → step_outcome image stack_end s ≡ Stuck → IsPrefix s.given (output m) → Fol m k s
   stuck m k s e p = record { prefix = p; led = λ never. absurd (never s (Here s (same_frames s)) e) }

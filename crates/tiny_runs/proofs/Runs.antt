@@ -66,62 +66,33 @@ module _ (image : ImageView) (stack_end : ℕ) (p : Places) (program : Program) 
       ≡ limited stack_end (state bk callers locals at (onto_operands vs (0 ∷ ops)) w)
       (state (Some (at + 3)) (record { locals = locals; operands = ops; back = bk } ∷ callers) (first_locals vs (others image.text begin)) (begin + 4) [] w)
   called_here f begin vs g m counts bk callers locals at ops w is =
-      at_code image stack_end s (Invokevirtual (p.entry f)) is
-      ∙ ap (λ (k : Option ℕ). called_at stack_end s (method_at image.text k)) m.entry
+      let all : List ℕ = onto_operands vs (0 ∷ ops) in
+      let s : State = state bk callers locals at all w in
+      let count : ℕ = others image.text begin in
+      let it : Method = record { entry = begin; params = params image.text begin; others = count } in
+      let me : Method = record { entry = begin; params = suc (length vs); others = count } in
+      let many_params : params image.text begin ≡ suc (length vs) = omega (arith, m.params, counts) in
+      let mine : List ℕ = onto_operands vs [] in
+      let many : length mine ≡ length vs = omega (arith, onto_length vs []) in
+      let parts : all ≡ mine ++ (0 ∷ ops) = onto_append vs [] (0 ∷ ops) in
+      let takes : take (length vs) all ≡ mine =
+      ap (λ (l : List ℕ). take (length vs) l) parts
+      ∙ ap (λ (k : ℕ). take k (mine ++ (0 ∷ ops))) (sym many) ∙ take-append_seam mine (0 ∷ ops) in
+      let drops : drop (length vs + 1) all ≡ ops =
+      ap (λ (l : List ℕ). drop (length vs + 1) l) parts
+      ∙ ap (λ (k : ℕ). drop (k + 1) (mine ++ (0 ∷ ops))) (sym many) ∙ drop-append-add mine (0 ∷ ops) 1 in
+      let unset : List (Option ℕ) = replicate count None in
+      let after : List (Option ℕ) → List ℕ → State =
+      λ ls d. state (Some (at + 3)) (record { locals = locals; operands = d; back = bk } ∷ callers) (None ∷ ls) (begin + 4) [] w in
+      let whole : in_method s me (length vs) ≡ after (map Some vs ++ unset) ops =
+      ap (λ (l : List ℕ). after (onto l unset) (drop (length vs + 1) all)) takes
+      ∙ ap (λ (ls : List (Option ℕ)). after ls (drop (length vs + 1) all)) (locals_are vs [] unset)
+      ∙ ap (λ (d : List ℕ). after (map Some vs ++ unset) d) drops in
+      at_code image _ s _ is ∙ ap (λ (k : Option ℕ). called_at stack_end s (method_at image.text k)) m.entry
       ∙ ap (λ (b : Bool). called_at stack_end s (if b then Some it else None)) (lt-ltb (begin + 4) (length image.text) m.inside)
       ∙ ap (λ (k : ℕ). entered stack_end s (record { entry = begin; params = k; others = count }) k) many_params
       ∙ ap (λ (b : Bool). if b then limited stack_end s (in_method s me (length vs)) else Stuck)
-      (lt-ltb (length vs) (length all) (omega (arith, onto_length vs (0 ∷ ops))))
-      ∙ ap (λ (x : State). limited stack_end s x) whole
-    where
-      all : List ℕ
-      all = onto_operands vs (0 ∷ ops)
-
-      s : State
-      s = state bk callers locals at all w
-
-      count : ℕ
-      count = others image.text begin
-
-      it : Method
-      it = record { entry = begin; params = params image.text begin; others = count }
-
-      me : Method
-      me = record { entry = begin; params = suc (length vs); others = count }
-
-      many_params : params image.text begin ≡ suc (length vs)
-      many_params = omega (arith, m.params, counts)
-
-      mine : List ℕ
-      mine = onto_operands vs []
-
-      many : length mine ≡ length vs
-      many = omega (arith, onto_length vs [])
-
-      parts : all ≡ mine ++ (0 ∷ ops)
-      parts = onto_append vs [] (0 ∷ ops)
-
-      takes : take (length vs) all ≡ mine
-      takes =
-          ap (λ (l : List ℕ). take (length vs) l) parts
-          ∙ ap (λ (k : ℕ). take k (mine ++ (0 ∷ ops))) (sym many) ∙ take-append_seam mine (0 ∷ ops)
-
-      drops : drop (length vs + 1) all ≡ ops
-      drops =
-          ap (λ (l : List ℕ). drop (length vs + 1) l) parts
-          ∙ ap (λ (k : ℕ). drop (k + 1) (mine ++ (0 ∷ ops))) (sym many) ∙ drop-append-add mine (0 ∷ ops) 1
-
-      unset : List (Option ℕ)
-      unset = replicate count None
-
-      after : List (Option ℕ) → List ℕ → State
-      after ls d = state (Some (at + 3)) (record { locals = locals; operands = d; back = bk } ∷ callers) (None ∷ ls) (begin + 4) [] w
-
-      whole : in_method s me (length vs) ≡ after (map Some vs ++ unset) ops
-      whole =
-          ap (λ (l : List ℕ). after (onto l unset) (drop (length vs + 1) all)) takes
-          ∙ ap (λ (ls : List (Option ℕ)). after ls (drop (length vs + 1) all)) (locals_are vs [] unset)
-          ∙ ap (λ (d : List ℕ). after (map Some vs ++ unset) d) drops
+      (lt-ltb (length vs) (length all) (omega (arith, onto_length vs (0 ∷ ops)))) ∙ ap (λ (x : State). limited stack_end s x) whole
 
   abbrev setting : (n : ℕ) (calls : CallResults) → CallsRun image stack_end p program n calls → Setting
   setting n calls runs =
@@ -177,13 +148,11 @@ module _ (image : ImageView) (stack_end : ℕ) (p : Places) (program : Program) 
     after_by (GoesOn vars) x u =
         let s : State = state (Some (at + 3)) waiting x.0 end [] u in
         let t : State = state (Some (at + 3)) waiting x.0 (end + 2) (0 ∷ []) u in
-        does_lower 1 (does_push s t s (at_code image stack_end s (Bipush (pos 0)) (here _ _ tail)) refl
-        (does_lower 1 (does_after t (state bk callers locals (at + 3) (0 ∷ ops) u)
-        (at_code image stack_end t Ireturn (here _ _ (next _ _ tail))) refl (does_give 0 u u Any onward _ tt refl refl))))
+        does_lower 1 (does_push s t s (at_code image _ s _ (here _ _ tail)) refl (does_lower 1 (does_after t _
+        (at_code image _ t Ireturn (here _ _ (next _ _ tail))) refl (does_give 0 u u Any onward _ tt refl refl))))
     after_by (Returns v) x u =
         let s : State = state (Some (at + 3)) waiting x.0 x.1 (v ∷ []) u in
-        does_lower 1 (does_after s (state bk callers locals (at + 3) (v ∷ ops) u) (at_code image stack_end s Ireturn x.2) refl
-        (does_give v u u Any onward _ tt refl refl))
+        does_lower 1 (does_after s _ (at_code image _ s Ireturn x.2) refl (does_give v u u Any onward _ tt refl refl))
 
     abbrev entered_at : TinyWorld → State
     entered_at w = state (Some (at + 3)) waiting (first_locals vs (others image.text begin)) (begin + 4) [] w
@@ -193,12 +162,9 @@ module _ (image : ImageView) (stack_end : ℕ) (p : Places) (program : Program) 
     body_does w few =
         subst
         (λ (o : Option Function). Does image stack_end 0 (and_then (execute_body calls n o (first_variables vs) w) returned) w (entered_at w) Any onward)
-        (sym k.is)
-        (does_then
-        (statements_do (setting n calls runs) running k.function.body (parameters_seen k.function) (named.functions f k.function k.is).body
+        (sym k.is) (does_then (statements_do (setting n calls runs) running _ _ (named.functions f k.function k.is).body
         (holds.numbers f k.function k.is) (begin + 4) end (front body last whole) (first_variables vs)
-        (first_locals vs (others image.text begin)) w few (first_agrees vs (others image.text begin)))
-        (λ flow x u le. after_by flow x u))
+        (first_locals vs (others image.text begin)) w few (first_agrees vs _)) (λ flow x u le. after_by flow x u))
 
     enters : (w : TinyWorld) → w.turns ≤ suc n → instr_at image.text at ≡ Some (Invokevirtual (p.entry f)) →
         Does image stack_end 0
@@ -206,22 +172,12 @@ module _ (image : ImageView) (stack_end : ℕ) (p : Places) (program : Program) 
         w (state bk callers locals at (onto_operands vs (0 ∷ ops)) w) Any onward
     enters w few is =
         let s : State = state bk callers locals at (onto_operands vs (0 ∷ ops)) w in
-        does_turn w s Any onward _ w.turns refl refl
-        (λ t e. let u : TinyWorld = record w { turns = t } in
-        does_push s (entered_at u) s (called_here f begin vs k.function m k.counts bk callers locals at ops w is) refl
-        (body_does u (omega (arith, e, few))))
+        does_turn w s Any onward _ w.turns refl refl (λ t e. let u : TinyWorld = record w { turns = t } in
+        does_push s _ s (called_here f begin vs _ m k.counts bk callers locals at ops w is) refl (body_does u (omega (arith, e, few))))
 
   call_does : (n : ℕ) → CallsRun image stack_end p program n (call program.functions n)
-  call_does zero =
-      record {
-        by = λ f vs k bk callers locals at ops w few is.
-            does_cut w (state bk callers locals at (onto_operands vs (0 ∷ ops)) w) Any _ (omega (arith, few)) refl;
-      }
-  call_does (suc n) =
-      record {
-        by = λ f vs k bk callers locals at ops w few is.
-            enters n (call program.functions n) (call_does n) f vs k bk callers locals at ops w few is;
-      }
+  call_does zero = record { by = λ f vs k bk callers locals at ops w few is. does_cut w _ Any _ (omega (arith, few)) refl }
+  call_does (suc n) = record { by = λ f vs k bk callers locals at ops w few is. enters n _ (call_does n) f vs k bk callers locals at ops w few is }
 
   -- ---- main
 
@@ -235,12 +191,8 @@ module _ (image : ImageView) (stack_end : ℕ) (p : Places) (program : Program) 
 
     ends_by : (stop halt : ℕ) → Spans image.text stop halt (HaltCode ∷ []) → (flow : Flow) (x : After all_calls main_running flow) (u : TinyWorld) →
         Follows image stack_end (at_end flow u) u.turns (to all_calls main_running stop flow x u)
-    ends_by stop halt final (GoesOn vars) x u =
-        halts image stack_end (Ended u.given u.untaken) u.turns (state None [] x.0 stop [] u)
-        (at_code image stack_end (state None [] x.0 stop [] u) HaltCode (here _ _ final)) refl
-    ends_by stop halt final (Returns v) x u =
-        stuck image stack_end (Ended u.given u.untaken) u.turns (state None [] x.0 x.1 (v ∷ []) u)
-        (at_code image stack_end (state None [] x.0 x.1 (v ∷ []) u) Ireturn x.2) (whole_prefix u.given)
+    ends_by stop halt final (GoesOn vars) x u = halts image stack_end _ u.turns _ (at_code image stack_end _ HaltCode (here _ _ final)) refl
+    ends_by stop halt final (Returns v) x u = stuck image stack_end _ u.turns _ (at_code image stack_end _ Ireturn x.2) (whole_prefix u.given)
 
     -- The central lemma.
     pub follows : (main_locals : ℕ) (input : List ℕ) → Follows image stack_end (meaning program input n) n (start_of main_locals input)

@@ -83,17 +83,14 @@ module _ (c : Setting) (f : Running) (seen : Seen) (locals : List (Option ℕ)) 
   value_by : (i : Instr) (v at end : ℕ) (ops : List ℕ) (w : TinyWorld) (size : ℕ) → instr_at c.image.text at ≡ Some i →
       step c.image c.stack_end i (place at ops w) ≡ pushed c.stack_end (place at ops w) v (at + size) → at + size ≡ end →
       Leaves (Gives v w) w at end ops
-  value_by i v at end ops w size is e ends =
-      does_push (place at ops w) (place (at + size) (v ∷ ops) w) (place at ops w) (at_code c.image c.stack_end (place at ops w) i is ∙ e) refl
-      (does_give v w w Any _ _ tt refl (there (at + size) end (v ∷ ops) w ends))
+  value_by i v at end ops w size is e ends = does_push _ _ _ (at_code c.image _ _ i is ∙ e) refl (does_give v w w Any _ _ tt refl (there _ end _ w ends))
 
   number_by : (b : Bool) (m at end : ℕ) (ops : List ℕ) (w : TinyWorld) → Has (if b then [] else m ∷ []) →
       Stands at end ((if b then Bipush (pos m) else LdcW (c.places.constant m)) ∷ []) → Leaves (Gives m w) w at end ops
   number_by true m at end ops w has s = value_by (Bipush (pos m)) m at end ops w 2 (here _ _ s) refl (none (next _ _ s))
   number_by false m at end ops w has s =
       let constant : HasOne m = All-head HasOne m [] has in
-      value_by (LdcW (c.places.constant m)) m at end ops w 3 (here _ _ s)
-      (ap (pushed_constant c.stack_end (place at ops w)) constant) (none (next _ _ s))
+      value_by _ m at end ops w 3 (here _ _ s) (ap (pushed_constant c.stack_end (place at ops w)) constant) (none (next _ _ s))
 
   -- a variable: its local is set, or the run would be stuck
   variable_by : (o : Option (Option ℕ)) (x at end : ℕ) (ops : List ℕ) (w : TinyWorld) → slice_get locals (f.local + x) ≡ o →
@@ -104,9 +101,7 @@ module _ (c : Setting) (f : Running) (seen : Seen) (locals : List (Option ℕ)) 
   variable_by (Some None) x at end ops w is e ends =
       does_stuck (place at ops w) (place end (vars x ∷ ops) w) e refl (does_give (vars x) w w Any _ _ tt refl refl)
   variable_by (Some (Some v)) x at end ops w is e ends =
-      does_push (place at ops w) (place (at + 2) (v ∷ ops) w) (place at ops w) e refl
-      (does_give (vars x) w w Any _ _ tt refl
-      (there (at + 2) end (v ∷ ops) w ends ∙ ap (λ (y : ℕ). place end (y ∷ ops) w) (agrees x v is)))
+      does_push _ _ _ e refl (does_give _ w w Any _ _ tt refl (there _ end _ w ends ∙ ap (λ (y : ℕ). place end (y ∷ ops) w) (agrees x v is)))
 
   operator_by : (op : Operator) (x y at : ℕ) (ops : List ℕ) (w : TinyWorld) → instr_at c.image.text at ≡ Some (operator_code op) →
       step_outcome c.image c.stack_end (place at (y ∷ x ∷ ops) w) ≡ Goes (place (at + 1) (combine op x y ∷ ops) w)
@@ -129,23 +124,17 @@ module _ (c : Setting) (f : Running) (seen : Seen) (locals : List (Option ℕ)) 
     pub term_does : (t : Term) (at end : ℕ) (ops : List ℕ) (w : TinyWorld) → w.turns ≤ c.turns → IsNamedTerm c.program f.names seen t →
         Has (term_numbers t) → Stands at end (term_code c.places f.local t) → Leaves (evaluate_term c.calls vars t w) w at end ops
     term_does (Number m) at end ops w few named has s = number_by (nat_le m 127) m at end ops w has s
-    term_does (Variable x) at end ops w few named has s =
-        variable_by (slice_get locals (f.local + x)) x at end ops w refl
-        (at_code c.image c.stack_end (place at ops w) (Iload (f.local + x)) (here _ _ s)) (none (next _ _ s))
+    term_does (Variable x) at end ops w few named has s = variable_by _ x at end ops w refl (at_code c.image _ _ _ (here _ _ s)) (none (next _ _ s))
     term_does (Called g args) at end ops w few named has s =
         let inner : List Instr = arguments_code c.places f.local args in
         let last : List Instr = Invokevirtual (c.places.entry g) ∷ [] in
-        let rest : Stands (at + 3) end (inner ++ last) = next (LdcW 0) (inner ++ last) s in
-        does_push (place at ops w) (place (at + 3) (0 ∷ ops) w) (place at ops w)
-        (at_code c.image c.stack_end (place at ops w) (LdcW 0) (here _ _ s) ∙ ap (pushed_constant c.stack_end (place at ops w)) c.object) refl
-        (does_then (arguments_do args (at + 3) (at + 3 + code_size inner) (0 ∷ ops) w few named.1 has (front inner last rest))
-        (λ vs many u le. called_by g vs (at + 3 + code_size inner) end ops u (arguments_count args) (omega (arith, le, few)) named.0 many
-        (back inner last rest)))
+        let rest : Stands (at + 3) end (inner ++ last) = next _ _ s in
+        does_push _ _ _ (at_code c.image _ _ _ (here _ _ s) ∙ ap (pushed_constant c.stack_end (place at ops w)) c.object) refl
+        (does_then (arguments_do args _ _ _ w few named.1 has (front inner last rest))
+        (λ vs many u le. called_by g vs _ end ops u _ (omega (arith, le, few)) named.0 many (back inner last rest)))
     term_does Get at end ops w few named has s =
         let u : TinyWorld = record w { untaken = drop 1 w.untaken } in
-        does_push (place at ops w) (place (at + 1) (next_byte w.untaken ∷ ops) u) (taken (place at ops w))
-        (at_code c.image c.stack_end (place at ops w) In (here _ _ s)) refl
-        (does_give (next_byte w.untaken) w u Any _ _ tt refl (there (at + 1) end (next_byte w.untaken ∷ ops) u (none (next _ _ s))))
+        does_push _ _ _ (at_code c.image _ _ In (here _ _ s)) refl (does_give _ w u Any _ _ tt refl (there _ end _ u (none (next _ _ s))))
     term_does (Group e) at end ops w few named has s = expr_does e at end ops w few named has s
 
     pub expr_does : (e : Expr) (at end : ℕ) (ops : List ℕ) (w : TinyWorld) → w.turns ≤ c.turns → IsNamedExpr c.program f.names seen e →
@@ -153,9 +142,8 @@ module _ (c : Setting) (f : Running) (seen : Seen) (locals : List (Option ℕ)) 
     expr_does (Sum first rest) at end ops w few named has s =
         let a : List Instr = term_code c.places f.local first in
         let b : List Instr = steps_code c.places f.local rest in
-        does_then
-        (term_does first at (at + code_size a) ops w few named.0 (all_front HasOne (term_numbers first) (steps_numbers rest) has) (front a b s))
-        (λ v x u le. steps_do rest v (at + code_size a) end ops u (omega (arith, le, few)) named.1
+        does_then (term_does first at _ ops w few named.0 (all_front HasOne (term_numbers first) (steps_numbers rest) has) (front a b s))
+        (λ v x u le. steps_do rest v _ end ops u (omega (arith, le, few)) named.1
         (all_back HasOne (term_numbers first) (steps_numbers rest) has) (back a b s))
 
     pub steps_do : (rest : Steps) (v at end : ℕ) (ops : List ℕ) (w : TinyWorld) → w.turns ≤ c.turns → AreNamedSteps c.program f.names seen rest →
@@ -167,14 +155,10 @@ module _ (c : Setting) (f : Running) (seen : Seen) (locals : List (Option ℕ)) 
         let b : List Instr = steps_code c.places f.local rest in
         let mid : ℕ = at + code_size a in
         let last : Stands mid end (operator_code op ∷ b) = back a (operator_code op ∷ b) s in
-        let after : Stands (mid + 1) end b = subst (λ (x : ℕ). Stands (mid + x) end b) (operator_size op) (next (operator_code op) b last) in
-        does_then
-        (does_lower 1 (term_does t at mid (v ∷ ops) w few named.0 (all_front HasOne (term_numbers t) (steps_numbers rest) has)
-        (front a (operator_code op ∷ b) s)))
-        (λ y x u le. does_lower 1 (does_after (place mid (y ∷ v ∷ ops) u) (place (mid + 1) (combine op v y ∷ ops) u)
-        (operator_by op v y mid ops u (here (operator_code op) b last)) refl
-        (steps_do rest (combine op v y) (mid + 1) end ops u (omega (arith, le, few)) named.1
-        (all_back HasOne (term_numbers t) (steps_numbers rest) has) after)))
+        let after : Stands (mid + 1) end b = subst (λ (x : ℕ). Stands (mid + x) end b) (operator_size op) (next _ b last) in
+        does_then (does_lower 1 (term_does t at mid _ w few named.0 (all_front HasOne (term_numbers t) (steps_numbers rest) has) (front a _ s)))
+        (λ y x u le. does_lower 1 (does_after _ _ (operator_by op v y mid ops u (here _ b last)) refl
+        (steps_do rest _ _ end ops u (omega (arith, le, few)) named.1 (all_back HasOne (term_numbers t) (steps_numbers rest) has) after)))
 
     pub arguments_do : (args : Arguments) (at end : ℕ) (ops : List ℕ) (w : TinyWorld) → w.turns ≤ c.turns →
         AreNamedArguments c.program f.names seen args → Has (arguments_numbers args) → Stands at end (arguments_code c.places f.local args) →
@@ -185,10 +169,7 @@ module _ (c : Setting) (f : Running) (seen : Seen) (locals : List (Option ℕ)) 
         let a : List Instr = expr_code c.places f.local e in
         let b : List Instr = arguments_code c.places f.local rest in
         let m : ℕ = arguments_count rest in
-        does_then
-        (does_lower 1 (expr_does e at (at + code_size a) ops w few named.0 (all_front HasOne (expr_numbers e) (arguments_numbers rest) has)
-        (front a b s)))
-        (λ v x u le. does_then
-        (arguments_do rest (at + code_size a) end (v ∷ ops) u (omega (arith, le, few)) named.1
+        does_then (does_lower 1 (expr_does e at _ ops w few named.0 (all_front HasOne (expr_numbers e) (arguments_numbers rest) has) (front a b s)))
+        (λ v x u le. does_then (arguments_do rest _ end _ u (omega (arith, le, few)) named.1
         (all_back HasOne (expr_numbers e) (arguments_numbers rest) has) (back a b s))
-        (λ vs many z le'. does_give (v ∷ vs) z z (AreMany (m + 1)) _ _ (omega (arith, many)) refl refl))
+        (λ vs many z le'. does_give _ z z _ _ _ (omega (arith, many)) refl refl))
