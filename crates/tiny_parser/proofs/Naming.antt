@@ -16,13 +16,9 @@ use Rattle.tiny_parser.proofs.Words.{WordsArguments, WordsCond, WordsElse, Words
 
 -- ---- lists of faults, and tests
 
-pub empty_left : (a b : List Fault) → a ++ b ≡ [] → a ≡ []
-empty_left [] b h = refl
-empty_left (x ∷ a) b h = absurd (cc)
-
-pub empty_right : (a b : List Fault) → a ++ b ≡ [] → b ≡ []
-empty_right [] b h = h
-empty_right (x ∷ a) b h = absurd (cc)
+pub halves : (a b : List Fault) → a ++ b ≡ [] → (a ≡ []) × (b ≡ [])
+halves [] b h = (refl, h)
+halves (x ∷ a) b h = absurd (cc)
 
 pub if_empty : (b : Bool) (f : Fault) → (if b then [] else f ∷ []) ≡ [] → b ≡ true
 if_empty true f h = refl
@@ -114,46 +110,24 @@ module _ (p : Program) (known : ℕ → Option Signature)
       term_named : (t : draft.Term) → term_faults known seen t ≡ [] → WordsTerm t → IsNamedTerm p (length names) s (term known names t)
       term_named (draft.Number n) h w = w
       term_named (draft.Variable v) h w = inv v.name (if_empty (has seen v.name) _ h)
-      term_named (draft.Called v es) h w = (
-        called v es (empty_left (call_faults known v (count es)) (argument_faults known seen es) h),
-        arguments_named es (empty_right (call_faults known v (count es)) (argument_faults known seen es) h) w,
-      )
+      term_named (draft.Called v es) h w = (called v es (halves _ _ h).0, arguments_named es (halves _ _ h).1 w)
       term_named draft.Get h w = tt
       term_named (draft.Group e) h w = expr_named e h w
 
       expr_named : (e : draft.Expr) → expr_faults known seen e ≡ [] → WordsExpr e → IsNamedExpr p (length names) s (expr known names e)
-      expr_named (draft.Sum t ss) h w = (
-        term_named t (empty_left (term_faults known seen t) (step_faults known seen ss) h) w.0,
-        steps_named ss (empty_right (term_faults known seen t) (step_faults known seen ss) h) w.1,
-      )
+      expr_named (draft.Sum t ss) h w = (term_named t (halves _ _ h).0 w.0, steps_named ss (halves _ _ h).1 w.1)
 
       steps_named : (ss : draft.Steps) → step_faults known seen ss ≡ [] → WordsSteps ss → AreNamedSteps p (length names) s (steps known names ss)
       steps_named draft.no_steps h w = tt
-      steps_named (draft.step o t ss) h w = (
-        term_named t (empty_left (term_faults known seen t) (step_faults known seen ss) h) w.0,
-        steps_named ss (empty_right (term_faults known seen t) (step_faults known seen ss) h) w.1,
-      )
+      steps_named (draft.step o t ss) h w = (term_named t (halves _ _ h).0 w.0, steps_named ss (halves _ _ h).1 w.1)
 
       arguments_named : (es : draft.Arguments) → argument_faults known seen es ≡ [] → WordsArguments es → AreNamedArguments p (length names) s (arguments known names es)
       arguments_named draft.no_arguments h w = tt
-      arguments_named (draft.argument e es) h w = (
-        expr_named e (empty_left (expr_faults known seen e) (argument_faults known seen es) h) w.0,
-        arguments_named es (empty_right (expr_faults known seen e) (argument_faults known seen es) h) w.1,
-      )
+      arguments_named (draft.argument e es) h w = (expr_named e (halves _ _ h).0 w.0, arguments_named es (halves _ _ h).1 w.1)
 
     cond_named : (c : draft.Cond) → cond_faults known seen c ≡ [] → WordsCond c → IsNamedCond p (length names) s (resolved_cond known names c)
-    cond_named (draft.Compare comparisons.Equal a b) h w = (
-      expr_named a (empty_left (expr_faults known seen a) (expr_faults known seen b) h) w.0,
-      expr_named b (empty_right (expr_faults known seen a) (expr_faults known seen b) h) w.1,
-    )
-    cond_named (draft.Compare comparisons.Different a b) h w = (
-      expr_named a (empty_left (expr_faults known seen a) (expr_faults known seen b) h) w.0,
-      expr_named b (empty_right (expr_faults known seen a) (expr_faults known seen b) h) w.1,
-    )
-    cond_named (draft.Compare comparisons.Less a b) h w = (
-      expr_named a (empty_left (expr_faults known seen a) (expr_faults known seen b) h) w.0,
-      expr_named b (empty_right (expr_faults known seen a) (expr_faults known seen b) h) w.1,
-    )
+    cond_named (draft.Compare comparisons.Equal a b) h w = (expr_named a (halves _ _ h).0 w.0, expr_named b (halves _ _ h).1 w.1)
+    cond_named (draft.Compare _ a b) h w = (expr_named a (halves _ _ h).0 w.0, expr_named b (halves _ _ h).1 w.1)
 
   -- ---- statements
 
@@ -202,31 +176,27 @@ module _ (p : Program) (known : ℕ → Option Signature)
       statement_named : (st : draft.Statement) (declared seen : List ℕ) (s : Seen) → IsSeen names seen s → Within (declares st)
           → statement_faults known main declared seen st ≡ [] → WordsStatement st → IsNamedStatement p main' (length names) (statement known names st) s
       statement_named (draft.Var v e) declared seen s inv inside h w = (
-        expr_named seen s inv e (empty_right (declare_faults declared v) (expr_faults known seen e) h) w,
+        expr_named seen s inv e (halves _ _ h).1 w,
         place_lt names v.name (inside v.name (has_one v.name)),
       )
       statement_named (draft.Assign v e) declared seen s inv inside h w =
-          let at = inv v.name (if_empty (has seen v.name) _ (empty_left (use_faults seen v) (expr_faults known seen e) h)) in
-          (expr_named seen s inv e (empty_right (use_faults seen v) (expr_faults known seen e) h) w, at.0, at.1)
-      statement_named (draft.Calls v es) declared seen s inv inside h w = (
-        called v es (empty_left (call_faults known v (count es)) (argument_faults known seen es) h),
-        arguments_named seen s inv es (empty_right (call_faults known v (count es)) (argument_faults known seen es) h) w,
-      )
+          let at = inv v.name (if_empty (has seen v.name) _ (halves _ _ h).0) in
+          (expr_named seen s inv e (halves _ _ h).1 w, at.0, at.1)
+      statement_named (draft.Calls v es) declared seen s inv inside h w = (called v es (halves _ _ h).0, arguments_named seen s inv es (halves _ _ h).1 w)
       statement_named (draft.If l c b other) declared seen s inv inside h w =
-          let later = empty_right (cond_faults known seen c) (block_faults known main declared seen b ++ else_faults known main (declared ++ all_names b) seen other) h in (
-            cond_named seen s inv c (empty_left (cond_faults known seen c) (block_faults known main declared seen b ++ else_faults known main (declared ++ all_names b) seen other) h) w.0,
-            statements_named b declared seen s inv (λ name m. inside name (in_left (all_names b) (else_names other) name m))
-                (empty_left (block_faults known main declared seen b) (else_faults known main (declared ++ all_names b) seen other) later) w.1,
+          let later = (halves _ _ h).1 in (
+            cond_named seen s inv c (halves _ _ h).0 w.0,
+            statements_named b declared seen s inv (λ name m. inside name (in_left (all_names b) (else_names other) name m)) (halves _ _ later).0 w.1,
             else_named other (declared ++ all_names b) seen s inv (λ name m. inside name (in_right (all_names b) (else_names other) name m))
-                (empty_right (block_faults known main declared seen b) (else_faults known main (declared ++ all_names b) seen other) later) w.2,
+                (halves _ _ later).1 w.2,
           )
       statement_named (draft.While l c b) declared seen s inv inside h w = (
-        cond_named seen s inv c (empty_left (cond_faults known seen c) (block_faults known main declared seen b) h) w.0,
-        statements_named b declared seen s inv inside (empty_right (cond_faults known seen c) (block_faults known main declared seen b) h) w.1,
+        cond_named seen s inv c (halves _ _ h).0 w.0,
+        statements_named b declared seen s inv inside (halves _ _ h).1 w.1,
       )
       statement_named (draft.Return l e) declared seen s inv inside h w = (
-        expr_named seen s inv e (empty_right (return_faults main l) (expr_faults known seen e) h) w,
-        agrees (no_return main l (empty_left (return_faults main l) (expr_faults known seen e) h)),
+        expr_named seen s inv e (halves _ _ h).1 w,
+        agrees (no_return main l (halves _ _ h).0),
       )
       statement_named (draft.Put e) declared seen s inv inside h w = expr_named seen s inv e h w
       statement_named draft.Halt declared seen s inv inside h w = tt
@@ -236,11 +206,9 @@ module _ (p : Program) (known : ℕ → Option Signature)
       statements_named draft.no_statements declared seen s inv inside h w = tt
       statements_named (draft.statement st ss) declared seen s inv inside h w =
           let here : Within (declares st) = λ name m. inside name (in_left (declares st) (all_names ss) name m) in (
-            statement_named st declared seen s inv here
-                (empty_left (statement_faults known main declared seen st) (block_faults known main (declared ++ declares st) (seen ++ shows st) ss) h) w.0,
+            statement_named st declared seen s inv here (halves _ _ h).0 w.0,
             statements_named ss (declared ++ declares st) (seen ++ shows st) (seen_after (statement known names st) s) (shown st seen s inv here)
-                (λ name m. inside name (in_right (declares st) (all_names ss) name m))
-                (empty_right (statement_faults known main declared seen st) (block_faults known main (declared ++ declares st) (seen ++ shows st) ss) h) w.1,
+                (λ name m. inside name (in_right (declares st) (all_names ss) name m)) (halves _ _ h).1 w.1,
           )
 
       else_named : (other : draft.Else) (declared seen : List ℕ) (s : Seen) → IsSeen names seen s → Within (else_names other)
@@ -281,16 +249,14 @@ module _ (known : ℕ → Option Signature) (main : Bool) where
   mutual
     statement_few : (st : draft.Statement) (declared seen : List ℕ) → statement_faults known main declared seen st ≡ [] → length declared ≤ 255
         → length (declared ++ declares st) ≤ 255
-    statement_few (draft.Var v e) declared seen h few = declare_few declared v (empty_left (declare_faults declared v) (expr_faults known seen e) h)
+    statement_few (draft.Var v e) declared seen h few = declare_few declared v (halves _ _ h).0
     statement_few (draft.Assign v e) declared seen h few = same_few declared few
     statement_few (draft.Calls v es) declared seen h few = same_few declared few
     statement_few (draft.If l c b other) declared seen h few =
-        let later = empty_right (cond_faults known seen c) (block_faults known main declared seen b ++ else_faults known main (declared ++ all_names b) seen other) h in
+        let later = (halves _ _ h).1 in
         subst (λ (l : List ℕ). length l ≤ 255) (append_assoc declared (all_names b) (else_names other))
-        (else_few other (declared ++ all_names b) seen (empty_right (block_faults known main declared seen b) (else_faults known main (declared ++ all_names b) seen other) later)
-        (block_few b declared seen (empty_left (block_faults known main declared seen b) (else_faults known main (declared ++ all_names b) seen other) later) few))
-    statement_few (draft.While l c b) declared seen h few =
-        block_few b declared seen (empty_right (cond_faults known seen c) (block_faults known main declared seen b) h) few
+        (else_few other (declared ++ all_names b) seen (halves _ _ later).1 (block_few b declared seen (halves _ _ later).0 few))
+    statement_few (draft.While l c b) declared seen h few = block_few b declared seen (halves _ _ h).1 few
     statement_few (draft.Return l e) declared seen h few = same_few declared few
     statement_few _ declared seen h few = same_few declared few
 
@@ -298,10 +264,8 @@ module _ (known : ℕ → Option Signature) (main : Bool) where
         → length (declared ++ all_names ss) ≤ 255
     block_few draft.no_statements declared seen h few = same_few declared few
     block_few (draft.statement st ss) declared seen h few =
-        subst (λ (l : List ℕ). length l ≤ 255) (append_assoc declared (declares st) (all_names ss))
-        (block_few ss (declared ++ declares st) (seen ++ shows st)
-        (empty_right (statement_faults known main declared seen st) (block_faults known main (declared ++ declares st) (seen ++ shows st) ss) h)
-        (statement_few st declared seen (empty_left (statement_faults known main declared seen st) (block_faults known main (declared ++ declares st) (seen ++ shows st) ss) h) few))
+        subst (λ (l : List ℕ). length l ≤ 255) (append_assoc declared (declares st) (all_names ss)) (block_few ss (declared ++ declares st) (seen ++ shows st)
+        (halves _ _ h).1 (statement_few st declared seen (halves _ _ h).0 few))
 
     else_few : (other : draft.Else) (declared seen : List ℕ) → else_faults known main declared seen other ≡ [] → length declared ≤ 255
         → length (declared ++ else_names other) ≤ 255

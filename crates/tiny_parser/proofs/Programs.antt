@@ -9,7 +9,7 @@ use Rattle.tiny_tree.specs.Prelude.{Program, AreNamed, IsCallable, IsNamed, IsNa
 use Rattle.tiny_names.specs.declared.fault.Fault.TheVariants as faults
 use Rattle.tiny_names.specs.declared.functions.Signature.{Signature}
 use Rattle.tiny_names.specs.Prelude.{all_faults, body_faults, call_by, call_faults, declare_faults, faults_from, function_faults, main_faults, own_faults, parameter_faults, all_names, called, called_from, is_main, name_of, function_names, function_of, function_place, place_in, resolved, statements}
-use Rattle.tiny_parser.proofs.Naming.{IsSeen, below, block_few, declare_few, empty_left, empty_right, if_empty, in_right, not_if, place_front, statements_named, vars_of_is}
+use Rattle.tiny_parser.proofs.Naming.{IsSeen, below, block_few, declare_few, halves, if_empty, in_right, not_if, place_front, statements_named, vars_of_is}
 use Rattle.tiny_parser.proofs.Words.{WordsStatements}
 
 mapped_length : (ws : List Word) → length (map name_of ws) ≡ length ws
@@ -60,12 +60,10 @@ no_faults_at known k [] i f h is = absurd (cc)
 no_faults_at known k (g ∷ fs) zero f h is =
     let same : g ≡ f = cc in
     let at : k ≡ k + 0 = omega arith in
-    subst (λ (n : ℕ). function_faults known n f ≡ []) at (subst (λ (x : draft.Function). function_faults known k x ≡ []) same
-    (empty_left (function_faults known k g) (faults_from known (k + 1) fs) h))
+    subst (λ (n : ℕ). function_faults known n f ≡ []) at (subst (λ (x : draft.Function). function_faults known k x ≡ []) same (halves _ _ h).0)
 no_faults_at known k (g ∷ fs) (suc i) f h is =
     let at : k + 1 + i ≡ k + suc i = omega arith in
-    subst (λ (n : ℕ). function_faults known n f ≡ []) at
-    (no_faults_at known (k + 1) fs i f (empty_right (function_faults known k g) (faults_from known (k + 1) fs) h) is)
+    subst (λ (n : ℕ). function_faults known n f ≡ []) at (no_faults_at known (k + 1) fs i f (halves _ _ h).1 is)
 
 record Own (s : Option Signature) (place : ℕ) (f : draft.Function) : Type 0 where
   first : Signature
@@ -97,9 +95,8 @@ parameters_few : (declared : List ℕ) (ws : List Word) → parameter_faults dec
 parameters_few declared [] h few = let nil : List ℕ = [] in omega (arith, length-append declared nil)
 parameters_few declared (w ∷ ws) h few =
     let one : List ℕ = w.name ∷ [] in
-    subst (λ (l : List ℕ). length l ≤ 255) (append_assoc declared one (map name_of ws))
-    (parameters_few (declared ++ w.name ∷ []) ws (empty_right (declare_faults declared w) (parameter_faults (declared ++ w.name ∷ []) ws) h)
-    (declare_few declared w (empty_left (declare_faults declared w) (parameter_faults (declared ++ w.name ∷ []) ws) h)))
+    subst (λ (l : List ℕ). length l ≤ 255) (append_assoc declared one (map name_of ws)) (parameters_few (declared ++ w.name ∷ []) ws (halves _ _ h).1
+    (declare_few declared w (halves _ _ h).0))
 
 found : (xs : List draft.Function) (i : ℕ) (a b : draft.Function) → slice_get xs i ≡ Some a → slice_get xs i ≡ Some b → a ≡ b
 found xs i a b x y = let e : Some a ≡ Some b = sym x ∙ y in cc
@@ -114,14 +111,14 @@ module _ (fs : List draft.Function) (none : all_faults fs ≡ []) (words : (i : 
   each : (i : ℕ) (f : draft.Function) → slice_get fs i ≡ Some f → function_faults K i f ≡ []
   each i f is =
       let at : 0 + i ≡ i = omega arith in
-      subst (λ (n : ℕ). function_faults K n f ≡ []) at (no_faults_at K 0 fs i f (empty_left (faults_from K 0 fs) (main_faults (K 0)) none) is)
+      subst (λ (n : ℕ). function_faults K n f ≡ []) at (no_faults_at K 0 fs i f (halves _ _ none).0 is)
 
   first_main : (o : Option Signature) → main_faults o ≡ [] → (s : Signature) × (o ≡ Some s)
   first_main None h = absurd (cc)
   first_main (Some s) h = (s, refl)
 
   main_first : (s : Signature) × (K 0 ≡ Some s)
-  main_first = first_main (K 0) (empty_right (faults_from K 0 fs) (main_faults (K 0)) none)
+  main_first = first_main (K 0) (halves _ _ none).1
 
   main_at : Stands 0 fs 0 main_first.0
   main_at = stands 0 fs 0 main_first.0 main_first.1
@@ -177,9 +174,9 @@ module _ (fs : List draft.Function) (none : all_faults fs ≡ []) (words : (i : 
   function_named i f is =
       let h = each i f is in
       let parameters = map name_of f.parameters in
-      let later = empty_right (own_faults (K f.name.name) i f) (parameter_faults [] f.parameters ++ body_faults K f) h in
-      let a = empty_left (parameter_faults [] f.parameters) (body_faults K f) later in
-      let b = empty_right (parameter_faults [] f.parameters) (body_faults K f) later in
+      let later = (halves _ _ h).1 in
+      let a = (halves _ _ later).0 in
+      let b = (halves _ _ later).1 in
       let some : length parameters ≤ 255 = parameters_few [] f.parameters a (omega arith) in
       let few : length (function_names f) ≤ 255 = block_few K (is_main f.name.name) f.body parameters parameters b some in
       record {
@@ -197,7 +194,7 @@ module _ (fs : List draft.Function) (none : all_faults fs ≡ []) (words : (i : 
   resolved_is_named =
       let main = main_at.function in
       let here : slice_get fs p.main ≡ Some main = subst (λ (n : ℕ). slice_get fs n ≡ Some main) (sym main_place) main_at.is in
-      let o = own (K main.name.name) p.main main (empty_left (own_faults (K main.name.name) p.main main) (parameter_faults [] main.parameters ++ body_faults K main) (each p.main main here)) in
+      let o = own (K main.name.name) p.main main (halves _ _ (each p.main main here)).0 in
       record {
         main = function_of K main;
         main_is = slice_get-map (function_of K) fs p.main ∙ ap (option_map (function_of K)) here;

@@ -118,13 +118,9 @@ kept_words (t ∷ ts) w = (w.0, kept_words ts w.1)
 
 -- ---- trees
 
-front_words : (a b : List Token) → AreWords (a ++ b) → AreWords a
-front_words [] b w = tt
-front_words (t ∷ a) b w = (w.0, front_words a b w.1)
-
-back_words : (a b : List Token) → AreWords (a ++ b) → AreWords b
-back_words [] b w = w
-back_words (t ∷ a) b w = back_words a b w.1
+halves : (a b : List Token) → AreWords (a ++ b) → AreWords a × AreWords b
+halves [] b w = (tt, w)
+halves (t ∷ a) b w = let later = halves a b w.1 in ((w.0, later.0), later.1)
 
 mutual
   term_words : (t : draft.Term) → AreWords (spell_term t) → WordsTerm t
@@ -132,67 +128,67 @@ mutual
   term_words (draft.Variable v) w = tt
   term_words (draft.Called v es) w = arguments_words es w.1.1
   term_words draft.Get w = tt
-  term_words (draft.Group e) w = expr_words e (front_words (spell_expr e) (sign signs.Close ∷ []) w.1)
+  term_words (draft.Group e) w = expr_words e (halves _ _ w.1).0
 
   expr_words : (e : draft.Expr) → AreWords (spell_expr e) → WordsExpr e
-  expr_words (draft.Sum t ss) w = (term_words t (front_words (spell_term t) (spell_steps ss) w), steps_words ss (back_words (spell_term t) (spell_steps ss) w))
+  expr_words (draft.Sum t ss) w = (term_words t (halves _ _ w).0, steps_words ss (halves _ _ w).1)
 
   steps_words : (ss : draft.Steps) → AreWords (spell_steps ss) → WordsSteps ss
   steps_words draft.no_steps w = tt
-  steps_words (draft.step o t ss) w = (term_words t (front_words (spell_term t) (spell_steps ss) w.1), steps_words ss (back_words (spell_term t) (spell_steps ss) w.1))
+  steps_words (draft.step o t ss) w = (term_words t (halves _ _ w.1).0, steps_words ss (halves _ _ w.1).1)
 
   arguments_words : (es : draft.Arguments) → AreWords (spell_arguments es) → WordsArguments es
   arguments_words draft.no_arguments w = tt
-  arguments_words (draft.argument e es) w = (expr_words e (front_words (spell_expr e) (spell_more es) w), more_words es (back_words (spell_expr e) (spell_more es) w))
+  arguments_words (draft.argument e es) w = (expr_words e (halves _ _ w).0, more_words es (halves _ _ w).1)
 
   more_words : (es : draft.Arguments) → AreWords (spell_more es) → WordsArguments es
   more_words draft.no_arguments w = tt
-  more_words (draft.argument e es) w = (expr_words e (front_words (spell_expr e) (spell_more es) w.1), more_words es (back_words (spell_expr e) (spell_more es) w.1))
+  more_words (draft.argument e es) w = (expr_words e (halves _ _ w.1).0, more_words es (halves _ _ w.1).1)
 
 cond_words : (c : draft.Cond) → AreWords (spell_cond c) → WordsCond c
-cond_words (draft.Compare c a b) w =
-    (expr_words a (front_words (spell_expr a) (comparison c ∷ spell_expr b) w), expr_words b (back_words (spell_expr a) (comparison c ∷ spell_expr b) w).1)
+cond_words (draft.Compare c a b) w = (expr_words a (halves _ _ w).0, expr_words b (halves (spell_expr a) (comparison c ∷ spell_expr b) w).1.1)
 
 abbrev closed : draft.Statements → List Token
 closed b = spell_statements b ++ (sign signs.End ∷ [])
 
 mutual
   statement_words : (s : draft.Statement) → AreWords (spell_statement s) → WordsStatement s
-  statement_words (draft.Var v e) w = expr_words e (front_words (spell_expr e) end w.1.1.1)
-  statement_words (draft.Assign v e) w = expr_words e (front_words (spell_expr e) end w.1.1)
-  statement_words (draft.Calls v es) w = arguments_words es (front_words (spell_arguments es) end w.1.1)
+  statement_words (draft.Var v e) w = expr_words e (halves _ _ w.1.1.1).0
+  statement_words (draft.Assign v e) w = expr_words e (halves _ _ w.1.1).0
+  statement_words (draft.Calls v es) w = arguments_words es (halves _ _ w.1.1).0
   statement_words (draft.If l c b other) w =
-      let later = back_words (spell_cond c) ((sign signs.Begin ∷ closed b) ++ spell_else other) w.1 in (
-        cond_words c (front_words (spell_cond c) ((sign signs.Begin ∷ closed b) ++ spell_else other) w.1),
-        statements_words b (front_words (spell_statements b) (sign signs.End ∷ []) (front_words (sign signs.Begin ∷ closed b) (spell_else other) later).1),
-        else_words other (back_words (sign signs.Begin ∷ closed b) (spell_else other) later),
+      let later = (halves (spell_cond c) ((sign signs.Begin ∷ closed b) ++ spell_else other) w.1).1 in (
+        cond_words c (halves _ _ w.1).0,
+        statements_words b (halves (spell_statements b) (sign signs.End ∷ []) (halves (sign signs.Begin ∷ closed b) (spell_else other) later).0.1).0,
+        else_words other (halves (sign signs.Begin ∷ closed b) (spell_else other) later).1,
       )
   statement_words (draft.While l c b) w = (
-    cond_words c (front_words (spell_cond c) (sign signs.Begin ∷ closed b) w.1),
-    statements_words b (front_words (spell_statements b) (sign signs.End ∷ []) (back_words (spell_cond c) (sign signs.Begin ∷ closed b) w.1).1),
+    cond_words c (halves _ _ w.1).0,
+    statements_words b (halves (spell_statements b) (sign signs.End ∷ []) (halves (spell_cond c) (sign signs.Begin ∷ closed b) w.1).1.1).0,
   )
-  statement_words (draft.Return l e) w = expr_words e (front_words (spell_expr e) end w.1)
-  statement_words (draft.Put e) w = expr_words e (front_words (spell_expr e) end w.1)
+  statement_words (draft.Return l e) w = expr_words e (halves _ _ w.1).0
+  statement_words (draft.Put e) w = expr_words e (halves _ _ w.1).0
   statement_words draft.Halt w = tt
 
   statements_words : (ss : draft.Statements) → AreWords (spell_statements ss) → WordsStatements ss
   statements_words draft.no_statements w = tt
-  statements_words (draft.statement s ss) w =
-      (statement_words s (front_words (spell_statement s) (spell_statements ss) w), statements_words ss (back_words (spell_statement s) (spell_statements ss) w))
+  statements_words (draft.statement s ss) w = (statement_words s (halves _ _ w).0, statements_words ss (halves _ _ w).1)
 
   else_words : (other : draft.Else) → AreWords (spell_else other) → WordsElse other
   else_words draft.no_else w = tt
-  else_words (draft.else_block b) w = statements_words b (front_words (spell_statements b) (sign signs.End ∷ []) w.1.1)
+  else_words (draft.else_block b) w = statements_words b (halves (spell_statements b) (sign signs.End ∷ []) w.1.1).0
 
 function_words : (f : draft.Function) → AreWords (spell_function f) → WordsStatements f.body
-function_words f w = statements_words f.body (front_words (spell_statements f.body) (sign signs.End ∷ []) (back_words (spell_parameters f.parameters) (spell_block f.body) w.1.1.1).1)
+function_words f w =
+    statements_words f.body
+    (halves (spell_statements f.body) (sign signs.End ∷ []) (halves (spell_parameters f.parameters) (spell_block f.body) w.1.1.1).1.1).0
 
 functions_words : (fs : List draft.Function) → AreWords (spell_functions fs) → (i : ℕ) (f : draft.Function) → slice_get fs i ≡ Some f → WordsStatements f.body
 functions_words [] w i f is = absurd (cc)
 functions_words (g ∷ fs) w zero f is =
     let same : g ≡ f = cc in
-    subst (λ (x : draft.Function). WordsStatements x.body) same (function_words g (front_words (spell_function g) (spell_functions fs) w))
-functions_words (g ∷ fs) w (suc i) f is = functions_words fs (back_words (spell_function g) (spell_functions fs) w) i f is
+    subst (λ (x : draft.Function). WordsStatements x.body) same (function_words g (halves (spell_function g) (spell_functions fs) w).0)
+functions_words (g ∷ fs) w (suc i) f is = functions_words fs (halves (spell_function g) (spell_functions fs) w).1 i f is
 
 -- the numbers of a text are words
 pub written_words : (text : List ℕ) (fs : List draft.Function) → IsWritten text fs → (i : ℕ) (f : draft.Function) → slice_get fs i ≡ Some f → WordsStatements f.body
