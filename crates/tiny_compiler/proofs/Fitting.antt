@@ -49,8 +49,7 @@ near_distances : (lines : List ℕ) (ds : List ℤ) → length lines ≡ length 
 near_distances lines [] e h = All-nil IsNear
 near_distances [] (z ∷ ds) e h = absurd (omega (arith, e))
 near_distances (n ∷ lines) (z ∷ ds) e h =
-    All-cons IsNear z ds (All-head IsNearJump (n, z) (zip lines ds) h)
-    (near_distances lines ds (omega (arith, e)) (All-tail IsNearJump (n, z) (zip lines ds) h))
+    All-cons IsNear z ds (All-head IsNearJump (n, z) _ h) (near_distances lines ds (omega (arith, e)) (All-tail IsNearJump (n, z) _ h))
 
 -- ---- lists of instructions
 
@@ -83,7 +82,7 @@ operands_fit _ rest h near = (h, near)
 code_fits : (is : List Instr) → FitAside is → All IsNear (distances is) → Fit is
 code_fits [] h near = All-nil IsInstr
 code_fits (i ∷ is) h near =
-    let here = operands_fit (row_of i).operands (distances is) (All-head FitsAside i is h) near in
+    let here = operands_fit _ _ (All-head FitsAside i is h) near in
     All-cons IsInstr i is here.0 (code_fits is (All-tail FitsAside i is h) here.1)
 
 -- code whose jumps are near
@@ -124,9 +123,7 @@ module _ (program : Program) (p : Places) (local names : ℕ) (few : local + nam
 
     steps_fit : (seen : Seen) (s : Steps) → AreNamedSteps program names seen s → FitAside (steps_code p local s)
     steps_fit seen no_steps h = All-nil FitsAside
-    steps_fit seen (step op t rest) h =
-        both (term_code p local t) (operator_code op ∷ steps_code p local rest) (term_fits seen t h.0)
-        (All-cons FitsAside (operator_code op) (steps_code p local rest) (operator_fits op) (steps_fit seen rest h.1))
+    steps_fit seen (step op t rest) h = both _ _ (term_fits seen t h.0) (All-cons FitsAside (operator_code op) _ (operator_fits op) (steps_fit seen rest h.1))
 
     arguments_fit : (seen : Seen) (args : Arguments) → AreNamedArguments program names seen args → FitAside (arguments_code p local args)
     arguments_fit seen no_arguments h = All-nil FitsAside
@@ -136,18 +133,14 @@ module _ (program : Program) (p : Places) (local names : ℕ) (few : local + nam
   test_fits : (seen : Seen) (c : Cond) → IsNamedCond program names seen c → FitAside (test_code p local c)
   test_fits seen (Equal a b) h = both (expr_code p local a) (expr_code p local b) (expr_fits seen a h.0) (expr_fits seen b h.1)
   test_fits seen (Different a b) h = both (expr_code p local a) (expr_code p local b) (expr_fits seen a h.0) (expr_fits seen b h.1)
-  test_fits seen (Less a b) h =
-      both (expr_code p local a) (expr_code p local b ++ Isub ∷ []) (expr_fits seen a h.0)
-      (both (expr_code p local b) (Isub ∷ []) (expr_fits seen b h.1) (one Isub tt))
+  test_fits seen (Less a b) h = both _ _ (expr_fits seen a h.0) (both _ _ (expr_fits seen b h.1) (one Isub tt))
 
   choice_fits : (test : List Instr) (jump : ℤ → Instr) (first second : List Instr) → ((z : ℤ) → FitsAside (jump z)) →
       FitAside test → FitAside first → FitAside second → FitAside (choice test jump first second)
   choice_fits test jump first second jumps tests firsts seconds =
       let far : ℤ = pos (6 + code_size first) in
       let past : ℤ = pos (3 + code_size second) in
-      both test (jump far ∷ (first ++ (Goto past ∷ second))) tests
-      (All-cons FitsAside (jump far) (first ++ (Goto past ∷ second)) (jumps far)
-      (both first (Goto past ∷ second) firsts (All-cons FitsAside (Goto past) second tt seconds)))
+      both test _ tests (All-cons FitsAside (jump far) _ (jumps far) (both first _ firsts (All-cons FitsAside (Goto past) second tt seconds)))
 
   if_fits : (seen : Seen) (c : Cond) (taken other : List Instr) → IsNamedCond program names seen c → FitAside taken → FitAside other →
       FitAside (if_code p local c taken other)
@@ -168,8 +161,7 @@ module _ (program : Program) (p : Places) (local names : ℕ) (few : local + nam
   while_fits seen c body h bodies =
       let leave : List Instr = leave_code p local c (code_size body) in
       let back : ℤ = neg_ℤ (pos (code_size (test_code p local c) + code_size leave + code_size body)) in
-      both (test_code p local c) (leave ++ (body ++ Goto back ∷ [])) (test_fits seen c h)
-      (both leave (body ++ Goto back ∷ []) (leave_fits c (code_size body)) (both body (Goto back ∷ []) bodies (one (Goto back) tt)))
+      both _ _ (test_fits seen c h) (both leave _ (leave_fits c _) (both body _ bodies (one _ tt)))
 
   module _ (in_main : Bool) where
     mutual

@@ -158,7 +158,7 @@ module _ (stands : (code : List Instr) (before after : List ℕ) → All IsInstr
 
     entries : (f : ℕ) (g : Function) → slice_get program.functions f ≡ Some g → p.entry f < 65536
     entries f g at =
-        let least : p.entry f ≤ f + 1 = entry_short program.main f in
+        let least : p.entry f ≤ f + 1 = entry_short _ f in
         omega (arith, least, get_inside program.functions f g at, pool_long)
 
     near : All IsNearJump (jumps_of (layout_of program main))
@@ -172,19 +172,16 @@ module _ (stands : (code : List Instr) (before after : List ℕ) → All IsInstr
     body_fits : (local f : ℕ) (g : Function) → local ≤ 1 → slice_get program.functions f ≡ Some g → FitAside (statements_code p local g.body)
     body_fits local f g le at =
         let n : IsNamedFunction program f g = named.functions f g at in
-        statements_fit program p local (names_count g) (omega (arith, n.few, le)) constants entries
-        (f == program.main) (parameters_seen g) g.body n.body
+        statements_fit program p local _ (omega (arith, n.few, le)) constants entries _ _ g.body n.body
 
     main_fits : Fit (main_code p main)
     main_fits =
-        near_fits (main_code p main) (statements_lines main.body) (main_lined p main)
-        (both (statements_code p 0 main.body) (HaltCode ∷ []) (body_fits 0 program.main main (omega arith) is.main_is) (one HaltCode tt))
+        near_fits _ _ (main_lined p main) (both _ _ (body_fits 0 _ main (omega arith) is.main_is) (one _ tt))
         (all_front IsNearJump (main_part p main).jumps later_jumps near)
 
     method_fits : (m : ℕ × Function) → slice_get program.functions m.0 ≡ Some m.1 → All IsNearJump (method_part p m).jumps → IsFit m
     method_fits m at near_body =
-        near_fits (method_code p m.1) (statements_lines m.1.body) (method_lined p m.1)
-        (both (statements_code p 1 m.1.body) (Bipush (pos 0) ∷ Ireturn ∷ []) (body_fits 1 m.0 m.1 (omega arith) at)
+        near_fits _ _ (method_lined p m.1) (both _ _ (body_fits 1 m.0 m.1 (omega arith) at)
         (All-cons FitsAside (Bipush (pos 0)) (Ireturn ∷ []) zero_fits (one Ireturn tt))) near_body
 
     methods_fit : (ms : List (ℕ × Function)) → ((m : ℕ × Function) → Contains ms m → slice_get program.functions m.0 ≡ Some m.1) →
@@ -207,23 +204,20 @@ module _ (stands : (code : List Instr) (before after : List ℕ) → All IsInstr
 
     methods_at : AreMethodsAt image p (code_size (main_code p main)) (methods program)
     methods_at =
-        subst (λ (b : ℕ). AreMethodsAt image p b (methods program)) (bytes_size (main_code p main))
-        (methods_laid main_bytes [] 0 (methods program) counted.0
-        (methods_fit (methods program) (λ m h. (sound m.0 m.1 h).0) (all_back IsNearJump (main_part p main).jumps later_jumps near))
-        is.laid.text is.laid.pool refl)
+        subst (λ (b : ℕ). AreMethodsAt image p b (methods program)) (bytes_size (main_code p main)) (methods_laid _ [] 0 _ counted.0
+        (methods_fit _ (λ m h. (sound m.0 m.1 h).0) (all_back IsNearJump (main_part p main).jumps later_jumps near)) is.laid.text is.laid.pool refl)
 
     number_at : (n : ℕ) → Finds (numbers program) n → slice_get image.pool (p.constant n) ≡ Some n
     number_at n found =
         let front : List ℕ = 0 ∷ entries_part in
         let place : ℕ = position_or_len (λ m. m == n) (numbers program) in
         let index : p.constant n ≡ length front + place = omega (arith, entries_long, counted.1) in
-        ap (slice_get image.pool) index ∙ ap (λ (xs : List ℕ). slice_get xs (length front + place)) is.laid.pool
-        ∙ get_after front (numbers program) place ∙ found
+        ap (slice_get image.pool) index ∙ ap (λ (xs : List ℕ). slice_get xs (length front + place)) is.laid.pool ∙ get_after front _ place ∙ found
 
     pub laid_out : IsLaidOut image p program
     laid_out = record {
       object = ap (λ (xs : List ℕ). slice_get xs 0) is.laid.pool;
-      numbers = all_found (flat_map function_numbers program.functions) (λ n. slice_get image.pool (p.constant n) ≡ Some n) number_at;
+      numbers = all_found _ _ number_at;
       main = main;
       main_is = is.main_is;
       main_at = main_at;

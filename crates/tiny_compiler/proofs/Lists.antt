@@ -50,8 +50,7 @@ in_once : (n : ℕ) (xs : List ℕ) → In n xs → In n (once xs)
 in_once n [] h = absurd h
 in_once n (x ∷ xs) (inl h) = inl h
 in_once n (x ∷ xs) (inr h) =
-    ⊎_elim (λ t. inl (sym t.1))
-    (λ t. inr (in_filter n x (once xs) (λ e. let bad : true ≡ false = sym (eq-eqb n x e) ∙ t.0 in absurd (cc)) (in_once n xs h)))
+    ⊎_elim (λ t. inl (sym t.1)) (λ t. inr (in_filter n x _ (λ e. let bad : true ≡ false = sym (eq-eqb n x e) ∙ t.0 in absurd (cc)) (in_once n xs h)))
     (eqb_tells n x)
 
 all_in : (ys xs : List ℕ) → ((n : ℕ) → In n xs → In n ys) → All (λ n. In n ys) xs

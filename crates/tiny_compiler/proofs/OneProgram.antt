@@ -17,7 +17,7 @@ use Rattle.tiny_code.specs.Prelude.{IsCodeOf, layout_of}
 
 image_once : (program : Program) (p q : ImageView) → IsCodeOf program p → IsCodeOf program q → p ≡ q
 image_once program p q one other =
-    let main : one.main ≡ other.main = same_Some one.main other.main (sym one.main_is ∙ other.main_is) in
+    let main : one.main ≡ other.main = same_Some _ _ (sym one.main_is ∙ other.main_is) in
     let text : p.text ≡ q.text = one.laid.text ∙ ap (λ (g : Function). text_of (layout_of program g)) main ∙ sym other.laid.text in
     let pool : p.pool ≡ q.pool = one.laid.pool ∙ ap (λ (g : Function). pool_of (layout_of program g)) main ∙ sym other.laid.pool in
     λ i. record { text = text i; pool = pool i }
@@ -31,8 +31,7 @@ laid_fits l image _ is exceeds = exceeds
 fits : (program : Program) (image : ImageView) (main : Function) (e : TinyError) → IsCodeOf program image →
     slice_get program.functions program.main ≡ Some main → ExceedsBy (layout_of program main) e → ⊥
 fits program image main e is at exceeds =
-    laid_fits (layout_of program main) image e
-    (subst (λ (g : Function). IsImageOf (layout_of program g) image) (same_Some is.main main (sym is.main_is ∙ at)) is.laid) exceeds
+    laid_fits _ image e (subst (λ (g : Function). IsImageOf (layout_of program g) image) (same_Some is.main main (sym is.main_is ∙ at)) is.laid) exceeds
 
 -- ---- the first limit
 
@@ -61,8 +60,7 @@ module _
   pub program_once : (text : List ℕ) (v w : VerifiedView) → IsCompiled text v → IsCompiled text w → v ≡ w
   program_once text v w one other =
       let same : one.program ≡ other.program = one_program text one.program other.program one.spelled other.spelled in
-      let image : v.image ≡ w.image =
-      image_once other.program v.image w.image (subst (λ (p : Program). IsCodeOf p v.image) same one.code) other.code in
+      let image : v.image ≡ w.image = image_once _ v.image w.image (subst (λ (p : Program). IsCodeOf p v.image) same one.code) other.code in
       let locals : v.main_locals ≡ w.main_locals =
       one_count w.image v.main_locals w.main_locals (subst (λ (x : ImageView). IsMainCount x v.main_locals) image one.accepted.main) other.accepted.main in
       λ i. record { image = image i; main_locals = locals i; map = (one.map_is ∙ sym other.map_is) i }
