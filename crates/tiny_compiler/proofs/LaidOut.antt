@@ -2,16 +2,16 @@
 use Rattle.std.proofs.Common.{◌≡◌, ◌≢◌, ◌<◌, ◌≤◌, ℕ, zero, suc, ◌+◌, ◌/◌, ◌%◌, Bool, true, false, List, [], ◌∷◌, ◌++◌, length, map, Some, refl, sym, ap, ◌∙◌, subst, arith, append_assoc, length-append, pos}
 use Rattle.std.specs.Prelude.{◌==◌, ◌^◌, nat_lt, if◌then◌else◌, slice_get, slice_index, FitsSigned}
 use Rattle.std.specs.Int.{w8}
-use Rattle.std.specs.List.{All, Contains, flat_map, position_or_len}
+use Rattle.std.specs.List.{All, Contains, position_or_len}
 use Rattle.std.proofs.lemmas.List.{get_or-append-add, length-map}
 use Rattle.std.proofs.lemmas.List.Elements.{All-nil, All-cons, All-head, All-tail, Contains-append_right}
 use Rattle.ijvm_instr.specs.declared.instr.Instr.{Instr}
-use Rattle.ijvm_instr.specs.declared.instr.Instr.TheVariants.{Bipush, Ireturn, Halt as HaltCode}
+use Rattle.ijvm_instr.specs.declared.instr.Instr.TheVariants.{Bipush, Ireturn}
 use Rattle.ijvm_instr.specs.Prelude.{IsInstr, Jump}
 use Rattle.ijvm_image.specs.Prelude.{header, ImageView, params, others}
 use Rattle.ijvm_text.specs.Prelude.{code_bytes, Part, begins, bytes_of, jumps_in, jumps_of, length-begins}
-use Rattle.tiny_tree.specs.Prelude.{Function, Program, IsNamed, IsNamedFunction, names_count, parameters_seen, vars_of}
-use Rattle.tiny_code.specs.Prelude.{Places, code_size, function_numbers, main_code, method_code, method_size, methods, numbers, places_of, statements_code, AreMethodsAt, CodeAt, IsLaidOut, IsMethodAt, AreEntries, entry, from_main, all_back, all_front, bytes_size, size_append, IsCodeOf, layout_of, main_part, method_part, statements_lines, main_lined, method_lined}
+use Rattle.tiny_tree.specs.Prelude.{Function, Program, IsNamed, IsNamedFunction, vars_of}
+use Rattle.tiny_code.specs.Prelude.{Places, code_size, main_code, method_code, method_size, methods, numbers, places_of, statements_code, AreMethodsAt, CodeAt, IsLaidOut, IsMethodAt, AreEntries, entry, from_main, all_back, all_front, bytes_size, size_append, IsCodeOf, layout_of, main_part, method_part, main_lined, method_lined}
 use Rattle.tiny_compiler.proofs.Lists.{Finds, all_found, get_after, prefix_short}
 use Rattle.tiny_compiler.proofs.Fitting.{Fit, FitAside, FitsAside, IsNearJump, all_near, both, near_fits, one, statements_fit}
 

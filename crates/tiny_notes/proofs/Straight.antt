@@ -8,7 +8,7 @@ use Rattle.ijvm_instr.specs.declared.instr.Instr.{Instr}
 use Rattle.ijvm_instr.specs.declared.instr.Instr.TheVariants.{Bipush, LdcW, Iload, Invokevirtual, In}
 use Rattle.ijvm_instr.specs.declared.row.Flow.{Flow}
 use Rattle.ijvm_instr.specs.declared.row.Flow.TheVariants as flows
-use Rattle.ijvm_instr.specs.Prelude.{row_of, size_of}
+use Rattle.ijvm_instr.specs.Prelude.{row_of}
 use Rattle.verifier_facts.specs.Prelude.{HasConstant, ways_of}
 use Rattle.verifier_notes.specs.Prelude.{Note, FindsMethod, note_at, AllMet, items_size}
 use Rattle.tiny_tree.specs.declared.tree.Operator.{Operator}

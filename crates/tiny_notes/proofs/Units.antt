@@ -154,7 +154,8 @@ module _ (image : ImageView) (p : Places) (program : Program) where
           };
           constant = in_pool _ _ l.begin l.stands.entry;
           needs = ap (λ (c : Option ℕ). option_map (λ (x : Method). x.params) (method_at image.text c)) l.stands.entry
-              ∙ ap (λ (b : Bool). option_map (λ (x : Method). x.params) (if b then Some here else None)) (lt-ltb (l.begin + 4) (length image.text) l.stands.inside)
+              ∙ ap (λ (b : Bool). option_map (λ (x : Method). x.params) (if b then Some here else None))
+              (lt-ltb (l.begin + 4) (length image.text) l.stands.inside)
               ∙ ap Some counted;
           takes_is = ap (params_by image.text) l.stands.entry ∙ counted;
         }

@@ -9,7 +9,7 @@ use Rattle.tiny_draft.specs.Tree as draft
 use Rattle.tiny_tree.specs.Prelude.{Program, AreNamed, AreNamedArguments, AreNamedSteps, IsCallable, IsNamedCond, IsNamedElse, IsNamedExpr, IsNamedStatement, IsNamedTerm, Seen, arguments_count, seen_after, seen_with, vars_in, vars_of, vars_of_else}
 use Rattle.tiny_names.specs.declared.fault.Fault.{Fault}
 use Rattle.tiny_names.specs.declared.functions.Signature.{Signature}
-use Rattle.tiny_names.specs.Prelude.{argument_faults, block_faults, call_faults, cond_faults, count, declare_faults, else_faults, expr_faults, return_faults, statement_faults, step_faults, term_faults, use_faults, all_names, else_names, has, shows, arguments, expr, function_place, otherwise, place_in, statement, statements, steps, term}
+use Rattle.tiny_names.specs.Prelude.{argument_faults, block_faults, call_faults, cond_faults, count, declare_faults, else_faults, expr_faults, return_faults, statement_faults, step_faults, term_faults, all_names, else_names, has, shows, arguments, expr, function_place, otherwise, place_in, statement, statements, steps, term}
 use Rattle.tiny_names.specs.Names.{names as declares}
 use Rattle.tiny_names.specs.Resolved.{cond as resolved_cond}
 use Rattle.tiny_parser.proofs.Words.{WordsArguments, WordsCond, WordsElse, WordsExpr, WordsStatement, WordsStatements, WordsSteps, WordsTerm}

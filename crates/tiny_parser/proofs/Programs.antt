@@ -8,7 +8,7 @@ use Rattle.tiny_tree.specs.Tree as tree
 use Rattle.tiny_tree.specs.Prelude.{Program, AreNamed, IsCallable, IsNamed, IsNamedFunction, names_count, parameters_seen}
 use Rattle.tiny_names.specs.declared.fault.Fault.TheVariants as faults
 use Rattle.tiny_names.specs.declared.functions.Signature.{Signature}
-use Rattle.tiny_names.specs.Prelude.{all_faults, body_faults, call_by, call_faults, declare_faults, faults_from, function_faults, main_faults, own_faults, parameter_faults, all_names, called, called_from, is_main, name_of, function_names, function_of, function_place, place_in, resolved, statements}
+use Rattle.tiny_names.specs.Prelude.{all_faults, call_by, call_faults, faults_from, function_faults, main_faults, own_faults, parameter_faults, all_names, called, called_from, is_main, name_of, function_names, function_of, function_place, place_in, resolved, statements}
 use Rattle.tiny_parser.proofs.Naming.{IsSeen, below, block_few, declare_few, halves, if_empty, in_right, not_if, place_front, statements_named, vars_of_is}
 use Rattle.tiny_parser.proofs.Words.{WordsStatements}
 

@@ -12,7 +12,7 @@ use Rattle.tiny_draft.specs.declared.token.Kind.{Kind}
 use Rattle.tiny_draft.specs.declared.token.Kind.TheVariants as kinds
 use Rattle.tiny_draft.specs.declared.token.Sign.TheVariants as signs
 use Rattle.tiny_draft.specs.declared.token.Token.{Token}
-use Rattle.tiny_grammar.specs.Prelude.{comparison, end, kept, sign, spell_arguments, spell_block, spell_cond, spell_else, spell_expr, spell_function, spell_functions, spell_more, spell_parameters, spell_statement, spell_statements, spell_steps, spell_term}
+use Rattle.tiny_grammar.specs.Prelude.{comparison, kept, sign, spell_arguments, spell_block, spell_cond, spell_else, spell_expr, spell_function, spell_functions, spell_more, spell_parameters, spell_statement, spell_statements, spell_steps, spell_term}
 use Rattle.tiny_parser.specs.Prelude.{IsWritten}
 use Rattle.tiny_draft.specs.Tree as draft
 

@@ -9,7 +9,7 @@ use Rattle.ijvm_instr.specs.declared.instr.Instr.TheVariants as instrs
 use Rattle.ijvm_instr.specs.Prelude.{instr_at}
 use Rattle.ijvm_image.specs.Prelude.{ImageView}
 use Rattle.ijvm_meaning.specs.declared.run.RunEnd.TheVariants as ends
-use Rattle.ijvm_meaning.specs.Prelude.{State, StepOutcome, Goes, Halts, Limits, step_if_any, step_outcome, cost_at, is_taken, entry_of, timing_of, TimedImage, Point, Finish, point_after, completed, stopped, after_outcome, after_test, finish_from, EndsBy, Passes, Start, More}
+use Rattle.ijvm_meaning.specs.Prelude.{State, StepOutcome, Goes, Halts, step_if_any, step_outcome, cost_at, is_taken, entry_of, timing_of, TimedImage, Point, Finish, point_after, after_outcome, after_test, finish_from, EndsBy, Passes, Start, More}
 use Rattle.tiny_tree.specs.Prelude.{Meaning, Ended, Cut}
 use Rattle.tiny_runs.specs.Prelude.{Advances}
 use Rattle.tiny_runs.proofs.Led.{output, IsPrefix, whole_prefix, Led, Finishes, Stops, Limited, Leads}

@@ -10,7 +10,7 @@ use Rattle.ijvm_instr.specs.Prelude.{instr_at}
 use Rattle.ijvm_image.specs.declared.method.Method.{Method}
 use Rattle.ijvm_image.specs.Prelude.{ImageView, params, others, method_at}
 use Rattle.ijvm_meaning.specs.Prelude.{Frame, State, start_of, Stuck, limited, onto, in_method, entered, called_at, step_outcome}
-use Rattle.tiny_tree.specs.Prelude.{Function, Program, IsCallable, names_count, parameters_seen, IsNamed, TinyWorld, and_then, in_turn, CallResults, Flow, GoesOn, Returns, returned, first_variables, execute_body, call, Ended, at_end, meaning, start_world}
+use Rattle.tiny_tree.specs.Prelude.{Function, Program, IsCallable, names_count, parameters_seen, IsNamed, TinyWorld, and_then, in_turn, CallResults, Flow, GoesOn, Returns, returned, first_variables, execute_body, call, at_end, meaning, start_world}
 use Rattle.tiny_code.specs.Prelude.{Places, code_size, statements_code, IsMethodAt, Holds}
 use Rattle.tiny_runs.proofs.Led.{Follows, stuck, halts, lower, at_code, whole_prefix}
 use Rattle.tiny_runs.proofs.Stands.{Spans, front, back, here, next}

@@ -3,11 +3,10 @@ use Rattle.std.proofs.Common.{◌≡◌, ◌≤◌, ℕ, ◌+◌, Bool, true, fa
 use Rattle.std.specs.Prelude.{pos, nat_le, slice_get}
 use Rattle.std.proofs.lemmas.List.Elements.{All-head}
 use Rattle.ijvm_instr.specs.declared.instr.Instr.{Instr}
-use Rattle.ijvm_instr.specs.declared.instr.Instr.TheVariants.{Bipush, LdcW, Iload, Iadd, Isub, Iand, Ior, Invokevirtual, In}
+use Rattle.ijvm_instr.specs.declared.instr.Instr.TheVariants.{Bipush, LdcW, Iadd, Isub, Iand, Ior, Invokevirtual, In}
 use Rattle.ijvm_instr.specs.Prelude.{row_of, size_of, instr_at}
 use Rattle.ijvm_image.specs.Prelude.{ImageView}
-use Rattle.console_port.specs.Prelude.{next_byte}
-use Rattle.ijvm_meaning.specs.Prelude.{Frame, State, Goes, taken, pushed, pushed_constant, loaded, step, step_outcome}
+use Rattle.ijvm_meaning.specs.Prelude.{Frame, State, Goes, pushed, pushed_constant, loaded, step, step_outcome}
 use Rattle.tiny_tree.specs.declared.tree.Operator.{Operator}
 use Rattle.tiny_tree.specs.declared.tree.Operator.TheVariants.{Plus, Minus, And, Or}
 use Rattle.tiny_tree.specs.Tree.{step as step_on}
