@@ -1,8 +1,8 @@
 -- What holds of each token that may stand in a statement holds of each token of its text.
-use Rattle.std.proofs.Common.{◌≡◌, Bool, true, false, List, [], ◌∷◌, ◌++◌, Option, Some, None, refl, cond, pos}
-use Rattle.std.specs.List.{list_all}
+use Rattle.std.proofs.Common.{◌≡◌, Bool, true, false, List, [], ◌∷◌, ◌++◌, Option, Some, None, refl, pos}
+use Rattle.std.specs.List.{AllByRecursion as Each, list_all}
 use Rattle.std.specs.Prelude.{◌&&◌, not}
-use Rattle.std.proofs.lemmas.Bool.{and_parts, not-true}
+use Rattle.std.proofs.lemmas.Bool.{and_parts, cond_both, not-true}
 use Rattle.mic_words.specs.declared.machine.Machine.{Machine}
 use Rattle.mic_words.specs.declared.machine.Machine.TheVariants.{Mic1, Mic2}
 use Rattle.micro_word.specs.declared.statement.AluOp.{AluOp}
@@ -32,40 +32,29 @@ use Rattle.mal_print.proofs.Fitting.{filtered, Fits}
 -- ---- sources of a machine
 
 own_source_b : (m : Machine) (x : BusSource) → may_be_b m x ≡ true → is_foreign_word m (source_word x) ≡ false
-own_source_b Mic1 bus.Mbr1 h = absurd (cc)
-own_source_b Mic1 bus.Mbr1u h = absurd (cc)
-own_source_b Mic1 bus.Mbr2 h = absurd (cc)
-own_source_b Mic1 bus.Mbr2u h = absurd (cc)
-own_source_b Mic1 _ h = refl
-own_source_b Mic2 bus.Mbr h = absurd (cc)
-own_source_b Mic2 bus.Mbru h = absurd (cc)
-own_source_b Mic2 _ h = refl
+own_source_b Mic1 bus.Mdr h = cc
+own_source_b Mic2 bus.Mdr h = cc
+own_source_b _ _ h = cc
 
 own_source_a : (m : Machine) (x : BusSource) → may_be_a m x ≡ true → is_foreign_word m (source_word x) ≡ false
-own_source_a Mic1 bus.H h = refl
-own_source_a Mic1 _ h = absurd (cc)
+own_source_a Mic1 bus.H h = cc
+own_source_a Mic1 _ h = cc
 own_source_a Mic2 x h = own_source_b Mic2 x h
 
 own_fetch : (m : Machine) → may_fetch m true ≡ true → is_foreign_word m words.Fetch ≡ false
-own_fetch Mic1 h = refl
-own_fetch Mic2 h = absurd (cc)
+own_fetch Mic1 h = cc
+own_fetch _ h = cc
 
 own_byte : (m : Machine) → is_foreign_word m (byte_word m) ≡ false
 own_byte Mic1 = refl
-own_byte Mic2 = refl
+own_byte _ = refl
 
 own_test : (m : Machine) (test : Test) → is_foreign_word m (test_word test) ≡ false
 own_test Mic1 tests.N = refl
-own_test Mic1 tests.Z = refl
 own_test Mic2 tests.N = refl
-own_test Mic2 tests.Z = refl
+own_test _ _ = refl
 
 -- ---- what holds of each token
-
--- this holds of each token
-abbrev pub Each : (Token → Type 0) → List Token → Type 0
-Each P [] = Unit {0}
-Each P (t ∷ ts) = P t × Each P ts
 
 module _ (P : Token → Type 0) where
   each_append : (ts us : List Token) → Each P ts → Each P us → Each P (ts ++ us)
@@ -91,23 +80,15 @@ module _ (P : Token → Type 0) where
     pub both : P (tokens.Word words.And)
     pub either : P (tokens.Word words.Or)
 
-  pub each_spelling : Expressed → (op : AluOp) (a b : List Token) → Each P a → Each P b → Each P (spelling op a b)
-  each_spelling e ops.A a b h g = h
-  each_spelling e ops.B a b h g = g
-  each_spelling e ops.NotA a b h g = (e.inverse, h)
-  each_spelling e ops.NotB a b h g = (e.inverse, g)
-  each_spelling e ops.Sum a b h g = each_append a (plus ∷ b) h (e.plus, g)
-  each_spelling e ops.SumInc a b h g = each_append a (plus ∷ (b ++ plus ∷ one_token ∷ [])) h (e.plus, each_append b (plus ∷ one_token ∷ []) g (e.plus, (e.one, tt)))
-  each_spelling e ops.IncA a b h g = each_append a (plus ∷ one_token ∷ []) h (e.plus, (e.one, tt))
-  each_spelling e ops.IncB a b h g = each_append b (plus ∷ one_token ∷ []) g (e.plus, (e.one, tt))
-  each_spelling e ops.Sub a b h g = each_append b (minus ∷ a) g (e.minus, h)
-  each_spelling e ops.DecB a b h g = each_append b (minus ∷ one_token ∷ []) g (e.minus, (e.one, tt))
-  each_spelling e ops.NegA a b h g = (e.minus, h)
-  each_spelling e ops.And a b h g = each_append a (tokens.Word words.And ∷ b) h (e.both, g)
-  each_spelling e ops.Or a b h g = each_append a (tokens.Word words.Or ∷ b) h (e.either, g)
-  each_spelling e ops.Zero a b h g = (e.zero, tt)
-  each_spelling e ops.One a b h g = (e.one, tt)
-  each_spelling e ops.MinusOne a b h g = (e.minus, (e.one, tt))
+  pub each_spelling : Expressed → (op : AluOp) (a b : Option BusSource) → Each P (side a) → Each P (side b) → Each P (spelling op (side a) (side b))
+  each_spelling e ops.A None None h g = assumption
+  each_spelling e ops.A None (Some y) h g = assumption
+  each_spelling e ops.A (Some x) None h g = assumption
+  each_spelling e ops.A (Some x) (Some y) h g = assumption
+  each_spelling e _ None None h g = assumption
+  each_spelling e _ None (Some y) h g = assumption
+  each_spelling e _ (Some x) None h g = assumption
+  each_spelling e _ (Some x) (Some y) h g = assumption
 
   -- of the words of a machine, of signs but the semicolon, and of the numbers of a statement
   pub record Stands (m : Machine) : Type 0 where
@@ -120,11 +101,7 @@ module _ (P : Token → Type 0) where
 
   module _ (m : Machine) (of : Stands m) where
     common : (w : Word) → is_foreign_word Mic1 w ≡ false → is_foreign_word Mic2 w ≡ false → P (tokens.Word w)
-    common w h g = of.word w (go m)
-      where
-        go : (m : Machine) → is_foreign_word m w ≡ false
-        go Mic1 = h
-        go Mic2 = g
+    common w h g = of.word w (elim m as (λ n. is_foreign_word n w ≡ false) [ Mic1 ↦ h | Mic2 ↦ g ])
 
     expressed : Expressed
     expressed = record {
@@ -149,11 +126,8 @@ module _ (P : Token → Type 0) where
         (common w (not-true (is_foreign_word Mic1 w) q.0) (not-true (is_foreign_word Mic2 w) q.1), (of.sign signs.Equals refl, each_dests ws p.1))
 
     each_tested : (next : Next Token) → Each P (dest_tokens (tested next ∷ []))
-    each_tested nexts.Following = each_dests (words.Z ∷ []) refl
-    each_tested (nexts.Goto to) = each_dests (words.Z ∷ []) refl
-    each_tested (nexts.Dispatch high) = each_dests (words.Z ∷ []) refl
     each_tested (nexts.Branch tests.N high low) = each_dests (words.N ∷ []) refl
-    each_tested (nexts.Branch tests.Z high low) = each_dests (words.Z ∷ []) refl
+    each_tested _ = each_dests (words.Z ∷ []) refl
 
     each_heads : (ws : List Word) (next : Next Token) → list_all is_common ws ≡ true → Each P (dest_tokens (heads ws next))
     each_heads [] next h = each_tested next
@@ -174,44 +148,29 @@ module _ (P : Token → Type 0) where
         let b = each_side (row part.op).uses_b (may_be_b m) part.b (own_source_b m) f.b in
         each_append (dest_tokens (heads (dests_of part.dests) next)) (value part)
         (each_heads (dests_of part.dests) next (filtered is_common (has_dest part.dests) all_dests refl))
-        (each_append (spelling part.op (side part.a) (side part.b)) (tail_tokens (tail_with part.shift)) (each_spelling expressed part.op (side part.a) (side part.b) a b) (each_tail part.shift))
+        (each_append (spelling part.op (side part.a) (side part.b)) (tail_tokens (tail_with part.shift)) (each_spelling expressed part.op part.a part.b a b) (each_tail part.shift))
 
-    each_assignment : (part : Part) (next : Next Token) → Fits m part → Each P (assignment part next)
-    each_assignment part next f = go (is_absent part)
-      where
-        go : (absent : Bool) → Each P (cond absent [] (chain part next))
-        go true = tt
-        go false = each_chain part next f
+    pub each_assignment : (part : Part) (next : Next Token) → Fits m part → Each P (assignment part next)
+    each_assignment part next f = cond_both (is_absent part) [] (chain part next) (Each P) (λ e. tt) (λ e. each_chain part next f)
 
-    each_memory : (mem : Mem) → Each P (memory mem)
+    pub each_memory : (mem : Mem) → Each P (memory mem)
     each_memory mems.None = tt
     each_memory mems.Read = (common words.Rd refl refl, tt)
     each_memory mems.Write = (common words.Wr refl refl, tt)
 
-    each_fetches : (fetch : Bool) → may_fetch m fetch ≡ true → Each P (fetches fetch)
+    pub each_fetches : (fetch : Bool) → may_fetch m fetch ≡ true → Each P (fetches fetch)
     each_fetches false h = tt
     each_fetches true h = (of.word words.Fetch (own_fetch m h), tt)
 
     each_leads : P (tokens.Sign signs.Semicolon) → (next : Next Token) → EachTarget P next → Each P (leads m next)
     each_leads s nexts.Following h = tt
-    each_leads s (nexts.Goto to) h = (common words.Goto refl refl, (h, tt))
+    each_leads s (nexts.Goto to) h = assumption (common words.Goto refl refl)
     each_leads s (nexts.Dispatch false) h =
-        (common words.Goto refl refl, (of.sign signs.Open refl, (of.word (byte_word m) (own_byte m), (of.sign signs.Close refl, tt))))
+        assumption (common words.Goto refl refl, of.sign signs.Open refl, of.word (byte_word m) (own_byte m), of.sign signs.Close refl)
     each_leads s (nexts.Dispatch true) h =
-        (common words.Goto refl refl, (of.sign signs.Open refl, (of.word (byte_word m) (own_byte m), (common words.Or refl refl, (of.offset, (of.sign signs.Close refl, tt))))))
-    each_leads s (nexts.Branch test high low) h = (
-      common words.If refl refl,
-      (
-        of.sign signs.Open refl,
-        (
-          of.word (test_word test) (own_test m test),
-          (
-            of.sign signs.Close refl,
-            (common words.Goto refl refl, (h.0, (s, (common words.Else refl refl, (common words.Goto refl refl, (h.1, tt)))))),
-          ),
-        ),
-      ),
-    )
+        assumption (common words.Goto refl refl, of.sign signs.Open refl, of.word (byte_word m) (own_byte m), common words.Or refl refl, of.offset, of.sign signs.Close refl)
+    each_leads s (nexts.Branch test high low) h =
+        assumption (common words.If refl refl, of.sign signs.Open refl, of.word (test_word test) (own_test m test), of.sign signs.Close refl, common words.Goto refl refl, common words.Else refl refl)
 
     pub each_parts : P (tokens.Sign signs.Semicolon) → (part : Part) (next : Next Token) → Fits m part → EachTarget P next → Each P (parts m part next)
     each_parts s part next f h =

@@ -1,7 +1,9 @@
 -- The canonical parts of a statement, divided by semicolons, are its parts.
 use Rattle.std.proofs.Common.{◌≡◌, ℕ, suc, Bool, true, false, List, [], ◌∷◌, ◌++◌, Option, Some, None, refl, sym, ap, subst, ◌∙◌, append_assoc, cond}
-use Rattle.std.specs.List.{onto_first}
+use Rattle.std.specs.List.{AllByRecursion as Each}
 use Rattle.std.proofs.lemmas.List.{append-nil}
+use Rattle.std.proofs.lemmas.List.Elements.{All-from_recursion}
+use Rattle.std.proofs.lemmas.List.Splits.{slice_split_at, slice_split_none}
 use Rattle.mic_words.specs.declared.machine.Machine.{Machine}
 use Rattle.mic_words.specs.declared.machine.Machine.TheVariants.{Mic1, Mic2}
 use Rattle.micro_word.specs.declared.statement.Mem.{Mem}
@@ -20,7 +22,7 @@ use Rattle.mal_line.specs.Prelude.{dest_tokens, AreParts, AreTree, assign, assig
 use Rattle.mal_print.specs.StatementText as text
 use Rattle.mal_print.specs.Prelude.{assignment, beside, chain, dests_of, heads, is_absent, labelled, leads, or_semicolon, parts, value}
 use Rattle.mal_print.proofs.Chained.{assignment_of, chain_is}
-use Rattle.mal_print.proofs.Each.{Each, each_chain, Stands}
+use Rattle.mal_print.proofs.Each.{each_assignment, each_chain, each_fetches, each_memory, Stands}
 use Rattle.mal_print.proofs.Fitting.{Fits}
 
 -- ---- the parts between the semicolons
@@ -30,49 +32,37 @@ abbrev pub split : List Token → List (List Token)
 split [] = []
 split (t ∷ ts) = pieces (t ∷ ts)
 
-pieces_some : (ts : List Token) → (p : List Token) × (ps : List (List Token)) × (pieces ts ≡ p ∷ ps)
-pieces_some [] = ([], [], refl)
-pieces_some (t ∷ ts) = go (is_semicolon t) (pieces_some ts)
-  where
-    go : (b : Bool) → (p : List Token) × (ps : List (List Token)) × (pieces ts ≡ p ∷ ps) → (p : List Token) × (ps : List (List Token)) × (cond b ([] ∷ pieces ts) (onto_first t (pieces ts)) ≡ p ∷ ps)
-    go true r = ([], pieces ts, refl)
-    go false r = (t ∷ r.0, r.1, ap (onto_first t) r.2)
-
-pieces_append : (ts us : List Token) → pieces (ts ++ tokens.Sign signs.Semicolon ∷ us) ≡ pieces ts ++ pieces us
-pieces_append [] us = refl
-pieces_append (t ∷ ts) us = go (is_semicolon t) (pieces_append ts us) (pieces_some ts)
-  where
-    onto : (xs : List (List Token)) → (p : List Token) × (ps : List (List Token)) × (xs ≡ p ∷ ps) → onto_first t (xs ++ pieces us) ≡ onto_first t xs ++ pieces us
-    onto [] r = absurd (let e = r.2 in cc)
-    onto (x ∷ xs) r = refl
-
-    go : (b : Bool) → pieces (ts ++ tokens.Sign signs.Semicolon ∷ us) ≡ pieces ts ++ pieces us → (p : List Token) × (ps : List (List Token)) × (pieces ts ≡ p ∷ ps)
-        → cond b ([] ∷ pieces (ts ++ tokens.Sign signs.Semicolon ∷ us)) (onto_first t (pieces (ts ++ tokens.Sign signs.Semicolon ∷ us))) ≡ cond b ([] ∷ pieces ts) (onto_first t (pieces ts)) ++ pieces us
-    go true e r = ap (λ xs. [] ∷ xs) e
-    go false e r = ap (onto_first t) e ∙ onto (pieces ts) r
-
-split_beside : (ts us : List Token) → split (beside ts us) ≡ split ts ++ split us
-split_beside [] us = refl
-split_beside (t ∷ ts) [] = sym (append-nil (pieces (t ∷ ts)))
-split_beside (t ∷ ts) (u ∷ us) = pieces_append (t ∷ ts) (u ∷ us)
-
-split_parts : (a b c d : List Token) → split (beside (beside (beside a b) c) d) ≡ split a ++ (split b ++ (split c ++ split d))
-split_parts a b c d = rw (split_beside (beside (beside a b) c) d, split_beside (beside a b) c, split_beside a b) (simp append_assoc)
-
 -- no semicolon
 abbrev pub IsInside : Token → Type 0
 IsInside t = is_semicolon t ≡ false
 
 whole : (ts : List Token) → Each IsInside ts → pieces ts ≡ ts ∷ []
-whole [] h = refl
-whole (t ∷ ts) h = ap (λ b. cond b ([] ∷ pieces ts) (onto_first t (pieces ts))) h.0 ∙ ap (onto_first t) (whole ts h.1)
+whole ts h = slice_split_none is_semicolon ts (All-from_recursion IsInside ts h)
+
+split_beside : (ts us : List Token) → Each IsInside ts → split (beside ts us) ≡ split ts ++ split us
+split_beside [] us h = refl
+split_beside (t ∷ ts) [] h = sym (append-nil (pieces (t ∷ ts)))
+split_beside (t ∷ ts) (u ∷ us) h =
+    slice_split_at is_semicolon (t ∷ ts) (tokens.Sign signs.Semicolon) (u ∷ us) (All-from_recursion IsInside (t ∷ ts) h) refl
+    ∙ ap (λ xs. xs ++ pieces (u ∷ us)) (sym (whole (t ∷ ts) h))
+
+beside_assoc : (a b c : List Token) → beside (beside a b) c ≡ beside a (beside b c)
+beside_assoc [] b c = refl
+beside_assoc (x ∷ a) [] c = refl
+beside_assoc (x ∷ a) (y ∷ b) [] = refl
+beside_assoc (x ∷ a) (y ∷ b) (z ∷ c) = append_assoc (x ∷ a) (tokens.Sign signs.Semicolon ∷ y ∷ b) (tokens.Sign signs.Semicolon ∷ z ∷ c)
+
+split_parts : (a b c d : List Token) → Each IsInside a → Each IsInside b → Each IsInside c → split (beside (beside (beside a b) c) d) ≡ split a ++ (split b ++ (split c ++ split d))
+split_parts a b c d f g h =
+    ap split (beside_assoc (beside a b) c d ∙ beside_assoc a b (beside c d))
+    ∙ (split_beside a (beside b (beside c d)) f ∙ ap (λ xs. split a ++ xs) (split_beside b (beside c d) g ∙ ap (λ xs. split b ++ xs) (split_beside c d h)))
+
+inside : (m : Machine) → Stands IsInside m
+inside m = record { word = λ w h. refl; sign = λ s h. h; zero = refl; one = refl; eight = refl; offset = refl }
 
 split_chain : (m : Machine) (part : Part) (next : Next Token) → Fits m part → split (chain part next) ≡ chain part next ∷ []
-split_chain m part next f = go (dests_of part.dests) (each_chain IsInside m inside part next f)
+split_chain m part next f = go (dests_of part.dests) (each_chain IsInside m (inside m) part next f)
   where
-    inside : Stands IsInside m
-    inside = record { word = λ w h. refl; sign = λ s h. h; zero = refl; one = refl; eight = refl; offset = refl }
-
     go : (ws : List Word) → Each IsInside (dest_tokens (heads ws next) ++ value part) → split (dest_tokens (heads ws next) ++ value part) ≡ (dest_tokens (heads ws next) ++ value part) ∷ []
     go [] h = whole (dest_tokens (heads [] next) ++ value part) h
     go (w ∷ ws) h = whole (dest_tokens (heads (w ∷ ws) next) ++ value part) h
@@ -145,43 +135,31 @@ tree_for part next = record { assignment = assigned_by (is_absent part) part; me
 tallied_parts : (m : Machine) (part : Part) (next : Next (List ℕ)) → Fits m part → Tallied m (split (parts m part (labelled next))) (tree_for part next)
 tallied_parts m part next h =
     let to = labelled next in
-    subst (λ xs. Tallied m xs (tree_for part next)) (sym (split_parts (assignment part to) (text.memory part.mem) (text.fetches part.fetch) (leads m to)))
+    subst (λ xs. Tallied m xs (tree_for part next)) (sym (split_parts (assignment part to) (text.memory part.mem) (text.fetches part.fetch) (leads m to)
+    (each_assignment IsInside m (inside m) part to h) (each_memory IsInside m (inside m) part.mem) (each_fetches IsInside m (inside m) part.fetch h.fetch)))
     (tallied_chain m part to (is_absent part) (split (text.memory part.mem) ++ (split (text.fetches part.fetch) ++ split (leads m to))) (jump_of next) h
     (tallied_memory m part.mem part.fetch (split (text.fetches part.fetch) ++ split (leads m to)) (jump_of next)
     (tallied_fetch m part.fetch (split (leads m to)) (jump_of next) (tallied_next m next))))
 
--- empty parts are ignored
-no_kinds : (m : Machine) (ks : List Kind) → AreParts m [] ks → ks ≡ []
-no_kinds m [] a = refl
-no_kinds m (k ∷ ks) a = absurd a
+tree_some : (m : Machine) (tree : Tree) (ts : List Token) → Tallied m (pieces ts) tree → AreTree m ts tree
+tree_some m tree ts h = record { parts = h.kinds; are = h.are; assignment = h.assignment; memory = h.memory; fetch = h.fetch; next = h.next; last = h.last }
 
-tree_none : (m : Machine) (tree : Tree) → Tallied m [] tree → AreTree m [] tree
-tree_none m tree t =
-    let e = no_kinds m t.kinds t.are in
-    record { parts = nothing ∷ []; are = (refl, refl); assignment = subst (λ ks. assignments ks ≡ listed tree.assignment) e t.assignment; memory = subst (λ ks. memories ks ≡ listed_mem tree.mem) e t.memory; fetch = subst (λ ks. fetch_count ks ≡ counted tree.fetch) e t.fetch; next = subst (λ ks. jumps_of ks ≡ listed tree.next) e t.next; last = tt }
-
-tree_empty : (m : Machine) (tree : Tree) → Tallied m [] tree → AreTree m (tokens.Sign signs.Semicolon ∷ []) tree
-tree_empty m tree t =
-    let e = no_kinds m t.kinds t.are in
-    record { parts = nothing ∷ nothing ∷ []; are = (refl, (refl, refl)); assignment = subst (λ ks. assignments ks ≡ listed tree.assignment) e t.assignment; memory = subst (λ ks. memories ks ≡ listed_mem tree.mem) e t.memory; fetch = subst (λ ks. fetch_count ks ≡ counted tree.fetch) e t.fetch; next = subst (λ ks. jumps_of ks ≡ listed tree.next) e t.next; last = tt }
-
-tree_some : (m : Machine) (tree : Tree) (t : Token) (ts : List Token) → Tallied m (split (t ∷ ts)) tree → AreTree m (t ∷ ts) tree
-tree_some m tree t ts h = record { parts = h.kinds; are = h.are; assignment = h.assignment; memory = h.memory; fetch = h.fetch; next = h.next; last = h.last }
-
-pub tree_is : (m : Machine) (part : Part) (next : Next (List ℕ)) → Fits m part → AreTree m (parts m part (labelled next)) (tree_for part next)
-tree_is m part next h = go (parts m part (labelled next)) (tallied_parts m part next h)
-  where
-    go : (ts : List Token) → Tallied m (split ts) (tree_for part next) → AreTree m ts (tree_for part next)
-    go [] t = tree_none m (tree_for part next) t
-    go (x ∷ xs) t = tree_some m (tree_for part next) x xs t
+-- an empty part before the others is ignored
+tallied_nothing : (m : Machine) (xs : List (List Token)) (tree : Tree) → Tallied m xs tree → Tallied m ([] ∷ xs) tree
+tallied_nothing m xs tree t = record { kinds = nothing ∷ t.kinds; are = (refl, t.are); assignment = t.assignment; memory = t.memory; fetch = t.fetch; next = t.next; last = t.last }
 
 -- `;` stands where there is nothing
+trees : (m : Machine) (tree : Tree) (ts : List Token) → Tallied m (split ts) tree → AreTree m ts tree × AreTree m (or_semicolon ts) tree
+trees m tree [] t =
+    let one = tallied_nothing m [] tree t in
+    (tree_some m tree [] one, tree_some m tree (tokens.Sign signs.Semicolon ∷ []) (tallied_nothing m ([] ∷ []) tree one))
+trees m tree (x ∷ xs) t = let is = tree_some m tree (x ∷ xs) t in (is, is)
+
+pub tree_is : (m : Machine) (part : Part) (next : Next (List ℕ)) → Fits m part → AreTree m (parts m part (labelled next)) (tree_for part next)
+tree_is m part next h = (trees m (tree_for part next) (parts m part (labelled next)) (tallied_parts m part next h)).0
+
 pub or_semicolon_is : (m : Machine) (part : Part) (next : Next (List ℕ)) → Fits m part → AreTree m (or_semicolon (parts m part (labelled next))) (tree_for part next)
-or_semicolon_is m part next h = go (parts m part (labelled next)) (tallied_parts m part next h)
-  where
-    go : (ts : List Token) → Tallied m (split ts) (tree_for part next) → AreTree m (or_semicolon ts) (tree_for part next)
-    go [] t = tree_empty m (tree_for part next) t
-    go (x ∷ xs) t = tree_some m (tree_for part next) x xs t
+or_semicolon_is m part next h = (trees m (tree_for part next) (parts m part (labelled next)) (tallied_parts m part next h)).1
 
 pub or_semicolon_some : (ts : List Token) → or_semicolon ts ≡ [] → ⊥
 or_semicolon_some [] e = absurd (cc)

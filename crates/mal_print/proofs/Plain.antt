@@ -1,9 +1,10 @@
 -- What is printed has no newline, no carriage return and no slash.
-use Rattle.std.proofs.Common.{◌≡◌, ℕ, Bool, true, false, List, [], ◌∷◌, ◌++◌, refl, ap, ◌∙◌, arith, cond}
+use Rattle.std.proofs.Common.{◌≡◌, ℕ, Bool, true, List, [], ◌∷◌, ◌++◌, refl, ap, ◌∙◌, arith, cond}
 use Rattle.std.specs.Prelude.{◌&&◌, codes}
 use Rattle.std.specs.List.{list_all}
 use Rattle.std.proofs.lemmas.Bool.Decides.{nat_tests}
-use Rattle.std.proofs.lemmas.Bool.{and_parts}
+use Rattle.std.proofs.lemmas.Bool.{and_from, and_parts, cond_both}
+use Rattle.std.proofs.lemmas.List.Folds.{list_all-append}
 use Rattle.mic_base.specs.Prelude.{is_name_byte}
 use Rattle.source_text.specs.Prelude.{named}
 use Rattle.mal_tokens.specs.declared.word.Word.{Word}
@@ -17,8 +18,7 @@ use Rattle.mal_print.specs.Prelude.{is_spaced, is_spacing, printed_after, token_
 use Rattle.mal_print.proofs.Spelling.{AreLexemes}
 
 pub all_append : {A : Type 0} (p : A → Bool) (xs ys : List A) → list_all p xs ≡ true → list_all p ys ≡ true → list_all p (xs ++ ys) ≡ true
-all_append p [] ys h g = g
-all_append p (x ∷ xs) ys h g = let t = and_parts (p x) (list_all p xs) h in ap (λ b. b && list_all p (xs ++ ys)) t.0 ∙ all_append p xs ys t.1 g
+all_append p xs ys h g = list_all-append p xs ys ∙ and_from _ _ h g
 
 plain_byte : (b : ℕ) → is_name_byte b ≡ true → is_plain b ≡ true
 plain_byte b h = grind (arith, nat_tests)
@@ -47,9 +47,6 @@ plain_lexeme t text l = go t (spelled_as t text l)
 pub plain_printed : (spacing : Bool) (ts : List Token) → AreLexemes spacing ts → list_all is_plain (printed_after spacing ts) ≡ true
 plain_printed spacing [] l = refl
 plain_printed spacing (t ∷ ts) l =
-    all_append is_plain (cond (is_spaced spacing t) (codes " ") []) (token_text (is_spaced spacing t) t ++ printed_after (is_spacing t) ts) (gap (is_spaced spacing t))
+    all_append is_plain (cond (is_spaced spacing t) (codes " ") []) (token_text (is_spaced spacing t) t ++ printed_after (is_spacing t) ts)
+    (cond_both (is_spaced spacing t) (codes " ") [] (λ xs. list_all is_plain xs ≡ true) (λ e. refl) (λ e. refl))
     (all_append is_plain (token_text (is_spaced spacing t) t) (printed_after (is_spacing t) ts) (plain_lexeme t (token_text (is_spaced spacing t) t) l.0) (plain_printed (is_spacing t) ts l.1))
-  where
-    gap : (b : Bool) → list_all is_plain (cond b (codes " ") []) ≡ true
-    gap true = refl
-    gap false = refl

@@ -1,6 +1,8 @@
 -- What is printed spells its tokens, where each text is its token's.
-use Rattle.std.proofs.Common.{◌≡◌, ℕ, Bool, true, false, List, [], ◌∷◌, ◌++◌, refl, ap, ◌∙◌, cond}
+use Rattle.std.proofs.Common.{◌≡◌, ℕ, Bool, true, false, List, [], ◌∷◌, ◌++◌, refl, ap, sym, subst, ◌∙◌, cond}
 use Rattle.std.specs.Prelude.{◌&&◌, ◌||◌, codes}
+use Rattle.std.specs.List.{AllByRecursion as Each}
+use Rattle.std.proofs.lemmas.Bool.{cond_both}
 use Rattle.mic_base.specs.Prelude.{is_name_byte}
 use Rattle.source_text.specs.Prelude.{begins_with, ends_with, AreBlank}
 use Rattle.mal_tokens.specs.declared.token.Token.{Token}
@@ -9,7 +11,6 @@ use Rattle.mal_tokens.specs.declared.sign.Sign.{Sign}
 use Rattle.mal_tokens.specs.declared.sign.Sign.TheVariants as signs
 use Rattle.mal_tokens.specs.Prelude.{sign_text, may_end, spelled_as, IsLexeme, SpellsTokens}
 use Rattle.mal_print.specs.Prelude.{is_open, is_spaced, is_spacing, is_wordy, printed_after, token_text}
-use Rattle.mal_print.proofs.Each.{Each}
 
 -- the text that is printed of each token spells it
 abbrev pub AreLexemes : Bool → List Token → Type 0
@@ -31,9 +32,8 @@ sign_begins signs.Equals rest h = refl
 sign_begins _ rest h = refl
 
 sign_ends : (s : Sign) → is_wordy (tokens.Sign s) ≡ false → ends_with is_name_byte (sign_text s) ≡ false
-sign_ends signs.Label h = absurd (cc)
-sign_ends signs.Default h = absurd (cc)
-sign_ends _ h = refl
+sign_ends signs.Label h = cc
+sign_ends _ h = cc
 
 bare_begins : (t : Token) (text rest : List ℕ) → is_wordy t ≡ false → IsLexeme t text → begins_with is_name_byte (text ++ rest) ≡ false
 bare_begins (tokens.Sign s) text rest h is = ap (λ x. begins_with is_name_byte (x ++ rest)) (spelled_as (tokens.Sign s) text is) ∙ sign_begins s rest h
@@ -51,10 +51,8 @@ not_wordy false true h = absurd (cc)
 not_wordy false false h = refl
 
 wordy_spacing : (t : Token) → is_wordy t ≡ true → is_spacing t ≡ true
-wordy_spacing (tokens.Sign signs.Label) h = refl
-wordy_spacing (tokens.Sign signs.Default) h = refl
-wordy_spacing (tokens.Sign _) h = absurd (cc)
-wordy_spacing _ h = refl
+wordy_spacing (tokens.Sign signs.Label) h = cc
+wordy_spacing _ h = cc
 
 -- what follows a word begins with no letter or digit
 begins_fine : (ts : List Token) → AreLexemes true ts → begins_with is_name_byte (printed_after true ts) ≡ false
@@ -68,16 +66,8 @@ begins_fine (t ∷ ts) l = go (is_spaced true t) refl
 pub prints : (spacing : Bool) (ts : List Token) → AreLexemes spacing ts → SpellsTokens (printed_after spacing ts) ts
 prints spacing [] l = refl
 prints spacing (t ∷ ts) l =
-    (cond (is_spaced spacing t) (codes " ") [], token_text (is_spaced spacing t) t, printed_after (is_spacing t) ts, refl, blank (is_spaced spacing t), l.0, may_end t (token_text (is_spaced spacing t) t) (printed_after (is_spacing t) ts) l.0 (ends (is_wordy t) refl), prints (is_spacing t) ts l.1)
+    (cond (is_spaced spacing t) (codes " ") [], token_text (is_spaced spacing t) t, printed_after (is_spacing t) ts, refl, cond_both (is_spaced spacing t) (codes " ") [] AreBlank (λ e. refl) (λ e. refl), l.0, may_end t (token_text (is_spaced spacing t) t) (printed_after (is_spacing t) ts) l.0 (ends (is_wordy t) refl), prints (is_spacing t) ts l.1)
   where
-    blank : (s : Bool) → AreBlank (cond s (codes " ") [])
-    blank true = refl
-    blank false = refl
-
-    begins : (s : Bool) → s ≡ true → AreLexemes s ts → begins_with is_name_byte (printed_after s ts) ≡ false
-    begins true e h = begins_fine ts h
-    begins false e h = absurd (cc)
-
     ends : (w : Bool) → is_wordy t ≡ w → ends_with is_name_byte (token_text (is_spaced spacing t) t) ≡ true → begins_with is_name_byte (printed_after (is_spacing t) ts) ≡ false
-    ends true e g = begins (is_spacing t) (wordy_spacing t e) l.1
+    ends true e g = subst (λ s. AreLexemes s ts → begins_with is_name_byte (printed_after s ts) ≡ false) (sym (wordy_spacing t e)) (begins_fine ts) l.1
     ends false e g = absurd (let k = bare_ends t (token_text (is_spaced spacing t) t) e l.0 in cc)

@@ -1,9 +1,9 @@
 -- The canonical text of a statement spells that statement.
-use Rattle.std.proofs.Common.{◌≡◌, ℕ, zero, suc, ◌<◌, ◌≤◌, ◌/◌, ◌%◌, Bool, true, false, List, [], ◌∷◌, ◌++◌, Option, Some, None, refl, ap, ◌∙◌, inl, arith, cond}
+use Rattle.std.proofs.Common.{◌≡◌, ℕ, zero, suc, ◌<◌, ◌≤◌, ◌/◌, ◌%◌, Bool, true, false, List, [], ◌∷◌, ◌++◌, Option, Some, None, refl, ap, ◌∙◌, inl, arith}
 use Rattle.std.specs.Prelude.{◌&&◌, ◌||◌, ◌^◌, IfSome, Ok, codes, nat_lt, option_map, pos}
 use Rattle.std.specs.Fmt.{digits}
 use Rattle.std.specs.Char.{digit_char}
-use Rattle.std.specs.List.{list_all}
+use Rattle.std.specs.List.{AllByRecursion as Each, list_all}
 use Rattle.std.proofs.lemmas.Bool.Decides.{nat_tests}
 use Rattle.mic_words.specs.declared.machine.Machine.{Machine}
 use Rattle.micro_word.specs.declared.statement.Part.{Part}
@@ -16,13 +16,14 @@ use Rattle.mal_tokens.specs.Prelude.{IsLabelText, label_lexeme, number_lexeme, s
 use Rattle.mal_line.specs.declared.content.Parts.{Parts}
 use Rattle.mal_line.specs.declared.content.Content.{Content}
 use Rattle.mal_line.specs.declared.content.Content.TheVariants as contents
+use Rattle.mal_line.specs.declared.line.Form.{Form}
 use Rattle.mal_line.specs.declared.line.Form.TheVariants as forms
 use Rattle.mal_line.specs.declared.next.Next.{Next}
 use Rattle.mal_line.specs.declared.next.Next.TheVariants as nexts
-use Rattle.mal_line.specs.Prelude.{is_foreign, names_foreign, next_by_jump, part_by, part_of, parts_by, parts_of, SpellsLine, with_access, EachTarget}
-use Rattle.mal_print.specs.Prelude.{IsLineOf, address_of, number_text, printed, token_text, fallback, fix, HasLabels, is_absent, labelled, or_semicolon, parts, statement}
+use Rattle.mal_line.specs.Prelude.{content_of, is_foreign, IsForm, names_foreign, next_by_jump, part_by, part_of, parts_by, parts_of, with_access, EachTarget}
+use Rattle.mal_print.specs.Prelude.{IsLineOf, address_of, number_text, printed, fallback, fix, HasLabels, is_absent, labelled, or_semicolon, parts, statement}
 use Rattle.mal_print.proofs.Chained.{absent_bare}
-use Rattle.mal_print.proofs.Each.{Each, each_lone, each_parts, Stands}
+use Rattle.mal_print.proofs.Each.{each_lone, each_parts, Stands}
 use Rattle.mal_print.proofs.Fitting.{Fits, part_fits}
 use Rattle.mal_print.proofs.Parted.{assigned_by, jump_of, or_semicolon_is, or_semicolon_some, tree_for, tree_is}
 use Rattle.mal_print.proofs.Plain.{all_append, plain_printed}
@@ -65,10 +66,6 @@ own_all : (m : Machine) (ts : List Token) → Each (IsOwn m) ts → names_foreig
 own_all m [] h = refl
 own_all m (t ∷ ts) h = ap (λ b. b || names_foreign m ts) h.0 ∙ own_all m ts h.1
 
-shown_number : (v : ℕ) → IsLexeme (tokens.Number (pos v)) (token_text true (tokens.Number (pos v))) → IsLexeme (tokens.Number (pos v)) (token_text false (tokens.Number (pos v))) → IsShown (tokens.Number (pos v))
-shown_number v h g true = h
-shown_number v h g false = g
-
 shown_targets : (next : Next (List ℕ)) → HasLabels next → EachTarget IsShown (labelled next)
 shown_targets nexts.Following h = tt
 shown_targets (nexts.Goto label) h = λ b. label_lexeme label h
@@ -81,10 +78,10 @@ shown_parts m part next f h =
     let of : Stands IsShown m = record {
       word = λ w h b. word_lexeme w;
       sign = λ s h b. sign_lexeme s;
-      zero = shown_number 0 (refl, refl, refl) (refl, refl, refl);
-      one = shown_number 1 (refl, refl, refl) (refl, refl, refl);
-      eight = shown_number 8 (refl, refl, refl) (refl, refl, refl);
-      offset = shown_number 256 (refl, refl, refl) (refl, refl, refl);
+      zero = elim [ true ↦ (refl, refl, refl) | false ↦ (refl, refl, refl) ];
+      one = elim [ true ↦ (refl, refl, refl) | false ↦ (refl, refl, refl) ];
+      eight = elim [ true ↦ (refl, refl, refl) | false ↦ (refl, refl, refl) ];
+      offset = elim [ true ↦ (refl, refl, refl) | false ↦ (refl, refl, refl) ];
     } in
     each_parts IsShown m of (λ b. sign_lexeme signs.Semicolon) part (labelled next) f (shown_targets next h)
 
@@ -93,46 +90,39 @@ shown_label label h = λ b. label_lexeme label h
 
 -- ---- lines
 
-line_of : (m : Machine) (ts : List Token) (content : Content) → AreLexemes false ts → SpellsLine m ts content → IsLineOf m (printed ts) content
-line_of m ts content l s = record { sequence = ts; plain = plain_printed false ts l; spelled = prints false ts l; means = s }
+line_of : (m : Machine) (ts : List Token) (form : Form) (content : Content) → AreLexemes false ts → Each (IsOwn m) ts → IsForm m ts form → content_of form ≡ Some content
+    → IsLineOf m (printed ts) content
+line_of m ts form content l own has says =
+    record { sequence = ts; plain = plain_printed false ts l; spelled = prints false ts l; means = record { form = form; has = has; own = own_all m ts own; says = says } }
 
 pub statement_said : (m : Machine) (label : Option (List ℕ)) (p : Parts) → is_part m p.part ≡ true → IfSome label IsLabelText → HasLabels p.next
     → IsLineOf m (printed (statement m label p.part (labelled p.next))) (contents.Statement label p)
 statement_said m None p h l n =
     let f = part_fits m p.part h in
     let ts = parts m p.part (labelled p.next) in
-    line_of m (or_semicolon ts) (contents.Statement None p)
+    line_of m (or_semicolon ts) (forms.Statement None (tree_for p.part p.next)) (contents.Statement None p)
     (shown_lexemes false (or_semicolon ts) (each_lone IsShown (λ b. sign_lexeme signs.Semicolon) ts (shown_parts m p.part p.next f n)))
-    (record {
-      form = forms.Statement None (tree_for p.part p.next);
-      has = (or_semicolon_some ts, or_semicolon_is m p.part p.next f);
-      own = own_all m (or_semicolon ts) (each_lone (IsOwn m) refl ts (own_parts m p.part p.next f));
-      says = ap (option_map (λ p. contents.Statement None p)) (parts_again m p f);
-    })
+    (each_lone (IsOwn m) refl ts (own_parts m p.part p.next f))
+    (or_semicolon_some ts, or_semicolon_is m p.part p.next f)
+    (ap (option_map (λ p. contents.Statement None p)) (parts_again m p f))
 statement_said m (Some label) p h l n =
     let f = part_fits m p.part h in
     let ts = parts m p.part (labelled p.next) in
-    line_of m (tokens.Name label ∷ ts) (contents.Statement (Some label) p)
-    (shown_lexemes false (tokens.Name label ∷ ts) (shown_label label l, shown_parts m p.part p.next f n))
-    (record {
-      form = forms.Statement (Some label) (tree_for p.part p.next);
-      has = (ts, inl refl, tree_is m p.part p.next f);
-      own = own_all m (tokens.Name label ∷ ts) (refl, own_parts m p.part p.next f);
-      says = ap (option_map (λ p. contents.Statement (Some label) p)) (parts_again m p f);
-    })
+    line_of m (tokens.Name label ∷ ts) (forms.Statement (Some label) (tree_for p.part p.next)) (contents.Statement (Some label) p)
+    (shown_lexemes false (tokens.Name label ∷ ts) ((λ b. label_lexeme label l), shown_parts m p.part p.next f n))
+    (refl, own_parts m p.part p.next f)
+    (ts, inl refl, tree_is m p.part p.next f)
+    (ap (option_map (λ p. contents.Statement (Some label) p)) (parts_again m p f))
 
 pub fallback_said : (m : Machine) (p : Parts) → is_part m p.part ≡ true → HasLabels p.next → IsLineOf m (printed (fallback m p.part (labelled p.next))) (contents.Fallback p)
 fallback_said m p h n =
     let f = part_fits m p.part h in
     let ts = parts m p.part (labelled p.next) in
-    line_of m (tokens.Sign signs.Default ∷ ts) (contents.Fallback p)
+    line_of m (tokens.Sign signs.Default ∷ ts) (forms.Fallback (tree_for p.part p.next)) (contents.Fallback p)
     (shown_lexemes false (tokens.Sign signs.Default ∷ ts) ((λ b. sign_lexeme signs.Default), shown_parts m p.part p.next f n))
-    (record {
-      form = forms.Fallback (tree_for p.part p.next);
-      has = (ts, refl, tree_is m p.part p.next f);
-      own = own_all m (tokens.Sign signs.Default ∷ ts) (refl, own_parts m p.part p.next f);
-      says = ap (option_map (λ p. contents.Fallback p)) (parts_again m p f);
-    })
+    (refl, own_parts m p.part p.next f)
+    (ts, refl, tree_is m p.part p.next f)
+    (ap (option_map (λ p. contents.Fallback p)) (parts_again m p f))
 
 -- ---- addresses
 
@@ -149,13 +139,11 @@ abbrev pub ReadsHex : Type 0
 ReadsHex = (digits value : ℕ) → 1 ≤ digits → value < 16 ^ digits → value < 2 ^ 32 → number_of (codes "0x" ++ hex_text digits value) ≡ Ok (pos value)
 
 shown_address : ReadsHex → (address : ℕ) → address < 512 → IsLexeme (tokens.Number (pos address)) (number_text true (address_of (pos address)) (pos address))
-shown_address hex address lt = go (nat_lt address 4096) (grind (arith, nat_tests))
-  where
-    go : (b : Bool) → b ≡ true → IsLexeme (tokens.Number (pos address)) (number_text true (cond b (Some address) None) (pos address))
-    go true e = number_lexeme (codes "0x" ++ hex_text 3 address) (pos address) refl (hex_name 3 address) (hex 3 address (omega arith) (omega (arith, lt)) (omega (arith, lt)))
-    go false e = absurd (cc)
+shown_address hex address lt =
+    let few : nat_lt address 4096 ≡ true = grind (arith, nat_tests) in
+    rw few (number_lexeme (codes "0x" ++ hex_text 3 address) (pos address) refl (hex_name 3 address) (hex 3 address (omega arith) (omega (arith, lt)) (omega (arith, lt))))
 
 pub fix_said : ReadsHex → (m : Machine) (label : List ℕ) (address : ℕ) → IsLabelText label → address < 512 → IsLineOf m (printed (fix label address)) (contents.Fix label (pos address))
 fix_said hex m label address l lt =
-    line_of m (fix label address) (contents.Fix label (pos address)) (sign_lexeme signs.Label, (label_lexeme label l, (shown_address hex address lt, tt)))
-    (record { form = forms.Fix label (pos address); has = refl; own = own_all m (fix label address) (refl, (refl, (refl, tt))); says = refl })
+    line_of m (fix label address) (forms.Fix label (pos address)) (contents.Fix label (pos address))
+    (sign_lexeme signs.Label, (label_lexeme label l, (shown_address hex address lt, tt))) (refl, (refl, (refl, tt))) refl refl

@@ -1,13 +1,13 @@
 -- How many bytes the tokens of a line take at most.
-use Rattle.std.proofs.Common.{◌≡◌, ℕ, ◌+◌, ◌≤◌, Bool, true, false, List, [], ◌∷◌, ◌++◌, length, Option, Some, None, ℤ, pos, negsuc, FitsSigned, w64, refl, arith, cond}
+use Rattle.std.proofs.Common.{◌≡◌, ◌+◌, ◌≤◌, Bool, true, false, List, [], ◌∷◌, ◌++◌, length, Option, Some, None, ℤ, pos, negsuc, FitsSigned, w64, refl, arith, cond}
 use Rattle.std.specs.Prelude.{nat_lt}
 use Rattle.std.specs.List.{filter}
 use Rattle.std.specs.Fmt.{decimal, signed_decimal}
+use Rattle.std.proofs.lemmas.Bool.{cond_both}
 use Rattle.std.proofs.lemmas.Bool.Decides.{nat_tests}
 use Rattle.std.proofs.lemmas.Fmt.{length-decimal-le}
 use Rattle.mic_base.proofs.DigitLemmas.{signed_decimal_short}
 use Rattle.mic_words.specs.declared.machine.Machine.{Machine}
-use Rattle.mic_words.specs.declared.machine.Machine.TheVariants.{Mic1, Mic2}
 use Rattle.micro_word.specs.declared.statement.AluOp.{AluOp}
 use Rattle.micro_word.specs.declared.statement.AluOp.TheVariants as ops
 use Rattle.micro_word.specs.declared.statement.BusSource.{BusSource}
@@ -15,8 +15,8 @@ use Rattle.micro_word.specs.declared.statement.Shift.{Shift}
 use Rattle.micro_word.specs.declared.statement.Shift.TheVariants as shifts
 use Rattle.micro_word.specs.declared.statement.Mem.{Mem}
 use Rattle.micro_word.specs.declared.statement.Mem.TheVariants as mems
-use Rattle.micro_word.specs.declared.statement.Test.TheVariants as tests
 use Rattle.micro_word.specs.declared.statement.Part.{Part}
+use Rattle.micro_word.specs.declared.statement.Test.TheVariants as tests
 use Rattle.mal_tokens.specs.declared.word.Word.{Word}
 use Rattle.mal_tokens.specs.declared.word.Word.TheVariants as words
 use Rattle.mal_tokens.specs.declared.sign.Sign.{Sign}
@@ -26,8 +26,8 @@ use Rattle.mal_tokens.specs.declared.token.Token.TheVariants as tokens
 use Rattle.mal_tokens.specs.Prelude.{sign_text, word_text}
 use Rattle.mal_line.specs.declared.next.Next.{Next}
 use Rattle.mal_line.specs.declared.next.Next.TheVariants as nexts
-use Rattle.mal_line.specs.Prelude.{minus, one_token, plus, side, source_word, spelling, tail_with, dest_tokens, tail_tokens}
-use Rattle.mal_print.specs.Prelude.{address_of, number_width, token_width, width, all_dests, assignment, beside, chain, dests_of, fetches, has_dest, heads, is_absent, leads, memory, or_semicolon, parts, tested, value}
+use Rattle.mal_line.specs.Prelude.{side, source_word, spelling, tail_with, dest_tokens, tail_tokens}
+use Rattle.mal_print.specs.Prelude.{address_of, number_width, token_width, width, all_dests, assignment, beside, byte_word, chain, dests_of, fetches, has_dest, heads, is_absent, leads, memory, or_semicolon, parts, tested, value}
 
 -- ---- numbers and other tokens
 
@@ -54,14 +54,10 @@ sign_width signs.Equals = omega arith
 sign_width _ = omega arith
 
 most : (t : Token) → token_width t ≤ 65
-most (tokens.Word w) = let h = word_width w in omega (arith, h)
-most (tokens.Sign s) = let h = sign_width s in omega (arith, h)
+most (tokens.Word w) = omega (arith, word_width w)
+most (tokens.Sign s) = omega (arith, sign_width s)
 most (tokens.Name n) = omega arith
-most (tokens.Number v) = go (address_of v)
-  where
-    go : (o : Option ℕ) → number_width o ≤ 65
-    go None = omega arith
-    go (Some address) = omega arith
+most (tokens.Number v) = elim (address_of v) as (λ o. number_width o ≤ 65) [ None ↦ omega arith | Some address ↦ omega arith ]
 
 pub lone_width : (ts : List Token) → width (or_semicolon ts) ≤ width ts + 2
 lone_width [] = omega arith
@@ -71,66 +67,43 @@ lone_width (t ∷ ts) = omega arith
 
 width_append : (xs ys : List Token) → width (xs ++ ys) ≡ width xs + width ys
 width_append [] ys = omega arith
-width_append (x ∷ xs) ys = let h = width_append xs ys in omega (arith, h)
+width_append (x ∷ xs) ys = omega (arith, width_append xs ys)
 
 width_beside : (xs ys : List Token) → width (beside xs ys) ≤ width xs + 2 + width ys
 width_beside [] ys = omega arith
 width_beside (x ∷ xs) [] = omega arith
-width_beside (x ∷ xs) (y ∷ ys) = let h = width_append (x ∷ xs) (tokens.Sign signs.Semicolon ∷ y ∷ ys) in omega (arith, h)
+width_beside (x ∷ xs) (y ∷ ys) = omega (arith, width_append (x ∷ xs) (tokens.Sign signs.Semicolon ∷ y ∷ ys))
 
 dests_width : (p : Word → Bool) (ws : List Word) → width (dest_tokens (filter p ws)) ≤ width (dest_tokens ws)
 dests_width p [] = omega arith
-dests_width p (w ∷ ws) = go (p w) (dests_width p ws)
-  where
-    go : (b : Bool) → width (dest_tokens (filter p ws)) ≤ width (dest_tokens ws) → width (dest_tokens (cond b (w ∷ filter p ws) (filter p ws))) ≤ width (dest_tokens (w ∷ ws))
-    go true h = omega (arith, h)
-    go false h = omega (arith, h)
-
-tested_width : (next : Next Token) → width (dest_tokens (tested next ∷ [])) ≤ 49
-tested_width nexts.Following = omega arith
-tested_width (nexts.Goto to) = omega arith
-tested_width (nexts.Dispatch high) = omega arith
-tested_width (nexts.Branch tests.N high low) = omega arith
-tested_width (nexts.Branch tests.Z high low) = omega arith
+dests_width p (w ∷ ws) =
+    let rest = dests_width p ws in
+    cond_both (p w) (w ∷ filter p ws) (filter p ws) (λ xs. width (dest_tokens xs) ≤ width (dest_tokens (w ∷ ws))) (λ e. omega (arith, rest)) (λ e. omega (arith, rest))
 
 heads_width : (ws : List Word) (next : Next Token) → width (dest_tokens ws) ≤ 49 → width (dest_tokens (heads ws next)) ≤ 49
-heads_width [] next h = tested_width next
+heads_width [] next h = omega (arith, word_width (tested next))
 heads_width (w ∷ ws) next h = h
 
 side_width : (o : Option BusSource) → width (side o) ≤ 6
 side_width None = omega arith
-side_width (Some x) = let h = word_width (source_word x) in omega (arith, h)
+side_width (Some x) = omega (arith, word_width (source_word x))
 
 spelling_width : (op : AluOp) (a b : List Token) → width a ≤ 6 → width b ≤ 6 → width (spelling op a b) ≤ 22
-spelling_width ops.Sum a b h g = let e = width_append a (plus ∷ b) in omega (arith, e)
-spelling_width ops.SumInc a b h g = let e = width_append a (plus ∷ (b ++ plus ∷ one_token ∷ [])) in let f = width_append b (plus ∷ one_token ∷ []) in omega (arith, e, f)
-spelling_width ops.IncA a b h g = let e = width_append a (plus ∷ one_token ∷ []) in omega (arith, e)
-spelling_width ops.IncB a b h g = let e = width_append b (plus ∷ one_token ∷ []) in omega (arith, e)
-spelling_width ops.Sub a b h g = let e = width_append b (minus ∷ a) in omega (arith, e)
-spelling_width ops.DecB a b h g = let e = width_append b (minus ∷ one_token ∷ []) in omega (arith, e)
-spelling_width ops.And a b h g = let e = width_append a (tokens.Word words.And ∷ b) in omega (arith, e)
-spelling_width ops.Or a b h g = let e = width_append a (tokens.Word words.Or ∷ b) in omega (arith, e)
-spelling_width _ a b h g = omega arith
+spelling_width ops.A a b h g = omega arith
+spelling_width _ a b h g = grind (arith, width_append)
 
 tail_width : (s : Shift) → width (tail_tokens (tail_with s)) ≤ 9
 tail_width shifts.None = omega arith
 tail_width _ = omega arith
 
-chain_width : (part : Part) (next : Next Token) → width (chain part next) ≤ 80
-chain_width part next =
-    let d = heads_width (dests_of part.dests) next (dests_width (has_dest part.dests) all_dests) in
-    let s = spelling_width part.op (side part.a) (side part.b) (side_width part.a) (side_width part.b) in
-    let t = tail_width part.shift in
-    let e = width_append (dest_tokens (heads (dests_of part.dests) next)) (value part) in
-    let f = width_append (spelling part.op (side part.a) (side part.b)) (tail_tokens (tail_with part.shift)) in
-    omega (arith, d, s, t, e, f)
-
 assignment_width : (part : Part) (next : Next Token) → width (assignment part next) ≤ 80
-assignment_width part next = go (is_absent part)
-  where
-    go : (absent : Bool) → width (cond absent [] (chain part next)) ≤ 80
-    go true = omega arith
-    go false = chain_width part next
+assignment_width part next =
+    let ws = dests_of part.dests in
+    let d = heads_width ws next (dests_width (has_dest part.dests) all_dests) in
+    let s = spelling_width part.op (side part.a) (side part.b) (side_width part.a) (side_width part.b) in
+    let e = width_append (dest_tokens (heads ws next)) (value part) in
+    let f = width_append (spelling part.op (side part.a) (side part.b)) (tail_tokens (tail_with part.shift)) in
+    cond_both (is_absent part) [] (chain part next) (λ ts. width ts ≤ 80) (λ x. omega arith) (λ x. omega (arith, d, s, tail_width part.shift, e, f))
 
 memory_width : (mem : Mem) → width (memory mem) ≤ 3
 memory_width mems.None = omega arith
@@ -142,13 +115,11 @@ fetches_width true = omega arith
 
 leads_width : (m : Machine) (next : Next Token) → width (leads m next) ≤ 156
 leads_width m nexts.Following = omega arith
-leads_width m (nexts.Goto to) = let h = most to in omega (arith, h)
-leads_width Mic1 (nexts.Dispatch false) = omega arith
-leads_width Mic1 (nexts.Dispatch true) = omega arith
-leads_width Mic2 (nexts.Dispatch false) = omega arith
-leads_width Mic2 (nexts.Dispatch true) = omega arith
-leads_width m (nexts.Branch tests.N high low) = let h = most high in let g = most low in omega (arith, h, g)
-leads_width m (nexts.Branch tests.Z high low) = let h = most high in let g = most low in omega (arith, h, g)
+leads_width m (nexts.Goto to) = omega (arith, most to)
+leads_width m (nexts.Dispatch false) = omega (arith, word_width (byte_word m))
+leads_width m (nexts.Dispatch true) = omega (arith, word_width (byte_word m))
+leads_width m (nexts.Branch tests.N high low) = omega (arith, most high, most low)
+leads_width m (nexts.Branch tests.Z high low) = omega (arith, most high, most low)
 
 pub parts_width : (m : Machine) (part : Part) (next : Next Token) → width (parts m part next) ≤ 251
 parts_width m part next =
@@ -159,8 +130,3 @@ parts_width m part next =
     let f = width_beside b (fetches part.fetch) in
     let g = width_beside c (leads m next) in
     omega (arith, e, f, g, assignment_width part next, memory_width part.mem, fetches_width part.fetch, leads_width m next)
-
--- the parts one after the other
-pub one_after_other : (m : Machine) (part : Part) (next : Next Token) (a b c d x y : List Token) → a ≡ assignment part next → x ≡ memory part.mem → b ≡ beside a x
-    → y ≡ fetches part.fetch → c ≡ beside b y → d ≡ beside c (leads m next) → d ≡ parts m part next
-one_after_other m part next a b c d x y e f g h i j = rw (j, i, g, e, f, h) refl

@@ -102,6 +102,7 @@ fn add_next(machine: Machine, next: &Next<Token>, tokens: &mut Tokens)
 }
 
 /// The parts of a statement in canonical text: its assignment, rd or wr, fetch, and where it goes next.
+#[tactic(auto, using(crate::proofs::Widths::parts_width))]
 pub fn parts_of(machine: Machine, part: &Part, next: &Next<Token>) -> Tokens
     ensures all { result.items ≡ parts machine part.now next.now }
     ensures len { length result.items ≤ 40 }
