@@ -19,6 +19,7 @@ pub(crate) fn reads_lines()
 }
 
 /// A text is read as what it spells.
+#[tactic(auto, using(crate::proofs::Outcome::agrees))]
 pub(crate) fn reads_texts()
     ensures { (machine : Machine) → IsReadAsSpelled (grammar machine) parser (empty machine) }
 {

@@ -80,8 +80,7 @@ pub fn print_statement(program: &MalProgram, s: u16, line: &mut Line)
 pub fn print_labelled(program: &MalProgram, s: u16, line: &mut Line)
     requires below { s < length program.now.statements }
     requires room { length line.old + 321 ≤ 512 }
-    ensures text { line.new ≡ line.old ++ statement_text program.now s }
-    ensures len { length line.new ≤ length line.old + 321 }
+    ensures { line.new ≡ line.old ++ statement_text program.now s }
 {
     let statement = program.statement(s);
     let next = by_labels(program, statement.next);
@@ -109,11 +108,11 @@ pub fn print_fallback(program: &MalProgram, line: &mut Line)
 }
 
 /// Appends the canonical parts of a placed statement, with its targets as `0xAAA`.
+#[tactic(auto, using(crate::proofs::Printing::next_valid))]
 pub fn print_placed(placed: &Placed, machine: Machine, line: &mut Line)
     requires valid { IsTrue (is_valid machine placed.now) }
     requires room { length line.old + 256 ≤ 512 }
-    ensures text { line.new ≡ line.old ++ placed_text machine placed.now }
-    ensures len { length line.new ≤ length line.old + 256 }
+    ensures { line.new ≡ line.old ++ placed_text machine placed.now }
 {
     let next = by_addresses(placed.next);
     print_tokens(&mal_print::parts_of(machine, &placed.part, &next), line);
