@@ -10,8 +10,7 @@ use mic_base::Line;
 /// What is printed of the byte at an address.
 pub fn at_byte(at: u32, text: &str) -> Line
     requires { length text.now ≤ 400 }
-    ensures text { result ≡ of_byte at ++ text.now }
-    ensures len { length result ≡ length text.now + 10 }
+    ensures { result ≡ of_byte at ++ text.now }
 {
     let mut line = addressed(": ", at);
     line.text(text);
@@ -30,12 +29,11 @@ pub fn numbered_at(at: u32, text: &str, value: u64) -> Line
 }
 
 /// A number between two texts.
-pub fn number_between(before: &str, value: u64, behind: &str) -> Line
-    requires { length before.now + length behind.now ≤ 400 }
-    ensures text { result ≡ before.now ++ decimal value ++ behind.now }
-    ensures len { length result ≤ length before.now + length behind.now + 20 }
+pub fn number_between(before: &str, value: u64, after: &str) -> Line
+    requires { length before.now + length after.now ≤ 400 }
+    ensures { result ≡ before.now ++ decimal value ++ after.now }
 {
     let mut line = numbered(before, value);
-    line.text(behind);
+    line.text(after);
     line
 }
