@@ -45,46 +45,68 @@ chosen_wide : (P : Instr → Type 0) (x y : ℕ) (some rest : Option Instr) (i :
     (x ≡ y → some ≡ Some i → P i) → (rest ≡ Some i → P i) → (if x == y then some else rest) ≡ Some i → P i
 chosen_wide P x y some rest i here there e = chosen_wide_by P x y some rest i (x == y) refl here there e
 
-wide_is_read : (a b c d e f : ℕ) (i : Instr) → c < 256 → d < 256 → e < 256 → f < 256 → a ≡ 0xC4 →
+half_fits : (b c : ℕ) → b < 256 → c < 256 → 256 * b + c < 65536
+half_fits b c hb hc = omega arith
+
+signed_byte_fits : (b : ℕ) → b < 256 → FitsSigned w8 (cast_signed w8 b)
+signed_byte_fits b hb = sfits_to_z {w = w8} (Fits-of_lt {w = w8} hb)
+
+signed_half_fits : (b c : ℕ) → b < 256 → c < 256 → FitsSigned w16 (cast_signed w16 (256 * b + c))
+signed_half_fits b c hb hc = sfits_to_z {w = w16} (Fits-of_lt {w = w16} (half_fits b c hb hc))
+
+-- the six bytes begin with a spelling of the instruction, whose operands are in the ranges of their types
+abbrev pub IsFound : ℕ → ℕ → ℕ → ℕ → ℕ → ℕ → Instr → Type 0
+IsFound a b c d e f i = IsRead a b c d e f i × IsInstr i
+
+half_found : (a code b c : ℕ) → c < 256 → a ≡ code → a ∷ b ∷ c ∷ [] ≡ code ∷ (256 * b + c) / 256 ∷ (256 * b + c) % 256 ∷ []
+half_found a code b c hc x = rw (x, high b c hc, low b c hc) refl
+
+offset_found : (a code b c : ℕ) → b < 256 → c < 256 → a ≡ code →
+    a ∷ b ∷ c ∷ [] ≡ code ∷ cast_unsigned w16 (cast_signed w16 (256 * b + c)) / 256 ∷ cast_unsigned w16 (cast_signed w16 (256 * b + c)) % 256 ∷ []
+offset_found a code b c hb hc x = rw (back16 b c hb hc) (half_found a code b c hc x)
+
+wide_found : (a b c d e f : ℕ) (i : Instr) → c < 256 → d < 256 → e < 256 → f < 256 → a ≡ 0xC4 →
     (if b == 0x15 then Some (WideIload (256 * c + d)) else (if b == 0x36 then Some (WideIstore (256 * c + d)) else
-    (if b == 0x84 then Some (WideIinc (256 * c + d) (cast_signed w16 (256 * e + f))) else None))) ≡ Some i → IsRead a b c d e f i
-wide_is_read a b c d e f i hc hd he hf is =
+    (if b == 0x84 then Some (WideIinc (256 * c + d) (cast_signed w16 (256 * e + f))) else None))) ≡ Some i → IsFound a b c d e f i
+wide_found a b c d e f i hc hd he hf is =
     let h : (256 * c + d) / 256 ≡ c = high c d hd in
     let l : (256 * c + d) % 256 ≡ d = low c d hd in
     let hn : (256 * e + f) / 256 ≡ e = high e f hf in
     let ln : (256 * e + f) % 256 ≡ f = low e f hf in
     let s : cast_unsigned w16 (cast_signed w16 (256 * e + f)) ≡ 256 * e + f = back16 e f he hf in
-    chosen (IsRead a b c d e f) b 0x15 (WideIload (256 * c + d)) _ i (λ x. inl (cc))
-    (chosen (IsRead a b c d e f) b 0x36 (WideIstore (256 * c + d)) _ i (λ x. inl (cc))
-    (chosen (IsRead a b c d e f) b 0x84 (WideIinc (256 * c + d) (cast_signed w16 (256 * e + f))) _ i (λ x. inl (rw s (cc))) (λ x. cc)))
+    chosen (IsFound a b c d e f) b 0x15 (WideIload (256 * c + d)) _ i (λ x. (inl (cc), half_fits c d hc hd))
+    (chosen (IsFound a b c d e f) b 0x36 (WideIstore (256 * c + d)) _ i (λ x. (inl (cc), half_fits c d hc hd))
+    (chosen (IsFound a b c d e f) b 0x84 (WideIinc (256 * c + d) (cast_signed w16 (256 * e + f))) _ i
+    (λ x. (inl (rw s (cc)), (half_fits c d hc hd, signed_half_fits e f he hf))) (λ x. cc)))
 
-pub of_bytes-read : (a b c d e f : ℕ) (i : Instr) → b < 256 → c < 256 → d < 256 → e < 256 → f < 256 → of_bytes a b c d e f ≡ Some i → IsRead a b c d e f i
+of_bytes-found : (a b c d e f : ℕ) (i : Instr) → b < 256 → c < 256 → d < 256 → e < 256 → f < 256 → of_bytes a b c d e f ≡ Some i → IsFound a b c d e f i
 unfolding of_bytes
-of_bytes-read a b c d e f i hb hc hd he hf =
-    chosen (IsRead a b c d e f) a 0x00 Nop _ i (λ x. inl (ap (λ y. y ∷ []) x))
-    (chosen (IsRead a b c d e f) a 0x10 (Bipush (cast_signed w8 b)) _ i (λ x. inl (let s : cast_unsigned w8 (cast_signed w8 b) ≡ b = back8 b hb in cc))
-    (chosen (IsRead a b c d e f) a 0x13 (LdcW (256 * b + c)) _ i (λ x. inl (let h : (256 * b + c) / 256 ≡ b = high b c hc in let l : (256 * b + c) % 256 ≡ c = low b c hc in cc))
-    (chosen (IsRead a b c d e f) a 0x15 (Iload b) _ i (λ x. inl (ap (λ y. y ∷ b ∷ []) x))
-    (chosen (IsRead a b c d e f) a 0x36 (Istore b) _ i (λ x. inl (ap (λ y. y ∷ b ∷ []) x))
-    (chosen (IsRead a b c d e f) a 0x57 Pop _ i (λ x. inl (ap (λ y. y ∷ []) x))
-    (chosen (IsRead a b c d e f) a 0x59 Dup _ i (λ x. inl (ap (λ y. y ∷ []) x))
-    (chosen (IsRead a b c d e f) a 0x5F Swap _ i (λ x. inl (ap (λ y. y ∷ []) x))
-    (chosen (IsRead a b c d e f) a 0x60 Iadd _ i (λ x. inl (ap (λ y. y ∷ []) x))
-    (chosen (IsRead a b c d e f) a 0x64 Isub _ i (λ x. inl (ap (λ y. y ∷ []) x))
-    (chosen (IsRead a b c d e f) a 0x7E Iand _ i (λ x. inl (ap (λ y. y ∷ []) x))
-    (chosen (IsRead a b c d e f) a 0x80 Ior _ i (λ x. inr (refl, x))
-    (chosen (IsRead a b c d e f) a 0x84 (Iinc b (cast_signed w8 c)) _ i (λ x. inl (let s : cast_unsigned w8 (cast_signed w8 c) ≡ c = back8 c hc in cc))
-    (chosen (IsRead a b c d e f) a 0x99 (Ifeq (cast_signed w16 (256 * b + c))) _ i (λ x. inl (let h : (256 * b + c) / 256 ≡ b = high b c hc in let l : (256 * b + c) % 256 ≡ c = low b c hc in let s : cast_unsigned w16 (cast_signed w16 (256 * b + c)) ≡ 256 * b + c = back16 b c hb hc in rw s cc))
-    (chosen (IsRead a b c d e f) a 0x9B (Iflt (cast_signed w16 (256 * b + c))) _ i (λ x. inl (let h : (256 * b + c) / 256 ≡ b = high b c hc in let l : (256 * b + c) % 256 ≡ c = low b c hc in let s : cast_unsigned w16 (cast_signed w16 (256 * b + c)) ≡ 256 * b + c = back16 b c hb hc in rw s cc))
-    (chosen (IsRead a b c d e f) a 0x9F (IfIcmpeq (cast_signed w16 (256 * b + c))) _ i (λ x. inl (let h : (256 * b + c) / 256 ≡ b = high b c hc in let l : (256 * b + c) % 256 ≡ c = low b c hc in let s : cast_unsigned w16 (cast_signed w16 (256 * b + c)) ≡ 256 * b + c = back16 b c hb hc in rw s cc))
-    (chosen (IsRead a b c d e f) a 0xA7 (Goto (cast_signed w16 (256 * b + c))) _ i (λ x. inl (let h : (256 * b + c) / 256 ≡ b = high b c hc in let l : (256 * b + c) % 256 ≡ c = low b c hc in let s : cast_unsigned w16 (cast_signed w16 (256 * b + c)) ≡ 256 * b + c = back16 b c hb hc in rw s cc))
-    (chosen (IsRead a b c d e f) a 0xAC Ireturn _ i (λ x. inl (ap (λ y. y ∷ []) x))
-    (chosen (IsRead a b c d e f) a 0xB0 Ior _ i (λ x. inl (ap (λ y. y ∷ []) x))
-    (chosen (IsRead a b c d e f) a 0xB6 (Invokevirtual (256 * b + c)) _ i (λ x. inl (let h : (256 * b + c) / 256 ≡ b = high b c hc in let l : (256 * b + c) % 256 ≡ c = low b c hc in cc))
-    (chosen_wide (IsRead a b c d e f) a 0xC4 _ _ i (λ x. wide_is_read a b c d e f i hc hd he hf x) (chosen (IsRead a b c d e f) a 0xFC In _ i (λ x. inl (ap (λ y. y ∷ []) x))
-    (chosen (IsRead a b c d e f) a 0xFD Out _ i (λ x. inl (ap (λ y. y ∷ []) x))
-    (chosen (IsRead a b c d e f) a 0xFE Err _ i (λ x. inl (ap (λ y. y ∷ []) x))
-    (chosen (IsRead a b c d e f) a 0xFF Halt _ i (λ x. inl (ap (λ y. y ∷ []) x))
+of_bytes-found a b c d e f i hb hc hd he hf =
+    chosen (IsFound a b c d e f) a 0x00 Nop _ i (λ x. (inl (ap (λ y. y ∷ []) x), tt))
+    (chosen (IsFound a b c d e f) a 0x10 (Bipush (cast_signed w8 b)) _ i (λ x. (inl (let s = back8 b hb in cc), signed_byte_fits b hb))
+    (chosen (IsFound a b c d e f) a 0x13 (LdcW (256 * b + c)) _ i (λ x. (inl (half_found a 0x13 b c hc x), half_fits b c hb hc))
+    (chosen (IsFound a b c d e f) a 0x15 (Iload b) _ i (λ x. (inl (ap (λ y. y ∷ b ∷ []) x), hb))
+    (chosen (IsFound a b c d e f) a 0x36 (Istore b) _ i (λ x. (inl (ap (λ y. y ∷ b ∷ []) x), hb))
+    (chosen (IsFound a b c d e f) a 0x57 Pop _ i (λ x. (inl (ap (λ y. y ∷ []) x), tt))
+    (chosen (IsFound a b c d e f) a 0x59 Dup _ i (λ x. (inl (ap (λ y. y ∷ []) x), tt))
+    (chosen (IsFound a b c d e f) a 0x5F Swap _ i (λ x. (inl (ap (λ y. y ∷ []) x), tt))
+    (chosen (IsFound a b c d e f) a 0x60 Iadd _ i (λ x. (inl (ap (λ y. y ∷ []) x), tt))
+    (chosen (IsFound a b c d e f) a 0x64 Isub _ i (λ x. (inl (ap (λ y. y ∷ []) x), tt))
+    (chosen (IsFound a b c d e f) a 0x7E Iand _ i (λ x. (inl (ap (λ y. y ∷ []) x), tt))
+    (chosen (IsFound a b c d e f) a 0x80 Ior _ i (λ x. (inr (refl, x), tt))
+    (chosen (IsFound a b c d e f) a 0x84 (Iinc b (cast_signed w8 c)) _ i (λ x. (inl (let s = back8 c hc in cc), (hb, signed_byte_fits c hc)))
+    (chosen (IsFound a b c d e f) a 0x99 (Ifeq (cast_signed w16 (256 * b + c))) _ i (λ x. (inl (offset_found a 0x99 b c hb hc x), signed_half_fits b c hb hc))
+    (chosen (IsFound a b c d e f) a 0x9B (Iflt (cast_signed w16 (256 * b + c))) _ i (λ x. (inl (offset_found a 0x9B b c hb hc x), signed_half_fits b c hb hc))
+    (chosen (IsFound a b c d e f) a 0x9F (IfIcmpeq (cast_signed w16 (256 * b + c))) _ i (λ x. (inl (offset_found a 0x9F b c hb hc x), signed_half_fits b c hb hc))
+    (chosen (IsFound a b c d e f) a 0xA7 (Goto (cast_signed w16 (256 * b + c))) _ i (λ x. (inl (offset_found a 0xA7 b c hb hc x), signed_half_fits b c hb hc))
+    (chosen (IsFound a b c d e f) a 0xAC Ireturn _ i (λ x. (inl (ap (λ y. y ∷ []) x), tt))
+    (chosen (IsFound a b c d e f) a 0xB0 Ior _ i (λ x. (inl (ap (λ y. y ∷ []) x), tt))
+    (chosen (IsFound a b c d e f) a 0xB6 (Invokevirtual (256 * b + c)) _ i (λ x. (inl (half_found a 0xB6 b c hc x), half_fits b c hb hc))
+    (chosen_wide (IsFound a b c d e f) a 0xC4 _ _ i (wide_found a b c d e f i hc hd he hf)
+    (chosen (IsFound a b c d e f) a 0xFC In _ i (λ x. (inl (ap (λ y. y ∷ []) x), tt))
+    (chosen (IsFound a b c d e f) a 0xFD Out _ i (λ x. (inl (ap (λ y. y ∷ []) x), tt))
+    (chosen (IsFound a b c d e f) a 0xFE Err _ i (λ x. (inl (ap (λ y. y ∷ []) x), tt))
+    (chosen (IsFound a b c d e f) a 0xFF Halt _ i (λ x. (inl (ap (λ y. y ∷ []) x), tt))
     (λ x. cc)))))))))))))))))))))))))
 
 -- a number of two bytes is made of them
@@ -94,22 +116,19 @@ from_half n b c e f = rw (e, f, whole_half n) refl
 from_offset : (z : ℤ) (b c : ℕ) → FitsSigned w16 z → b ≡ cast_unsigned w16 z / 256 → c ≡ cast_unsigned w16 z % 256 → cast_signed w16 (256 * b + c) ≡ z
 from_offset z b c fits e f = ap (cast_signed w16) (from_half (cast_unsigned w16 z) b c e f) ∙ to_z-of_z w16 z fits
 
+first : {x y : ℕ} {xs ys : List ℕ} → x ∷ xs ≡ y ∷ ys → x ≡ y
+first e = cc
+
 -- six bytes that begin with an instruction's spelling are read as that instruction
 pub of_bytes-spelling : (a b c d e f : ℕ) (i : Instr) → IsInstr i → take (size_of (row_of i)) (a ∷ b ∷ c ∷ d ∷ e ∷ f ∷ []) ≡ spelling i → of_bytes a b c d e f ≡ Some i
 unfolding of_bytes
-of_bytes-spelling a b c d e f Nop real is = let ea : a ≡ 0x00 = cc in rw ea
+of_bytes-spelling a b c d e f Nop real is = rw (first is) refl
 of_bytes-spelling a b c d e f (Bipush z) real is =
     let ea : a ≡ 0x10 = cc in let eb : b ≡ cast_unsigned w8 z = cc in rw (ea, eb) (ap (λ (x : ℤ). Some (Bipush x)) (to_z-of_z w8 z real))
 of_bytes-spelling a b c d e f (LdcW k) real is =
     let ea : a ≡ 0x13 = cc in let eb : b ≡ k / 256 = cc in let ec : c ≡ k % 256 = cc in rw ea (ap (λ (x : ℕ). Some (LdcW x)) (from_half k b c eb ec))
 of_bytes-spelling a b c d e f (Iload k) real is = let ea : a ≡ 0x15 = cc in let eb : b ≡ k = cc in rw (ea, eb)
 of_bytes-spelling a b c d e f (Istore k) real is = let ea : a ≡ 0x36 = cc in let eb : b ≡ k = cc in rw (ea, eb)
-of_bytes-spelling a b c d e f Pop real is = let ea : a ≡ 0x57 = cc in rw ea
-of_bytes-spelling a b c d e f Dup real is = let ea : a ≡ 0x59 = cc in rw ea
-of_bytes-spelling a b c d e f Swap real is = let ea : a ≡ 0x5F = cc in rw ea
-of_bytes-spelling a b c d e f Iadd real is = let ea : a ≡ 0x60 = cc in rw ea
-of_bytes-spelling a b c d e f Isub real is = let ea : a ≡ 0x64 = cc in rw ea
-of_bytes-spelling a b c d e f Iand real is = let ea : a ≡ 0x7E = cc in rw ea
 of_bytes-spelling a b c d e f (Iinc k z) real is =
     let ea : a ≡ 0x84 = cc in let eb : b ≡ k = cc in let ec : c ≡ cast_unsigned w8 z = cc in rw (ea, eb, ec) (ap (λ (x : ℤ). Some (Iinc k x)) (to_z-of_z w8 z real.1))
 of_bytes-spelling a b c d e f (Ifeq z) real is =
@@ -124,8 +143,6 @@ of_bytes-spelling a b c d e f (IfIcmpeq z) real is =
 of_bytes-spelling a b c d e f (Goto z) real is =
     let ea : a ≡ 0xA7 = cc in let eb : b ≡ cast_unsigned w16 z / 256 = cc in let ec : c ≡ cast_unsigned w16 z % 256 = cc in
     rw ea (ap (λ (x : ℤ). Some (Goto x)) (from_offset z b c real eb ec))
-of_bytes-spelling a b c d e f Ireturn real is = let ea : a ≡ 0xAC = cc in rw ea
-of_bytes-spelling a b c d e f Ior real is = let ea : a ≡ 0xB0 = cc in rw ea
 of_bytes-spelling a b c d e f (Invokevirtual k) real is =
     let ea : a ≡ 0xB6 = cc in let eb : b ≡ k / 256 = cc in let ec : c ≡ k % 256 = cc in rw ea (ap (λ (x : ℕ). Some (Invokevirtual x)) (from_half k b c eb ec))
 of_bytes-spelling a b c d e f (WideIload k) real is =
@@ -140,10 +157,7 @@ of_bytes-spelling a b c d e f (WideIinc k z) real is =
     let index : 256 * c + d ≡ k = from_half k c d ec ed in
     let number : cast_signed w16 (256 * e + f) ≡ z = from_offset z e f real.1 ee ef in
     rw (ea, eb) (cc)
-of_bytes-spelling a b c d e f In real is = let ea : a ≡ 0xFC = cc in rw ea
-of_bytes-spelling a b c d e f Out real is = let ea : a ≡ 0xFD = cc in rw ea
-of_bytes-spelling a b c d e f Err real is = let ea : a ≡ 0xFE = cc in rw ea
-of_bytes-spelling a b c d e f Halt real is = let ea : a ≡ 0xFF = cc in rw ea
+of_bytes-spelling a b c d e f _ real is = rw (first is) refl
 
 -- whether an instruction is whole
 whole_by : (many at : ℕ) (j i : Instr) (t : Bool) → nat_le (at + size_of (row_of j)) many ≡ t → (if t then Some j else None) ≡ Some i →
@@ -230,8 +244,8 @@ instr_at-read text at i small e =
     let found : (begun_at text at ≡ Some i)
     × (at + size_of (row_of i) ≤ length text) = whole-some (length text) at _ i e in
     read_at text at i found.1
-    (of_bytes-read _ _ _ _ _ _ i (byte_below text (at + 1) small) (byte_below text (at + 2) small) (byte_below text (at + 3) small)
-    (byte_below text (at + 4) small) (byte_below text (at + 5) small) found.0)
+    (of_bytes-found _ _ _ _ _ _ i (byte_below text (at + 1) small) (byte_below text (at + 2) small) (byte_below text (at + 3) small)
+    (byte_below text (at + 4) small) (byte_below text (at + 5) small) found.0).0
 
 whole_spelled : (text : List ℕ) (at : ℕ) (i : Instr) → IsInstr i → StandAt text at (spelling i) → instr_at text at ≡ Some i
 unfolding instr_at
@@ -298,62 +312,13 @@ decoded-front bytes i small e =
     let size : length read.0 ≡ size_of (row_of i) = read.3 in
     (subst (λ (n : ℕ). SpellsInstr (take n bytes) i) size (subst (λ (xs : List ℕ). SpellsInstr xs i) (sym part) read.1), omega arith)
 
--- What is read has operands in the ranges of their types.
-
-half_fits : (b c : ℕ) → b < 256 → c < 256 → 256 * b + c < 65536
-half_fits b c hb hc = omega arith
-
-signed_byte_fits : (b : ℕ) → b < 256 → FitsSigned w8 (cast_signed w8 b)
-signed_byte_fits b hb = sfits_to_z {w = w8} (Fits-of_lt {w = w8} hb)
-
-signed_half_fits : (b c : ℕ) → b < 256 → c < 256 → FitsSigned w16 (cast_signed w16 (256 * b + c))
-signed_half_fits b c hb hc = sfits_to_z {w = w16} (Fits-of_lt {w = w16} (half_fits b c hb hc))
-
-wide_is_real : (b c d e f : ℕ) (i : Instr) → c < 256 → d < 256 → e < 256 → f < 256 →
-    (if b == 0x15 then Some (WideIload (256 * c + d)) else (if b == 0x36 then Some (WideIstore (256 * c + d)) else
-    (if b == 0x84 then Some (WideIinc (256 * c + d) (cast_signed w16 (256 * e + f))) else None))) ≡ Some i → IsInstr i
-wide_is_real b c d e f i hc hd he hf =
-    chosen IsInstr b 0x15 (WideIload (256 * c + d)) _ i (λ x. half_fits c d hc hd)
-    (chosen IsInstr b 0x36 (WideIstore (256 * c + d)) _ i (λ x. half_fits c d hc hd)
-    (chosen IsInstr b 0x84 (WideIinc (256 * c + d) (cast_signed w16 (256 * e + f))) _ i (λ x. (half_fits c d hc hd, signed_half_fits e f he hf)) (λ x. absurd (cc))))
-
-of_bytes-real : (a b c d e f : ℕ) (i : Instr) → b < 256 → c < 256 → d < 256 → e < 256 → f < 256 → of_bytes a b c d e f ≡ Some i → IsInstr i
-unfolding of_bytes
-of_bytes-real a b c d e f i hb hc hd he hf =
-    chosen IsInstr a 0x00 Nop _ i (λ x. tt)
-    (chosen IsInstr a 0x10 (Bipush (cast_signed w8 b)) _ i (λ x. signed_byte_fits b hb)
-    (chosen IsInstr a 0x13 (LdcW (256 * b + c)) _ i (λ x. half_fits b c hb hc)
-    (chosen IsInstr a 0x15 (Iload b) _ i (λ x. hb)
-    (chosen IsInstr a 0x36 (Istore b) _ i (λ x. hb)
-    (chosen IsInstr a 0x57 Pop _ i (λ x. tt)
-    (chosen IsInstr a 0x59 Dup _ i (λ x. tt)
-    (chosen IsInstr a 0x5F Swap _ i (λ x. tt)
-    (chosen IsInstr a 0x60 Iadd _ i (λ x. tt)
-    (chosen IsInstr a 0x64 Isub _ i (λ x. tt)
-    (chosen IsInstr a 0x7E Iand _ i (λ x. tt)
-    (chosen IsInstr a 0x80 Ior _ i (λ x. tt)
-    (chosen IsInstr a 0x84 (Iinc b (cast_signed w8 c)) _ i (λ x. (hb, signed_byte_fits c hc))
-    (chosen IsInstr a 0x99 (Ifeq (cast_signed w16 (256 * b + c))) _ i (λ x. signed_half_fits b c hb hc)
-    (chosen IsInstr a 0x9B (Iflt (cast_signed w16 (256 * b + c))) _ i (λ x. signed_half_fits b c hb hc)
-    (chosen IsInstr a 0x9F (IfIcmpeq (cast_signed w16 (256 * b + c))) _ i (λ x. signed_half_fits b c hb hc)
-    (chosen IsInstr a 0xA7 (Goto (cast_signed w16 (256 * b + c))) _ i (λ x. signed_half_fits b c hb hc)
-    (chosen IsInstr a 0xAC Ireturn _ i (λ x. tt)
-    (chosen IsInstr a 0xB0 Ior _ i (λ x. tt)
-    (chosen IsInstr a 0xB6 (Invokevirtual (256 * b + c)) _ i (λ x. half_fits b c hb hc)
-    (chosen_wide IsInstr a 0xC4 _ _ i (λ e1 x. wide_is_real b c d e f i hc hd he hf x)
-    (chosen IsInstr a 0xFC In _ i (λ x. tt)
-    (chosen IsInstr a 0xFD Out _ i (λ x. tt)
-    (chosen IsInstr a 0xFE Err _ i (λ x. tt)
-    (chosen IsInstr a 0xFF Halt _ i (λ x. tt)
-    (λ x. absurd (cc))))))))))))))))))))))))))
-
 -- what is read at an address has operands in range
 pub instr_at-real : (text : List ℕ) (at : ℕ) (i : Instr) → All (λ (b : ℕ). b < 256) text → instr_at text at ≡ Some i → IsInstr i
 unfolding instr_at
 instr_at-real text at i small e =
     let found : (begun_at text at ≡ Some i) × (at + size_of (row_of i) ≤ length text) = whole-some (length text) at _ i e in
-    of_bytes-real _ _ _ _ _ _ i (byte_below text (at + 1) small) (byte_below text (at + 2) small) (byte_below text (at + 3) small)
-    (byte_below text (at + 4) small) (byte_below text (at + 5) small) found.0
+    (of_bytes-found _ _ _ _ _ _ i (byte_below text (at + 1) small) (byte_below text (at + 2) small) (byte_below text (at + 3) small)
+    (byte_below text (at + 4) small) (byte_below text (at + 5) small) found.0).1
 
 -- what is read at an address ends inside the text
 pub instr_at-ends : (text : List ℕ) (at : ℕ) (i : Instr) → instr_at text at ≡ Some i → at + size_of (row_of i) ≤ length text

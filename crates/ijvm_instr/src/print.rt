@@ -1,6 +1,6 @@
 //! The text of an instruction in lists and traces.
 
-ghost use Rattle.std.specs.Prelude.{◌≡◌, ◌+◌, ◌≤◌, ◌<◌, ◌++◌, length, unsigned_abs};
+ghost use Rattle.std.specs.Prelude.{◌≡◌, ◌+◌, ◌≤◌, ◌++◌, length};
 ghost use Rattle.ijvm_instr.specs.Instructions.{mnemonic_of, target};
 ghost use Rattle.ijvm_instr.specs.Text.{number_text, operand_text, instr_text};
 
@@ -17,18 +17,18 @@ pub fn target_of(at: u32, offset: i16) -> u32
 }
 
 /// Appends a space and a number.
+#[tactic(auto, using(mic_base::proofs::DigitLemmas::decimal_lengths))]
 fn print_number(value: i64, line: &mut Line)
-    requires small { unsigned_abs value < 100000 }
-    requires room { length line.old + 8 ≤ 512 }
+    requires { length line.old + 21 ≤ 512 }
     ensures text { line.new ≡ line.old ++ number_text value }
-    ensures len { length line.new ≤ length line.old + 8 }
+    ensures len { length line.new ≤ length line.old + 21 }
 {
     line.text(" ");
     line.dec(value);
 }
 
 fn print_operands(operands: Operands, at: u32, line: &mut Line)
-    requires { length line.old + 16 ≤ 512 }
+    requires { length line.old + 42 ≤ 512 }
     ensures { line.new ≡ line.old ++ operand_text at operands }
 {
     match operands {
