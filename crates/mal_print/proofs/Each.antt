@@ -148,7 +148,8 @@ module _ (P : Token → Type 0) where
         let b = each_side (row part.op).uses_b (may_be_b m) part.b (own_source_b m) f.b in
         each_append (dest_tokens (heads (dests_of part.dests) next)) (value part)
         (each_heads (dests_of part.dests) next (filtered is_common (has_dest part.dests) all_dests refl))
-        (each_append (spelling part.op (side part.a) (side part.b)) (tail_tokens (tail_with part.shift)) (each_spelling expressed part.op part.a part.b a b) (each_tail part.shift))
+        (each_append (spelling part.op (side part.a) (side part.b)) (tail_tokens (tail_with part.shift))
+        (each_spelling expressed part.op part.a part.b a b) (each_tail part.shift))
 
     pub each_assignment : (part : Part) (next : Next Token) → Fits m part → Each P (assignment part next)
     each_assignment part next f = cond_both (is_absent part) [] (chain part next) (Each P) (λ e. tt) (λ e. each_chain part next f)
@@ -168,9 +169,15 @@ module _ (P : Token → Type 0) where
     each_leads s (nexts.Dispatch false) h =
         assumption (common words.Goto refl refl, of.sign signs.Open refl, of.word (byte_word m) (own_byte m), of.sign signs.Close refl)
     each_leads s (nexts.Dispatch true) h =
-        assumption (common words.Goto refl refl, of.sign signs.Open refl, of.word (byte_word m) (own_byte m), common words.Or refl refl, of.offset, of.sign signs.Close refl)
+        assumption (
+          common words.Goto refl refl, of.sign signs.Open refl, of.word (byte_word m) (own_byte m), common words.Or refl refl, of.offset,
+          of.sign signs.Close refl
+        )
     each_leads s (nexts.Branch test high low) h =
-        assumption (common words.If refl refl, of.sign signs.Open refl, of.word (test_word test) (own_test m test), of.sign signs.Close refl, common words.Goto refl refl, common words.Else refl refl)
+        assumption (
+          common words.If refl refl, of.sign signs.Open refl, of.word (test_word test) (own_test m test), of.sign signs.Close refl,
+          common words.Goto refl refl, common words.Else refl refl
+        )
 
     pub each_parts : P (tokens.Sign signs.Semicolon) → (part : Part) (next : Next Token) → Fits m part → EachTarget P next → Each P (parts m part next)
     each_parts s part next f h =

@@ -52,7 +52,8 @@ beside_assoc (x ∷ a) [] c = refl
 beside_assoc (x ∷ a) (y ∷ b) [] = refl
 beside_assoc (x ∷ a) (y ∷ b) (z ∷ c) = append_assoc (x ∷ a) (tokens.Sign signs.Semicolon ∷ y ∷ b) (tokens.Sign signs.Semicolon ∷ z ∷ c)
 
-split_parts : (a b c d : List Token) → Each IsInside a → Each IsInside b → Each IsInside c → split (beside (beside (beside a b) c) d) ≡ split a ++ (split b ++ (split c ++ split d))
+split_parts : (a b c d : List Token) → Each IsInside a → Each IsInside b → Each IsInside c
+    → split (beside (beside (beside a b) c) d) ≡ split a ++ (split b ++ (split c ++ split d))
 split_parts a b c d f g h =
     ap split (beside_assoc (beside a b) c d ∙ beside_assoc a b (beside c d))
     ∙ (split_beside a (beside b (beside c d)) f ∙ ap (λ xs. split a ++ xs) (split_beside b (beside c d) g ∙ ap (λ xs. split b ++ xs) (split_beside c d h)))
@@ -146,7 +147,8 @@ tree_some m tree ts h = record { parts = h.kinds; are = h.are; assignment = h.as
 
 -- an empty part before the others is ignored
 tallied_nothing : (m : Machine) (xs : List (List Token)) (tree : Tree) → Tallied m xs tree → Tallied m ([] ∷ xs) tree
-tallied_nothing m xs tree t = record { kinds = nothing ∷ t.kinds; are = (refl, t.are); assignment = t.assignment; memory = t.memory; fetch = t.fetch; next = t.next; last = t.last }
+tallied_nothing m xs tree t =
+    record { kinds = nothing ∷ t.kinds; are = (refl, t.are); assignment = t.assignment; memory = t.memory; fetch = t.fetch; next = t.next; last = t.last }
 
 -- `;` stands where there is nothing
 trees : (m : Machine) (tree : Tree) (ts : List Token) → Tallied m (split ts) tree → AreTree m ts tree × AreTree m (or_semicolon ts) tree

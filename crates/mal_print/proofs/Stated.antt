@@ -90,10 +90,15 @@ shown_label label h = λ b. label_lexeme label h
 
 -- ---- lines
 
-line_of : (m : Machine) (ts : List Token) (form : Form) (content : Content) → AreLexemes false ts → Each (IsOwn m) ts → IsForm m ts form → content_of form ≡ Some content
-    → IsLineOf m (printed ts) content
+line_of : (m : Machine) (ts : List Token) (form : Form) (content : Content) → AreLexemes false ts → Each (IsOwn m) ts → IsForm m ts form
+    → content_of form ≡ Some content → IsLineOf m (printed ts) content
 line_of m ts form content l own has says =
-    record { sequence = ts; plain = plain_printed false ts l; spelled = prints false ts l; means = record { form = form; has = has; own = own_all m ts own; says = says } }
+    record {
+      sequence = ts;
+      plain = plain_printed false ts l;
+      spelled = prints false ts l;
+      means = record { form = form; has = has; own = own_all m ts own; says = says };
+    }
 
 pub statement_said : (m : Machine) (label : Option (List ℕ)) (p : Parts) → is_part m p.part ≡ true → IfSome label IsLabelText → HasLabels p.next
     → IsLineOf m (printed (statement m label p.part (labelled p.next))) (contents.Statement label p)
@@ -141,7 +146,8 @@ ReadsHex = (digits value : ℕ) → 1 ≤ digits → value < 16 ^ digits → val
 shown_address : ReadsHex → (address : ℕ) → address < 512 → IsLexeme (tokens.Number (pos address)) (number_text true (address_of (pos address)) (pos address))
 shown_address hex address lt =
     let few : nat_lt address 4096 ≡ true = grind (arith, nat_tests) in
-    rw few (number_lexeme (codes "0x" ++ hex_text 3 address) (pos address) refl (hex_name 3 address) (hex 3 address (omega arith) (omega (arith, lt)) (omega (arith, lt))))
+    rw few (number_lexeme (codes "0x" ++ hex_text 3 address) (pos address) refl (hex_name 3 address)
+    (hex 3 address (omega arith) (omega (arith, lt)) (omega (arith, lt))))
 
 pub fix_said : ReadsHex → (m : Machine) (label : List ℕ) (address : ℕ) → IsLabelText label → address < 512 → IsLineOf m (printed (fix label address)) (contents.Fix label (pos address))
 fix_said hex m label address l lt =

@@ -78,7 +78,8 @@ dests_width : (p : Word → Bool) (ws : List Word) → width (dest_tokens (filte
 dests_width p [] = omega arith
 dests_width p (w ∷ ws) =
     let rest = dests_width p ws in
-    cond_both (p w) (w ∷ filter p ws) (filter p ws) (λ xs. width (dest_tokens xs) ≤ width (dest_tokens (w ∷ ws))) (λ e. omega (arith, rest)) (λ e. omega (arith, rest))
+    cond_both (p w) (w ∷ filter p ws) (filter p ws) (λ xs. width (dest_tokens xs) ≤ width (dest_tokens (w ∷ ws)))
+    (λ e. omega (arith, rest)) (λ e. omega (arith, rest))
 
 heads_width : (ws : List Word) (next : Next Token) → width (dest_tokens ws) ≤ 49 → width (dest_tokens (heads ws next)) ≤ 49
 heads_width [] next h = omega (arith, word_width (tested next))
