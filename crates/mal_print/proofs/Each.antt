@@ -170,13 +170,21 @@ module _ (P : Token → Type 0) where
         assumption (common words.Goto refl refl, of.sign signs.Open refl, of.word (byte_word m) (own_byte m), of.sign signs.Close refl)
     each_leads s (nexts.Dispatch true) h =
         assumption (
-          common words.Goto refl refl, of.sign signs.Open refl, of.word (byte_word m) (own_byte m), common words.Or refl refl, of.offset,
-          of.sign signs.Close refl
+          common words.Goto refl refl,
+          of.sign signs.Open refl,
+          of.word (byte_word m) (own_byte m),
+          common words.Or refl refl,
+          of.offset,
+          of.sign signs.Close refl,
         )
     each_leads s (nexts.Branch test high low) h =
         assumption (
-          common words.If refl refl, of.sign signs.Open refl, of.word (test_word test) (own_test m test), of.sign signs.Close refl,
-          common words.Goto refl refl, common words.Else refl refl
+          common words.If refl refl,
+          of.sign signs.Open refl,
+          of.word (test_word test) (own_test m test),
+          of.sign signs.Close refl,
+          common words.Goto refl refl,
+          common words.Else refl refl,
         )
 
     pub each_parts : P (tokens.Sign signs.Semicolon) → (part : Part) (next : Next Token) → Fits m part → EachTarget P next → Each P (parts m part next)

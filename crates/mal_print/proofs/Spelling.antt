@@ -67,9 +67,16 @@ pub prints : (spacing : Bool) (ts : List Token) → AreLexemes spacing ts → Sp
 prints spacing [] l = refl
 prints spacing (t ∷ ts) l =
     let text = token_text (is_spaced spacing t) t in
-    let rest = printed_after (is_spacing t) ts in
-    (cond (is_spaced spacing t) (codes " ") [], text, rest, refl, cond_both (is_spaced spacing t) (codes " ") [] AreBlank (λ e. refl) (λ e. refl), l.0,
-    may_end t text rest l.0 (ends (is_wordy t) refl), prints (is_spacing t) ts l.1)
+    let rest = printed_after (is_spacing t) ts in (
+      cond (is_spaced spacing t) (codes " ") [],
+      text,
+      rest,
+      refl,
+      cond_both (is_spaced spacing t) (codes " ") [] AreBlank (λ e. refl) (λ e. refl),
+      l.0,
+      may_end t text rest l.0 (ends (is_wordy t) refl),
+      prints (is_spacing t) ts l.1,
+    )
   where
     ends : (w : Bool) → is_wordy t ≡ w → ends_with is_name_byte (token_text (is_spaced spacing t) t) ≡ true → begins_with is_name_byte (printed_after (is_spacing t) ts) ≡ false
     ends true e g = subst (λ s. AreLexemes s ts → begins_with is_name_byte (printed_after s ts) ≡ false) (sym (wordy_spacing t e)) (begins_fine ts) l.1
