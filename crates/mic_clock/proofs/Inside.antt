@@ -6,10 +6,10 @@ use Rattle.micro_word.specs.Prelude.{ControlStore}
 use Rattle.mic_clock.specs.declared.counts.Counts.{Counts}
 use Rattle.mic_clock.specs.declared.end.End.{End}
 use Rattle.mic_clock.specs.declared.end.End.TheVariants as ends
-use Rattle.mic_clock.specs.Prelude.{Meaning, BoardView, MicroRun, word_at, bounded, bounded_by, ShowsRun, ShowsAs, IsReached, InTime, IsTurnedInside, IsRunInside, IsStill, NoFault}
+use Rattle.mic_clock.specs.Prelude.{Meaning, BoardView, MicroRun, word_at, bounded, bounded_by, ShowsRun, ShowsAs, IsReached, InTime, IsTurnedInside, IsRunInside, IsStill, NoFault, IsLedTo-map}
 use Rattle.mic_clock.proofs.InTime.{InTime-step}
 use Rattle.mic_clock.proofs.Rules.{counts_after-rule}
-use Rattle.mic_clock.proofs.Reach.{IsLedTo-map, Leads-turn, IsTurned-bounded}
+use Rattle.mic_clock.proofs.Reach.{Leads-turn, IsTurned-bounded}
 
 -- below the bound nothing ends by it
 bounded-below : {State : Type 0} (m : Meaning State) (bound : ℕ) (r : MicroRun State) → r.counts.cycles < bound → bounded m (Some bound) r ≡ r

@@ -2,8 +2,7 @@
 use Rattle.std.proofs.Common.{◌≡◌, inl, inr, zero, suc, ℕ, List, None, false, refl, ◌∙◌, ap, subst, arith}
 use Rattle.std.proofs.lemmas.Bool.{cases_lt}
 use Rattle.std.specs.Prelude.{Option}
-use Rattle.mic_clock.specs.Prelude.{Meaning, BoardView, MicroRun, turns, IsInside, IsLeg, ShowsRun, IsLedTo, Leads}
-use Rattle.mic_clock.proofs.Reach.{IsLedTo-map}
+use Rattle.mic_clock.specs.Prelude.{Meaning, BoardView, MicroRun, turns, IsInside, IsLeg, ShowsRun, IsLedTo, Leads, IsLedTo-map}
 
 module _ {State : Type 0} (m : Meaning State) (words : List ℕ) where
   -- the first turn is a leg

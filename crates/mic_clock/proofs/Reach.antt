@@ -1,26 +1,11 @@
 -- How a run goes on on a board, and where a fault cuts it.
 use Rattle.std.specs.Prelude.{Result, Ok, Err, IsOk, OnOk, IfErr}
-use Rattle.std.proofs.Common.{◌≡◌, ◌≢◌, ◌⊎◌, inl, inr, zero, suc, ℕ, ◌+◌, List, [], Bool, Option, Some, None, IsSome, refl, sym, ◌∙◌, ap, subst}
-use Rattle.console_port.specs.Prelude.{IsLost, Untaken}
+use Rattle.std.proofs.Common.{◌≡◌, ◌⊎◌, inl, inr, zero, suc, ℕ, List, Bool, Option, Some, None, IsSome, refl, sym, ◌∙◌, ap, subst}
+use Rattle.console_port.specs.Prelude.{Untaken}
 use Rattle.console_port.specs.declared.fault.BusFault.TheVariants as faults
 use Rattle.mic_clock.specs.declared.end.End.{End}
 use Rattle.mic_clock.specs.declared.end.End.TheVariants as ends
-use Rattle.mic_clock.specs.Prelude.{Meaning, ReadsConsole, UsesConsole, BoardView, MicroRun, Buses, end_before, word_at, turn, turns, buses, bounded, buses_of, ShowsRun, IsLedTo, IsCut, IsCutByRead, IsCutByWrite, Leads, NoFault, IsReached, IsTurned, ShowsAs, BoundIsCutByWrite, IsCutAt, TurnIsCut, RunIsCutByWrite, is_completed}
-use Rattle.mic_clock.proofs.Front.{front_lost, last_lost}
-use Rattle.mic_clock.proofs.Turns.{turns-suc, turns-plus, buses-plus, turn_by_ended, bounded-world}
-
-module _ {M State : Type 0} (state : M → State) (left0 held0 : Option (List ℕ)) (board0 : BoardView M) where
-  -- what is known of each run that a board leads to may be replaced by what follows from it
-  pub IsLedTo-map : (left : Option (List ℕ)) (board : BoardView M) (P Q : MicroRun State → List ℕ → Type 0) →
-      ((r : MicroRun State) (rest : List ℕ) → P r rest → Q r rest) → IsLedTo state left0 held0 board0 left board P → IsLedTo state left0 held0 board0 left board Q
-  IsLedTo-map left board P Q f led rest fits = let far = led rest fits in (far.0, far.1, λ r s e. f r rest (far.2 r s e))
-
-  -- a call that takes no input may follow
-  pub IsLedTo-stays : (left left' : Option (List ℕ)) (board board' : BoardView M) (P : MicroRun State → List ℕ → Type 0) →
-      left' ≡ left → board'.bus.console.ended ≡ board.bus.console.ended →
-      IsLedTo state left0 held0 board0 left board P → IsLedTo state left0 held0 board0 left' board' P
-  IsLedTo-stays left left' board board' P same_left same_end led rest fits =
-      led rest (subst (λ (o : Option (List ℕ)). Untaken o board.bus.console.ended rest) same_left (subst (λ (b : Bool). Untaken left' b rest) same_end fits))
+use Rattle.mic_clock.specs.Prelude.{Meaning, ReadsConsole, UsesConsole, BoardView, MicroRun, end_before, word_at, turn, turns, bounded, buses_of, ShowsRun, IsLedTo, IsCut, IsCutByRead, IsCutByWrite, Leads, NoFault, IsReached, IsTurned, ShowsAs, BoundIsCutByWrite, IsCutAt, TurnIsCut, RunIsCutByWrite, is_completed, front_lost, turn_by_ended, turns-suc, bounded-world, IsLedTo-map, Leads-flushed, Leads-on}
 
 -- what is known after a call that changed neither the board nor the sink is known of both as they were
 pub unstopped : {M K : Type 0} (held : K → Option (List ℕ)) (board board' : BoardView M) (sink sink' : K) → (board' ≡ board) × (sink' ≡ sink) →
@@ -32,23 +17,6 @@ same_step : {State : Type 0} (m : Meaning State) (P : ℕ → State → Type 0) 
     P (word_at m words s) s → P (word_at m words' s') s'
 same_step m P words words' s s' program same h =
     subst (λ (ws : List ℕ). P (word_at m ws s') s') program (subst (λ t. P (word_at m words t) t) (sym same) h)
-
-pub IsCutByWrite-lost : {M State : Type 0} (state : M → State) (m : Meaning State) (words : List ℕ) (bound : Option ℕ)
-    (left left' held held' : Option (List ℕ)) (board board' : BoardView M) (r : MicroRun State) →
-    ShowsRun state left held board r → IsSome board.end → board.bus.console.kept ≢ [] → left' ≡ left → state board'.machine ≡ state board.machine → board'.counts ≡ board.counts →
-    board'.bus.words ≡ board.bus.words → board'.bus.console.ended ≡ board.bus.console.ended →
-    IsLost held board.bus.console.kept held' board'.bus.console.kept → IsCutByWrite state m words bound left' held' board' r
-IsCutByWrite-lost state m words bound left left' held held' board board' r s over some same_left same_state same_counts same_words same_ended lost =
-    record {
-      its_state = s.its_state ∙ sym same_state;
-      memory = s.world.words ∙ sym same_words;
-      untaken = subst (λ (o : Option (List ℕ)). Untaken o board'.bus.console.ended r.world.untaken) (sym same_left)
-          (subst (λ (b : Bool). Untaken left b r.world.untaken) (sym same_ended) s.world.untaken);
-      counts = s.counts ∙ sym same_counts;
-      kept = lost.emptied;
-      front = front_lost held held' board.bus.console.kept board'.bus.console.kept r.world.given lost s.world.given;
-      next = inr (subst IsSome (sym s.its_end) over, last_lost held held' board.bus.console.kept board'.bus.console.kept r.world.given some lost s.world.given);
-    }
 
 pub by_done : {T E A C : Type 0} {B : E → Type 0} (result : Result T E) → OnOk result A → IfErr result B →
     ((x : T) → result ≡ Ok x → A → C) → ((e : E) → result ≡ Err e → B e → C) → C
@@ -104,117 +72,35 @@ module _ {M State : Type 0} (state : M → State) (m : Meaning State) (words : L
       ((r : MicroRun State) → ShowsRun state left held board r → (bounded m bound r).end ≡ None) →
       IsLedTo state left0 held0 board0 left' board' (λ r rest. (n : ℕ) × Along n r × Leads state m words bound board' board0.buses rest n r (IsCutByRead state m words bound left' held' board'))
   Leads-read not_ended cut on =
-      IsLedTo-stays state left0 held0 board0 left left' board board' _ cut.world.untaken cut.world.ended
-      (IsLedTo-map state left0 held0 board0 left board _ _
-      (λ r rest at. (
-        at.0,
-        at.1,
-        let q = turns m words bound at.0 r in
-            let here = at.2.here in
-            record {
-              here = record {
-                its_state = here.its_state ∙ sym cut.its_state;
-                world = cut.world.same (λ e. cc) q.world here.world;
-                counts = here.counts ∙ sym cut.counts;
-                kept = cut.world.emptied tt;
-                next = record { running = on q here; no_end = (λ i. end_before m (here.its_state i) (here.counts i)) ∙ cut.no_end };
-                reads = same_step m (λ (word : ℕ) (s : State). ReadsConsole m word s q.world) board.store.words words (state board.machine) q.state program here.its_state (cut.reads refl q.world here.world);
-              };
-              untaken = at.2.untaken;
-              buses = cut.buses ∙ at.2.buses;
-            },
-      ))
-      led)
+      Leads-flushed state m words bound left0 held0 board0 Along left held board left' board' led (IsCutByRead state m words bound left' held' board') cut.world.untaken cut.world.ended cut.buses
+      (λ q here. record {
+        its_state = here.its_state ∙ sym cut.its_state;
+        world = cut.world.same (λ e. cc) q.world here.world;
+        counts = here.counts ∙ sym cut.counts;
+        kept = cut.world.emptied tt;
+        next = record { running = on q here; no_end = (λ i. end_before m (here.its_state i) (here.counts i)) ∙ cut.no_end };
+        reads = same_step m (λ (word : ℕ) (s : State). ReadsConsole m word s q.world) board.store.words words (state board.machine) q.state program here.its_state (cut.reads refl q.world here.world);
+      })
 
   -- a failing sink cuts the run
   pub Leads-write : board.end ≡ None → IsCut state m left held board left' held' board' faults.WriteFault →
       ((r : MicroRun State) → ShowsRun state left held board r → (bounded m bound r).end ≡ None) →
       IsLedTo state left0 held0 board0 left' board' (λ r rest. (n : ℕ) × Along n r × Leads state m words bound board' board0.buses rest n r (IsCutByWrite state m words bound left' held' board'))
   Leads-write not_ended cut on =
-      IsLedTo-stays state left0 held0 board0 left left' board board' _ cut.world.untaken cut.world.ended
-      (IsLedTo-map state left0 held0 board0 left board _ _
-      (λ r rest at. (
-        at.0,
-        at.1,
-        let q = turns m words bound at.0 r in
-            let here = at.2.here in
-            record {
-              here = record {
-                its_state = here.its_state ∙ sym cut.its_state;
-                memory = here.world.words ∙ sym cut.world.words;
-                untaken = subst (λ (o : Option (List ℕ)). Untaken o board'.bus.console.ended q.world.untaken) (sym cut.world.untaken)
-                    (subst (λ (b : Bool). Untaken left b q.world.untaken) (sym cut.world.ended) here.world.untaken);
-                counts = here.counts ∙ sym cut.counts;
-                kept = cut.world.emptied tt;
-                front = front_lost held held' board.bus.console.kept board'.bus.console.kept q.world.given (cut.world.lost refl) here.world.given;
-                next = inl (
-                  record { running = on q here; no_end = (λ i. end_before m (here.its_state i) (here.counts i)) ∙ cut.no_end },
-                  same_step m (λ (word : ℕ) (s : State). UsesConsole m word s q.world) board.store.words words (state board.machine) q.state program here.its_state (cut.uses refl q.world here.world),
-                );
-              };
-              untaken = at.2.untaken;
-              buses = cut.buses ∙ at.2.buses;
-            },
-      ))
-      led)
-
-  -- a flush leaves the run
-  pub Leads-flushed : left' ≡ left → board'.bus.console.ended ≡ board.bus.console.ended → board'.buses ≡ board.buses →
-      ((r : MicroRun State) → ShowsRun state left held board r → ShowsRun state left' held' board' r) →
-      IsLedTo state left0 held0 board0 left' board' (λ r rest. (n : ℕ) × Along n r × Leads state m words bound board' board0.buses rest n r (ShowsRun state left' held' board'))
-  Leads-flushed same_left same_ended same_buses shows =
-      IsLedTo-stays state left0 held0 board0 left left' board board' _ same_left same_ended
-      (IsLedTo-map state left0 held0 board0 left board _ _
-      (λ r rest at. (at.0, at.1, record { here = shows (turns m words bound at.0 r) at.2.here; untaken = at.2.untaken; buses = same_buses ∙ at.2.buses }))
-      led)
-
-  -- a last flush that fails cuts an ended run
-  pub Leads-lost : IsSome board.end → board.bus.console.kept ≢ [] → left' ≡ left → state board'.machine ≡ state board.machine → board'.counts ≡ board.counts →
-      board'.bus.words ≡ board.bus.words → board'.bus.console.ended ≡ board.bus.console.ended → board'.buses ≡ board.buses →
-      IsLost held board.bus.console.kept held' board'.bus.console.kept →
-      IsLedTo state left0 held0 board0 left' board' (λ r rest. (n : ℕ) × Along n r × Leads state m words bound board' board0.buses rest n r (IsCutByWrite state m words bound left' held' board'))
-  Leads-lost over some same_left same_state same_counts same_words same_ended same_buses lost =
-      IsLedTo-stays state left0 held0 board0 left left' board board' _ same_left same_ended
-      (IsLedTo-map state left0 held0 board0 left board _ _
-      (λ r rest at. (
-        at.0,
-        at.1,
-        record {
-          here = IsCutByWrite-lost state m words bound left left' held held' board board' (turns m words bound at.0 r) at.2.here over some same_left same_state same_counts same_words same_ended lost;
-          untaken = at.2.untaken;
-          buses = same_buses ∙ at.2.buses;
-        },
-      ))
-      led)
-
-module _ {M State : Type 0} (state : M → State) (m : Meaning State) (bound : Option ℕ) (left0 held0 : Option (List ℕ)) (board0 : BoardView M)
-    (left held : Option (List ℕ)) (board : BoardView M) (left' : Option (List ℕ)) (board' : BoardView M)
-    (H : List ℕ → MicroRun State → Type 0) where
-  -- turns that lead to a board, and turns on from there
-  pub Leads-on : (words : List ℕ) → board.store.words ≡ words →
-      IsLedTo state left0 held0 board0 left board (λ r rest. (n : ℕ) × Leads state m words bound board board0.buses rest n r (ShowsRun state left held board)) →
-      IsLedTo state left held board left' board' (λ r rest. (n : ℕ) × Leads state m board.store.words bound board' board.buses rest n r (H board.store.words)) →
-      IsLedTo state left0 held0 board0 left' board' (λ r rest. (n : ℕ) × Leads state m words bound board' board0.buses rest n r (H words))
-  Leads-on words program first next rest fits =
-      let next' = subst
-      (λ (ws : List ℕ). IsLedTo state left held board left' board' (λ r rest. (n : ℕ) × Leads state m ws bound board' board.buses rest n r (H ws)))
-      program next in
-      let there = next' rest fits in
-      let far = first there.0 there.1 in (
-        far.0,
-        far.1,
-        λ r s e.
-            let at = far.2 r s e in
-            let on = there.2 (turns m words bound at.0 r) at.1.here at.1.untaken in
-            let is : turns m words bound (at.0 + on.0) r ≡ turns m words bound on.0 (turns m words bound at.0 r) = turns-plus m words bound at.0 on.0 r in (
-              at.0 + on.0,
-              record {
-                here = subst (H words) (sym is) on.1.here;
-                untaken = ap (λ (x : MicroRun State). x.world.untaken) is ∙ on.1.untaken;
-                buses = on.1.buses ∙ (ap (λ (b : Buses). buses m words bound on.0 (turns m words bound at.0 r) b) at.1.buses ∙ sym (buses-plus m words bound at.0 on.0 r board0.buses));
-              },
-            ),
-      )
+      Leads-flushed state m words bound left0 held0 board0 Along left held board left' board' led (IsCutByWrite state m words bound left' held' board') cut.world.untaken cut.world.ended cut.buses
+      (λ q here. record {
+        its_state = here.its_state ∙ sym cut.its_state;
+        memory = here.world.words ∙ sym cut.world.words;
+        untaken = subst (λ (o : Option (List ℕ)). Untaken o board'.bus.console.ended q.world.untaken) (sym cut.world.untaken)
+            (subst (λ (b : Bool). Untaken left b q.world.untaken) (sym cut.world.ended) here.world.untaken);
+        counts = here.counts ∙ sym cut.counts;
+        kept = cut.world.emptied tt;
+        front = front_lost held held' board.bus.console.kept board'.bus.console.kept q.world.given (cut.world.lost refl) here.world.given;
+        next = inl (
+          record { running = on q here; no_end = (λ i. end_before m (here.its_state i) (here.counts i)) ∙ cut.no_end },
+          same_step m (λ (word : ℕ) (s : State). UsesConsole m word s q.world) board.store.words words (state board.machine) q.state program here.its_state (cut.uses refl q.world here.world),
+        );
+      })
 
 pub IsReached-compose : {M State : Type 0} (state : M → State) (m : Meaning State) (left held left' held' left'' held'' : Option (List ℕ)) (bound : Option ℕ)
     (a b c : BoardView M) → b.store ≡ a.store → IsReached state m left held a left' held' b bound → IsReached state m left' held' b left'' held'' c bound →

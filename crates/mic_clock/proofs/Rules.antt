@@ -9,8 +9,7 @@ use Rattle.mic_clock.specs.declared.counts.Counts.{Counts}
 use Rattle.mic_clock.specs.declared.end.End.{End}
 use Rattle.mic_clock.specs.declared.end.End.TheVariants as ends
 use Rattle.mic_clock.specs.declared.end.Tick.TheVariants as ticks
-use Rattle.mic_clock.specs.Prelude.{tick_of, Meaning, Outcome, Done, Refused, MicroRun, number_of, since, completes, end_by, counts_ended, counts_after, counts_at, counts_between, end_before, word_at, after_step, after_end_or_step, turn, turn_by, EndsBefore, CountsEnd, CountsCycle, EndsAt, StepsTo, IsTurn}
-use Rattle.mic_clock.proofs.Turns.{turn_by_ended}
+use Rattle.mic_clock.specs.Prelude.{tick_of, Meaning, Outcome, Done, Refused, MicroRun, number_of, since, completes, end_by, counts_ended, counts_after, counts_at, counts_between, end_before, word_at, after_step, after_end_or_step, turn, turn_by, turn_by_ended, EndsBefore, CountsEnd, CountsCycle, EndsAt, StepsTo, IsTurn}
 
 module _ (mpc : ℕ) (c : Counts) where
   abbrev ends_by_tests : Bool → Bool → Bool → Option End

@@ -1,11 +1,10 @@
 -- Turns of a run.
-use Rattle.std.proofs.Common.{◌≡◌, ◌≢◌, ◌+◌, ◌∙◌, ap, zero, suc, zero-add, suc-add, add-zero, add-suc, add_comm, ℕ, List, Bool, Option, Some, None, IsSome, refl, sym, subst, rules}
-use Rattle.std.specs.Fn.{iterate}
+use Rattle.std.proofs.Common.{◌≡◌, ◌≢◌, ◌∙◌, ap, add_comm, ℕ, List, Bool, Option, Some, None, IsSome, refl, sym, subst}
 use Rattle.console_port.specs.Prelude.{World, fault_of, Shows, Stands, IsLed, IsFault, Untaken}
 use Rattle.console_port.specs.declared.fault.BusFault.{BusFault}
 use Rattle.console_port.specs.declared.fault.BusFault.TheVariants as faults
 use Rattle.mic_clock.specs.declared.end.End.{End}
-use Rattle.mic_clock.specs.Prelude.{Meaning, Outcome, Done, Refused, refusal_in, MicroRun, Buses, word_at, end_by, end_before, counts_after, after_step, after_end_or_step, turn, turn_by, turns, buses, buses_of, bounded, bounded_by, BoardView, ShowsRun, IsLedTo, NoFault}
+use Rattle.mic_clock.specs.Prelude.{Meaning, Outcome, Done, Refused, refusal_in, MicroRun, word_at, end_by, end_before, counts_after, after_step, after_end_or_step, turn, turn_by, turns, turns-stay, BoardView, ShowsRun, IsLedTo, NoFault}
 
 -- a refusal ended the board, and no fault did
 pub no_fault : (e : BusFault) → NoFault None (Some (end_by e)) → IsFault e → ⊥
@@ -78,64 +77,8 @@ led-done state m left held left' held' board board' not_ended no_end led counted
           ),
     )
 
--- Turns counted from the last one.
-iterate-suc : {A : Type 0} (h : A → A) (n : ℕ) (x : A) → iterate h (suc n) x ≡ h (iterate h n x)
-iterate-suc h zero x = refl
-iterate-suc h (suc n) x = iterate-suc h n (h x)
-
-pub bounded-world : {State : Type 0} (m : Meaning State) (bound : Option ℕ) (r : MicroRun State) → (bounded m bound r).world ≡ r.world
-bounded-world m None r = refl
-bounded-world m (Some bound) r = by_end r.end
-  where
-    by_end : (e : Option End) → (bounded_by m e bound r).world ≡ r.world
-    by_end (Some e) = refl
-    by_end None = search rules
-
--- an ended run stays
-pub turn_by_ended : {State : Type 0} (m : Meaning State) (words : List ℕ) (end : Option End) (r : MicroRun State) → IsSome end → turn_by m words end r ≡ r
-turn_by_ended m words (Some e) r h = refl
-turn_by_ended m words None r h = cc
-
-bounded_by_ended : {State : Type 0} (m : Meaning State) (bound : ℕ) (end : Option End) (r : MicroRun State) → IsSome end → bounded_by m end bound r ≡ r
-bounded_by_ended m bound (Some e) r h = refl
-bounded_by_ended m bound None r h = cc
-
-bounded_ended : {State : Type 0} (m : Meaning State) (bound : Option ℕ) (r : MicroRun State) → IsSome r.end → bounded m bound r ≡ r
-bounded_ended m None r h = refl
-bounded_ended m (Some bound) r h = bounded_by_ended m bound r.end r h
-
-module _ {State : Type 0} (m : Meaning State) (words : List ℕ) (bound : Option ℕ) (r : MicroRun State) where
-  pub turns-suc : (n : ℕ) → turns m words bound (suc n) r ≡ turn m words (bounded m bound (turns m words bound n r))
-  turns-suc n = iterate-suc (λ (x : MicroRun State). turn m words (bounded m bound x)) n r
-
-  turns-still : (n : ℕ) → IsSome (turns m words bound n r).end → turns m words bound (suc n) r ≡ turns m words bound n r
-  turns-still n h =
-      let t : MicroRun State = turns m words bound n r in
-      let same : bounded m bound t ≡ t = bounded_ended m bound t h in
-      turns-suc n ∙ (ap (λ (x : MicroRun State). turn m words x) same ∙ turn_by_ended m words t.end t h)
-
-  turns-add : (k n : ℕ) → IsSome (turns m words bound n r).end → turns m words bound (k + n) r ≡ turns m words bound n r
-  turns-add zero n h = ap (λ (x : ℕ). turns m words bound x r) (zero-add n)
-  turns-add (suc k) n h =
-      let before : turns m words bound (k + n) r ≡ turns m words bound n r = turns-add k n h in
-      ap (λ (x : ℕ). turns m words bound x r) (suc-add k n)
-      ∙ (turns-still (k + n) (subst (λ (x : MicroRun State). IsSome x.end) (sym before) h) ∙ before)
-
-  -- two ended runs from one start are the same
-  pub turns-one_end : (n k : ℕ) → IsSome (turns m words bound n r).end → IsSome (turns m words bound k r).end →
-      turns m words bound n r ≡ turns m words bound k r
-  turns-one_end n k h i = sym (turns-add k n h) ∙ (ap (λ (x : ℕ). turns m words bound x r) (add_comm k n) ∙ turns-add n k i)
-
--- turns and their bus values, counted from the first one
-module _ {State : Type 0} (m : Meaning State) (words : List ℕ) (bound : Option ℕ) where
-  pub turns-plus : (n k : ℕ) (r : MicroRun State) → turns m words bound (n + k) r ≡ turns m words bound k (turns m words bound n r)
-  turns-plus zero k r = ap (λ (x : ℕ). turns m words bound x r) (zero-add k)
-  turns-plus (suc n) k r = ap (λ (x : ℕ). turns m words bound x r) (suc-add n k) ∙ turns-plus n k (turn m words (bounded m bound r))
-
-  pub buses-plus : (n k : ℕ) (r : MicroRun State) (old : Buses) → buses m words bound (n + k) r old ≡ buses m words bound k (turns m words bound n r) (buses m words bound n r old)
-  buses-plus n zero r old = ap (λ (x : ℕ). buses m words bound x r old) (add-zero n)
-  buses-plus n (suc k) r old =
-      let last : turns m words bound (suc (n + k)) r ≡ turns m words bound (suc k) (turns m words bound n r) =
-      ap (λ (x : ℕ). turns m words bound x r) (sym (add-suc n k)) ∙ turns-plus n (suc k) r in
-      ap (λ (x : ℕ). buses m words bound x r old) (add-suc n k)
-      ∙ (λ i. buses_of m words (turns-plus n k r i).state (buses-plus n k r old i) (last i).end)
+-- two ended runs from one start are the same
+pub turns-one_end : {State : Type 0} (m : Meaning State) (words : List ℕ) (bound : Option ℕ) (r : MicroRun State) (n k : ℕ) →
+    IsSome (turns m words bound n r).end → IsSome (turns m words bound k r).end → turns m words bound n r ≡ turns m words bound k r
+turns-one_end m words bound r n k h i =
+    sym (turns-stay m words bound r k n h) ∙ (ap (λ (x : ℕ). turns m words bound x r) (add_comm k n) ∙ turns-stay m words bound r n k i)

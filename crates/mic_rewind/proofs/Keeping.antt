@@ -1,10 +1,9 @@
 -- What a history keeps of a board that was clocked.
 use Rattle.std.proofs.Common.{◌≡◌, ◌∙◌, sym, ap, subst, refl, ℕ, zero, suc, ◌≤◌, ◌+◌, ◌-◌, ◌++◌, drop, length, arith, rules, Bool, true, false, if◌then◌else◌, List, [], ◌∷◌, Option, Some, None, IsSome, slice_get}
 use Rattle.console_port.specs.Prelude.{ChangesOnly}
-use Rattle.mic_clock.specs.Prelude.{Meaning, BoardView, end_by, EndsUncounted, GoesOn, IsCounted}
+use Rattle.mic_clock.specs.Prelude.{Meaning, BoardView, EndsUncounted, IsCounted}
 use Rattle.mic_clock.specs.declared.counts.Counts.{Counts}
 use Rattle.mic_clock.specs.declared.end.End.{End}
-use Rattle.mic_clock.specs.declared.end.End.TheVariants as ends
 use Rattle.mic_rewind.specs.declared.moment.Moment.{Moment}
 use Rattle.mic_rewind.specs.Prelude.{Snapshot, stored, GoesBack, HistoryView, appended, HasAddress, HaveAddresses, IsRewind, moment_of, state_of, newest, last_of}
 use Rattle.mic_rewind.proofs.Changes.{stored_is}
@@ -12,26 +11,6 @@ use Rattle.mic_rewind.proofs.Changes.{stored_is}
 pub emptied : (ss : List Snapshot) → length ss ≤ 0 → ss ≡ []
 emptied [] l = refl
 emptied (s ∷ ss) l = grind arith
-
--- a board that is left alone goes on, with its source and its sink
-pub still : {S K M : Type 0} (left : S → Option (List ℕ)) (source_faults : S → ℕ) (held passed : K → Option (List ℕ)) (sink_faults : K → ℕ)
-    (source : S) (sink : K) (board : BoardView M) → GoesOn left source_faults held passed sink_faults source sink board source sink board
-still left source_faults held passed sink_faults source sink board =
-    record {
-      ended = λ e is. (refl, refl, refl);
-      kept = λ e none fault is. let no : None ≡ Some (end_by e) = sym none ∙ is in absurd (cc);
-      store = refl;
-      source_goes_on = record { asked_no_more = λ is. (is, refl); tells_left = λ h. h };
-      sink_goes_on = record { keeps = λ front h. h; tells = λ h. h; flushed = λ fails h. h };
-      cause = record {
-        source_later = omega arith;
-        sink_later = omega arith;
-        read = λ none is. let no : None ≡ Some ends.ReadFault = sym none ∙ is in absurd (cc);
-        write = λ none is. let no : None ≡ Some ends.WriteFault = sym none ∙ is in absurd (cc);
-        source_same = λ h. refl;
-        sink_same = λ h. refl;
-      };
-    }
 
 -- ---- MPC is an address in each state
 

@@ -1,4 +1,3 @@
 pub mod Turns
 pub mod Shown
 pub mod Saying
-pub mod GoesOn

@@ -1,15 +1,13 @@
 -- The cycles between boards of a run.
-use Rattle.std.proofs.Common.{◌≡◌, ◌≢◌, ◌≤◌, inl, inr, ℕ, zero, suc, ◌+◌, List, [], ◌∷◌, ◌++◌, Bool, Option, Some, None, IsSome, refl, sym, ◌∙◌, ap, subst, take, drop, append_assoc}
-use Rattle.std.proofs.Math.ListN.{take-append-drop}
-use Rattle.std.specs.Prelude.{IfSome}
-use Rattle.console_port.specs.Prelude.{IsLost, Given, LosesLast, Untaken}
+use Rattle.std.proofs.Common.{◌≡◌, ◌≢◌, ◌≤◌, inl, inr, ℕ, zero, suc, List, [], ◌∷◌, ◌++◌, Option, Some, None, IsSome, refl, sym, ◌∙◌, ap, subst}
+use Rattle.console_port.specs.Prelude.{IsLost}
 use Rattle.mic_clock.specs.declared.counts.Counts.{Counts}
 use Rattle.mic_clock.specs.declared.end.End.{End}
 use Rattle.mic_clock.specs.declared.end.End.TheVariants as ends
-use Rattle.mic_clock.specs.Prelude.{Meaning, BoardView, MicroRun, Buses, last_cycles, word_at, turn, turns, buses, bounded, buses_of, ShowsRun, ShowsAs, IsLedTo, IsCutAt, IsCutByRead, Leads, NoFault, IsTurned, RunIsCutByRead, TurnIsCut, IsCountedTurn}
+use Rattle.mic_clock.specs.Prelude.{Meaning, BoardView, MicroRun, last_cycles, word_at, turn, turns, bounded, buses_of, ShowsRun, ShowsAs, IsLedTo, IsCutAt, IsCutByRead, IsCutByWrite-lost, Leads, Leads-along, Leads-flushed, NoFault, IsTurned, RunIsCutByRead, TurnIsCut, IsCountedTurn}
 use Rattle.mic_watched.specs.declared.cycle.Cycle.{Cycle}
 use Rattle.mic_watched.specs.Prelude.{shown_where, cycle_between, shown, cycles_of, boundary_in, boundary_of, cycle_on, shown_on, LeadsOver, ShowsCycles}
-use Rattle.mic_watched.proofs.Turns.{turns-plus, buses-plus, cycles-plus, cycles-none, boundary-counted}
+use Rattle.mic_watched.proofs.Turns.{cycles-plus, cycles-none, boundary-counted}
 
 where_same : (end : Option End) (c d : Cycle) → (end ≡ None → c ≡ d) → shown_where end c ≡ shown_where end d
 where_same (Some e) c d same = refl
@@ -113,29 +111,11 @@ module _ {M State : Type 0} (state : M → State) (m : Meaning State) (bound : �
       LeadsOver state m bound left0 held0 board0 left held board cs (ShowsRun state left held board) →
       LeadsOver state m bound left held board left' held' board' ds (H board.store.words) →
       LeadsOver state m bound left0 held0 board0 left' held' board' (cs ++ ds) (H board0.store.words)
-  over_then H cs ds program first next rest fits =
+  over_then H cs ds program first next =
       let words = board0.store.words in
-      let b = Some bound in
-      let next' = subst
-      (λ (ws : List ℕ). IsLedTo state left held board left' board' (λ r rest. (n : ℕ) × (cycles_of m ws (Some bound) n r ≡ ds) × Leads state m ws (Some bound) board' board.buses rest n r (H ws)))
-      program next in
-      let there = next' rest fits in
-      let far = first there.0 there.1 in (
-        far.0,
-        far.1,
-        λ r s e.
-            let at = far.2 r s e in
-            let on = there.2 (turns m words (Some bound) at.0 r) at.2.here at.2.untaken in
-            let is : turns m words (Some bound) (at.0 + on.0) r ≡ turns m words (Some bound) on.0 (turns m words (Some bound) at.0 r) = turns-plus m words (Some bound) at.0 on.0 r in (
-              at.0 + on.0,
-              cycles-plus m words (Some bound) at.0 on.0 r ∙ (λ i. at.1 i ++ on.1 i),
-              record {
-                here = subst (H words) (sym is) on.2.here;
-                untaken = ap (λ (x : MicroRun State). x.world.untaken) is ∙ on.2.untaken;
-                buses = on.2.buses ∙ (ap (λ (x : Buses). buses m words (Some bound) on.0 (turns m words (Some bound) at.0 r) x) at.2.buses ∙ sym (buses-plus m words (Some bound) at.0 on.0 r board0.buses));
-              },
-            ),
-      )
+      Leads-along state m (Some bound) left0 held0 board0 left held board left' board' H words program
+      (λ n r. cycles_of m words (Some bound) n r ≡ cs) (λ n r. cycles_of m words (Some bound) n r ≡ cs ++ ds) (λ ws n r. cycles_of m ws (Some bound) n r ≡ ds)
+      (λ n k r a s b. cycles-plus m words (Some bound) n k r ∙ (λ i. a i ++ b i)) first next
 
   pub shows-then : (cs ds : List Cycle) → board.store.words ≡ board0.store.words → board.end ≡ None →
       ShowsCycles state m bound left0 held0 board0 left held board cs board.end →
@@ -149,33 +129,15 @@ module _ {M State : Type 0} (state : M → State) (m : Meaning State) (bound : �
         write = λ p. over_then (λ (ws : List ℕ) (r : MicroRun State). IsCutAt state m ws bound left' held' board' r) cs ds program led (next.write p);
       }
 
--- a sink that lost the end of what was kept has a front of what was given
-pub front_lost : (held held' : Option (List ℕ)) (kept kept' given : List ℕ) → IsLost held kept held' kept' → Given held kept given →
-    IfSome held' (λ h. (more : List ℕ) × (given ≡ h ++ more))
-front_lost None held' kept kept' given lost told = subst (λ o. IfSome o (λ h. (more : List ℕ) × (given ≡ h ++ more))) (sym lost.prefix.1) tt
-front_lost (Some h) held' kept kept' given lost told =
-    subst (λ o. IfSome o (λ h. (more : List ℕ) × (given ≡ h ++ more))) (sym lost.prefix.1)
-    (drop lost.prefix.0 kept, told ∙ ap (λ (k : List ℕ). h ++ k) (sym (take-append-drop lost.prefix.0 kept)) ∙ sym (append_assoc h (take lost.prefix.0 kept) (drop lost.prefix.0 kept)))
-
--- where something was kept, it is the last that was given
-last_lost : (held held' : Option (List ℕ)) (kept kept' given : List ℕ) → kept ≢ [] → IsLost held kept held' kept' → Given held kept given → LosesLast held' given
-last_lost None held' kept kept' given some lost told = subst (λ o. LosesLast o given) (sym lost.prefix.1) tt
-last_lost (Some h) held' kept kept' given some lost told = subst (λ o. LosesLast o given) (sym lost.prefix.1) (h, kept, lost.prefix.0, some, told, refl)
-
 module _ {M State : Type 0} (state : M → State) (m : Meaning State) (bound : ℕ) (left0 held0 : Option (List ℕ)) (board0 : BoardView M)
     (left held : Option (List ℕ)) (board : BoardView M) (held' : Option (List ℕ)) (board' : BoardView M) (cs : List Cycle)
     (same : board' ≡ record board { bus = board'.bus }) (input : board'.bus.console.ended ≡ board.bus.console.ended) where
   -- a flush after the last turn leads nowhere else
-  over_flush : (H H' : MicroRun State → Type 0) → ((r : MicroRun State) → H r → H' r) →
-      LeadsOver state m bound left0 held0 board0 left held board cs H → LeadsOver state m bound left0 held0 board0 left held' board' cs H'
-  over_flush H H' f led rest fits =
-      let far = led rest (subst (λ (b : Bool). Untaken left b rest) input fits) in (
-        far.0,
-        far.1,
-        λ r s e.
-            let at = far.2 r s e in
-            (at.0, at.1, record { here = f (turns m board0.store.words (Some bound) at.0 r) at.2.here; untaken = at.2.untaken; buses = ap (λ (b : BoardView M). b.buses) same ∙ at.2.buses }),
-      )
+  over_flush : (H : MicroRun State → Type 0) → ((r : MicroRun State) → ShowsRun state left held board r → H r) →
+      LeadsOver state m bound left0 held0 board0 left held board cs (ShowsRun state left held board) → LeadsOver state m bound left0 held0 board0 left held' board' cs H
+  over_flush H f led =
+      Leads-flushed state m board0.store.words (Some bound) left0 held0 board0 (λ n r. cycles_of m board0.store.words (Some bound) n r ≡ cs) left held board left board' led
+      H refl input (ap (λ (b : BoardView M). b.buses) same) f
 
   -- where the flush is done
   pub flush-done : ShowsAs state held board held' board' (λ r. r) → (kept : board.bus.console.kept ≡ [] → (board' ≡ board) × (held' ≡ held)) →
@@ -187,7 +149,7 @@ module _ {M State : Type 0} (state : M → State) (m : Meaning State) (bound : �
       subst (λ (b : BoardView M). ShowsCycles state m bound left0 held0 board0 left held' b cs board.end) (sym is.0)
       (subst (λ (h : Option (List ℕ)). ShowsCycles state m bound left0 held0 board0 left h board cs board.end) (sym is.1) first) in
       record {
-        run = λ q. over_flush (ShowsRun state left held board) (ShowsRun state left held' board') (λ r s. shows left r s) (first.run q);
+        run = λ q. over_flush (ShowsRun state left held' board') (λ r s. shows left r s) (first.run q);
         read = λ p. (unchanged (empty_read p)).read p;
         write = λ p. (unchanged (empty_write p)).write p;
       }
@@ -200,24 +162,9 @@ module _ {M State : Type 0} (state : M → State) (m : Meaning State) (bound : �
       record {
         run = λ q. absurd q;
         read = λ p. cc;
-        write = λ p. over_flush (ShowsRun state left held board) (IsCutAt state m board0.store.words bound left held' board')
+        write = λ p. over_flush (IsCutAt state m board0.store.words bound left held' board')
             (λ r s. record {
-              cut = record {
-                its_state = s.its_state ∙ sym (its State (λ b. state b.machine));
-                memory = s.world.words ∙ sym memory;
-                untaken = subst (λ (b : Bool). Untaken left b r.world.untaken) (sym input) s.world.untaken;
-                counts = s.counts ∙ sym (its Counts (λ b. b.counts));
-                kept = lost.emptied;
-                front = front_lost held held' board.bus.console.kept board'.bus.console.kept r.world.given lost s.world.given;
-                next = inr (subst IsSome (sym s.its_end) over, last_lost held held' board.bus.console.kept board'.bus.console.kept r.world.given some lost s.world.given);
-              };
+              cut = IsCutByWrite-lost state m board0.store.words (Some bound) left left held held' board board' r s over some refl (its State (λ b. state b.machine)) (its Counts (λ b. b.counts)) memory input lost;
               its_end = inl (s.its_end ∙ sym (its (Option End) (λ b. b.end)));
             }) (first.run plain);
       }
-
--- a run that ended by neither fault had no fault
-pub no_fault : (end : Option End) → end ≢ Some ends.ReadFault → end ≢ Some ends.WriteFault → NoFault None end
-no_fault None read write = tt
-no_fault (Some ends.ReadFault) read write = absurd (read refl)
-no_fault (Some ends.WriteFault) read write = absurd (write refl)
-no_fault (Some e) read write = tt

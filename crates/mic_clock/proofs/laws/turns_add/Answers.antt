@@ -1,4 +1,4 @@
-use Rattle.mic_clock.proofs.Turns.{turns-plus}
+use Rattle.mic_clock.specs.Prelude.{turns-plus}
 use Rattle.mic_clock.proofs.laws.turns_add.Goals as goal
 
 pub returns : goal.returns

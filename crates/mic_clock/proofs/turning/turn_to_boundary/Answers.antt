@@ -1,12 +1,11 @@
 use Rattle.std.proofs.Common.{◌≡◌, ◌≤◌, ◌+◌, ℕ, suc, Option, None, false, inl, refl, sym, ◌∙◌, ap, subst, rules, arith}
 use Rattle.console_port.specs.declared.fault.BusFault.TheVariants as faults
 use Rattle.micro_word.specs.Prelude.{ControlStore}
-use Rattle.mic_clock.specs.Prelude.{MicroRun, IsLeg, word_at, last_cycles, BoardView, NoFault, IsTurned, IsCutByFault, GoesOn, InTime, board_of, ChangesByTurn}
+use Rattle.mic_clock.specs.Prelude.{MicroRun, IsLeg, word_at, last_cycles, BoardView, NoFault, IsTurned, IsCutByFault, GoesOn, InTime, board_of, ChangesByTurn, IsLedTo-map, goes-then}
 use Rattle.mic_clock.specs.declared.running.Running.{Running}
 use Rattle.mic_clock.proofs.InTime.{InTime-step, InLeg-step}
-use Rattle.mic_clock.proofs.GoesOn.{GoesOn-step}
 use Rattle.mic_clock.proofs.Legs.{leg-start, leg-inside}
-use Rattle.mic_clock.proofs.Reach.{IsLedTo-map, Leads-turn, Leads-read, Leads-write}
+use Rattle.mic_clock.proofs.Reach.{Leads-turn, Leads-read, Leads-write}
 use Rattle.mic_clock.proofs.turning.turn_to_boundary.Goals as goal
 
 pub inside-init : goal.inside-init
@@ -86,7 +85,7 @@ inside-preserved g c =
           not_ended (c.turn_once-in-inside.ensures.cut faults.ReadFault not_ended tt p) (λ r s. s.its_end ∙ not_ended);
       write = λ p. Leads-write state m words None left0 held0 first Along left held old left' held' new program led
           not_ended (c.turn_once-in-inside.ensures.cut faults.WriteFault not_ended tt p) (λ r s. s.its_end ∙ not_ended);
-      goes_on = GoesOn-step _ _ _ _ _ _ _ first _ _ old _ _ new first_not_ended not_ended c.inside.invariant.goes_on c.turn_once-in-inside.ensures.goes_on;
+      goes_on = goes-then first_not_ended c.inside.invariant.goes_on not_ended c.turn_once-in-inside.ensures.goes_on;
       in_leg = InLeg-step m first.counts old.counts new.counts (m.drives (word_at m old.store.words (state old.machine)) (state old.machine)).stalled (state new.machine) new.end
           c.inside.invariant.in_leg.within (c.inside.invariant.in_leg.same not_ended no_boundary) later
           c.turn_once-in-inside.ensures.changes.counted.still c.turn_once-in-inside.ensures.changes.counted.room (λ q. (c.turn_once-in-inside.ensures.changes.counted.clocked q).1);

@@ -3,10 +3,9 @@ use Rattle.std.proofs.lemmas.Result.{err_from_is_err_and}
 use Rattle.console_port.specs.declared.fault.BusFault.TheVariants as faults
 use Rattle.mic_clock.specs.declared.end.End.{End}
 use Rattle.mic_clock.specs.declared.end.End.TheVariants as ends
-use Rattle.mic_clock.specs.Prelude.{BoardView, NoFault}
+use Rattle.mic_clock.specs.Prelude.{BoardView, GoesOn, NoFault, cause-flushed, cause-lost, goes-flushed, no_fault}
 use Rattle.mic_watched.specs.Prelude.{ShowsCycles}
-use Rattle.mic_watched.proofs.Shown.{flush-done, flush-lost, no_fault}
-use Rattle.mic_watched.proofs.GoesOn.{cause-flushed, cause-lost, goes-flushed, goes-until}
+use Rattle.mic_watched.proofs.Shown.{flush-done, flush-lost}
 use Rattle.mic_watched.proofs.run.run_watched.Goals as goal
 
 pub returns-in_err-watch_turns-clause-watched : goal.returns-in_err-watch_turns-clause-watched
@@ -23,7 +22,9 @@ returns-in_err-watch_turns-clause-watched g c =
 pub returns-in_err-watch_turns-clause-goes_on : goal.returns-in_err-watch_turns-clause-goes_on
 returns-in_err-watch_turns-clause-goes_on g c =
     let p = err_from_is_err_and c.from_residual.result c.from_residual.ensures.1 in
-    rw p.1 (goes-until c.requires.board.not_ended c.in_err-watch_turns.ensures.goes_on None c.in_err-watch_turns.ensures.not_ended)
+    rw p.1
+    (subst (λ (e : Option End). GoesOn g.S.Source.left g.S.Source.faults g.K.Sink.held g.K.Sink.passed g.K.Sink.faults c.args.source.now c.args.sink.now c.args.board.now
+    c.watch_turns.new.source c.watch_turns.new.sink (record c.watch_turns.new.board { end = e })) c.in_err-watch_turns.ensures.not_ended c.in_err-watch_turns.ensures.goes_on)
 
 pub returns-in-Ok-clause-watched : goal.returns-in-Ok-clause-watched
 returns-in-Ok-clause-watched g c =
@@ -61,7 +62,7 @@ returns-in-Err-clause-watched g c =
     let w = c.in_ok-watch_turns.ensures.watched in
     let kept : mid.bus.console.kept ≡ [] → ⊥ = λ none. let done = (c.in-Err.ensures.empty none).0 in cc in
     let plain : NoFault None mid.end =
-    no_fault mid.end (λ p. kept (c.in_ok-watch_turns.ensures.goes_on.kept faults.ReadFault c.requires.board.not_ended tt p)) (λ p. kept (c.in_ok-watch_turns.ensures.goes_on.kept faults.WriteFault c.requires.board.not_ended tt p)) in
+    no_fault None mid.end (λ n p. kept (c.in_ok-watch_turns.ensures.goes_on.kept faults.ReadFault c.requires.board.not_ended tt p)) (λ n p. kept (c.in_ok-watch_turns.ensures.goes_on.kept faults.WriteFault c.requires.board.not_ended tt p)) in
     record {
       cycles = w.cycles;
       run = flush-lost state m c.args.bound left0 held0 c.args.board.now left held mid held' new w.cycles c.flush.ensures.same.0 c.flush.ensures.same.1.1
@@ -86,7 +87,7 @@ returns-in-Err-clause-goes_on g c =
     let goes_on = c.in_ok-watch_turns.ensures.goes_on in
     let not_ended = c.requires.board.not_ended in
     let plain : NoFault None mid.end =
-    no_fault mid.end (λ p. kept (goes_on.kept faults.ReadFault not_ended tt p)) (λ p. kept (goes_on.kept faults.WriteFault not_ended tt p)) in
+    no_fault None mid.end (λ n p. kept (goes_on.kept faults.ReadFault not_ended tt p)) (λ n p. kept (goes_on.kept faults.WriteFault not_ended tt p)) in
     goes-flushed not_ended goes_on c.flush.new.self (Some ends.WriteFault)
     (ap (λ (b : BoardView g.row.M.Denot). b.store) c.flush.ensures.same.0) c.flush.ensures.same.1.1 c.flush.ensures.kept c.flush.ensures.sink (λ q. absurd (q refl))
     (cause-lost _ _ _ _ _ _ mid.end not_ended plain goes_on.cause (c.in-Err.ensures.cause.write (ap (λ e. e) (search rules))) c.flush.ensures.cause.sink_later)

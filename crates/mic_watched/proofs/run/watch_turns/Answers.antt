@@ -1,12 +1,11 @@
 use Rattle.std.proofs.Common.{◌≡◌, ◌++◌, ℕ, max, List, [], None, Ok, inl, refl, ap, rules, arith}
 use Rattle.std.proofs.lemmas.Result.{err_from_is_err_and}
 use Rattle.micro_word.specs.Prelude.{ControlStore}
-use Rattle.mic_clock.specs.Prelude.{last_cycles}
+use Rattle.mic_clock.specs.Prelude.{goes-nowhere, goes-then, last_cycles}
 use Rattle.mic_watched.specs.declared.cycle.Cycle.{Cycle}
 use Rattle.mic_watched.specs.Prelude.{shown_on, ShowsCycles}
 use Rattle.mic_watched.proofs.Shown.{over-start, one-turn, shows-then}
 use Rattle.mic_watched.proofs.Saying.{saw-nothing, saw-then, cause-then}
-use Rattle.mic_watched.proofs.GoesOn.{goes-nowhere, goes-then}
 use Rattle.mic_watched.proofs.run.watch_turns.Given.{Over}
 use Rattle.mic_watched.proofs.run.watch_turns.Goals as goal
 use Rattle.mic_watched.proofs.run.watch_turns.Goals.{After-turn}
@@ -27,7 +26,7 @@ turns-init g c =
         };
         saw = saw-nothing g.W.Watcher.keeps g.W.Watcher.Prints (g.W.Watcher.kept c.args.watcher.now) (g.E.Sink.held c.args.err.now);
       };
-      goes_on = goes-nowhere not_ended;
+      goes_on = goes-nowhere;
       said = record { later = omega arith; failed = tt; quiet = refl };
       in_time = record { cycles = omega arith; ordered = c.requires.board.ordered; near = c.requires.board.near; last = λ _. inl (omega arith) };
     }

@@ -2,9 +2,9 @@ use Rattle.std.proofs.Common.{◌≡◌, ◌≤◌, ℕ, max, [], Option, None, 
 use Rattle.console_port.specs.declared.fault.BusFault.TheVariants as faults
 use Rattle.micro_word.specs.Prelude.{ControlStore}
 use Rattle.mic_clock.specs.declared.end.End.TheVariants as ends
-use Rattle.mic_clock.specs.Prelude.{BoardView, MicroRun, last_cycles, ShowsRun, NoFault, IsCutByRead, IsCutByWrite}
-use Rattle.mic_clock.proofs.GoesOn.{GoesOn-step, GoesOn-finish}
-use Rattle.mic_clock.proofs.Reach.{IsLedTo-map, Leads-on, Leads-flushed, Leads-lost, by_done, no_err, if_err, fault_cases}
+use Rattle.mic_clock.specs.Prelude.{BoardView, MicroRun, last_cycles, ShowsRun, NoFault, IsCutByRead, IsCutByWrite, IsLedTo-map, Leads-on, Leads-flushed, IsCutByWrite-lost, goes-then}
+use Rattle.mic_clock.proofs.GoesOn.{GoesOn-finish}
+use Rattle.mic_clock.proofs.Reach.{by_done, no_err, if_err, fault_cases}
 use Rattle.mic_clock.proofs.board.Board.run.Goals as goal
 
 pub strides-preserved : goal.strides-preserved
@@ -33,7 +33,7 @@ strides-preserved g c =
           words program led (c.stride.ensures.read not_ended p);
       write = λ p. Leads-on state m (Some c.args.bound) left0 held0 first left held old left' new (λ ws r. IsCutByWrite state m ws (Some c.args.bound) left' held' new r)
           words program led (c.stride.ensures.write not_ended p);
-      goes_on = GoesOn-step _ _ _ _ _ _ _ first _ _ old _ _ new first_not_ended not_ended c.strides.invariant.goes_on c.stride.ensures.goes_on;
+      goes_on = goes-then first_not_ended c.strides.invariant.goes_on not_ended c.stride.ensures.goes_on;
       in_time = c.stride.ensures.in_time top le not_ended c.strides.invariant.in_time;
     }
 
@@ -50,12 +50,11 @@ returns-clause-run g c =
     let held = g.K.Sink.held c.strides.sink in
     let held' = g.K.Sink.held c.finish.new.sink in
     let Along : ℕ → MicroRun g.M.Clocked.State → Type 0 = λ n r. Unit {0} in
-    let program : old.store.words ≡ first.store.words = ap (λ (s : ControlStore). s.words) c.strides.invariant.goes_on.store in
     λ none q. by_done c.finish.result c.finish.ensures.ok c.finish.ensures.fault
     (λ _ _ done.
     let led = IsLedTo-map state left0 held0 first left old _ _ (λ r rest at. (at.0, tt, at.1)) (c.strides.invariant.run (subst (λ (e : Option _). NoFault None e) done.0 q)) in
     IsLedTo-map state left0 held0 first left new _ _ (λ r rest at. (at.0, at.2))
-    (Leads-flushed state m first.store.words (Some c.args.bound) left0 held0 first Along left held old left held' new program led
+    (Leads-flushed state m first.store.words (Some c.args.bound) left0 held0 first Along left held old left new led (ShowsRun state left held' new)
     refl c.finish.ensures.same.input (ap (λ (b : BoardView g.row.M.Denot). b.buses) c.finish.ensures.same.same) (done.1 left)))
     (λ _ _ failed. absurd (subst (λ (e : Option _). NoFault None e) failed.1 q))
 
@@ -81,7 +80,6 @@ returns-clause-write g c =
     let held = g.K.Sink.held c.strides.sink in
     let held' = g.K.Sink.held c.finish.new.sink in
     let Along : ℕ → MicroRun g.M.Clocked.State → Type 0 = λ n r. Unit {0} in
-    let program : old.store.words ≡ first.store.words = ap (λ (s : ControlStore). s.words) c.strides.invariant.goes_on.store in
     let over : IsSome old.end = search rules in
     let view : (A : Type 0) (f : BoardView g.row.M.Denot → A) → f new ≡ f (record old { bus = new.bus; end = new.end }) = λ A f. ap f c.finish.ensures.same.same in
     λ none p. by_done c.finish.result c.finish.ensures.ok c.finish.ensures.fault
@@ -95,8 +93,10 @@ returns-clause-write g c =
       | inl plain ↦ (
           let led = IsLedTo-map state left0 held0 first left old _ _ (λ r rest at. (at.0, tt, at.1)) (c.strides.invariant.run plain) in
           IsLedTo-map state left0 held0 first left new _ _ (λ r rest at. (at.0, at.2))
-          (Leads-lost state m first.store.words (Some c.args.bound) left0 held0 first Along left held old left held' new program led
-          over kept refl (view _ (λ b. state b.machine)) (view _ (λ b. b.counts)) c.finish.ensures.same.memory c.finish.ensures.same.input (view _ (λ b. b.buses)) ((if_err _ c.finish.result x is (c.finish.ensures.err None)).lost failed.0)))
+          (Leads-flushed state m first.store.words (Some c.args.bound) left0 held0 first Along left held old left new led (IsCutByWrite state m first.store.words (Some c.args.bound) left held' new)
+          refl c.finish.ensures.same.input (view _ (λ b. b.buses))
+          (λ r s. IsCutByWrite-lost state m first.store.words (Some c.args.bound) left left held held' old new r s over kept refl (view _ (λ b. state b.machine)) (view _ (λ b. b.counts))
+          c.finish.ensures.same.memory c.finish.ensures.same.input ((if_err _ c.finish.result x is (c.finish.ensures.err None)).lost failed.0))))
       | inr fault ↦ elim fault [
         | inl read ↦ absurd (kept (c.strides.invariant.goes_on.kept faults.ReadFault none tt read))
         | inr write ↦ absurd (kept (c.strides.invariant.goes_on.kept faults.WriteFault none tt write))

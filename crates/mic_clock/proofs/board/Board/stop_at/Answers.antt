@@ -1,6 +1,6 @@
 use Rattle.std.proofs.Common.{◌≡◌, None, Some, IsSome, refl, ap, ◌∙◌, sym, rules}
-use Rattle.mic_clock.specs.Prelude.{BoardView, bounded}
-use Rattle.mic_clock.proofs.Reach.{IsCutByWrite-lost, by_done, no_err, if_err}
+use Rattle.mic_clock.specs.Prelude.{BoardView, bounded, IsCutByWrite-lost}
+use Rattle.mic_clock.proofs.Reach.{by_done, no_err, if_err}
 use Rattle.mic_clock.proofs.board.Board.stop_at.Goals as goal
 
 pub returns-clause-write : goal.returns-clause-write

@@ -1,8 +1,8 @@
 use Rattle.std.proofs.Common.{◌≡◌, ℕ, None, Some, Option, suc, sym, ◌∙◌, ap, subst}
 use Rattle.micro_word.specs.Prelude.{ControlStore}
 use Rattle.mic_clock.specs.declared.end.End.{End}
-use Rattle.mic_clock.specs.Prelude.{MicroRun, NoFault, IsCutByRead, IsCutByWrite}
-use Rattle.mic_clock.proofs.Reach.{IsLedTo-map, Leads-turn, Leads-on, TurnIsCut-run}
+use Rattle.mic_clock.specs.Prelude.{MicroRun, NoFault, IsCutByRead, IsCutByWrite, IsLedTo-map, Leads-on}
+use Rattle.mic_clock.proofs.Reach.{Leads-turn, TurnIsCut-run}
 use Rattle.mic_clock.proofs.board.Board.stride.Given.{Over}
 use Rattle.mic_clock.proofs.board.Board.stride.Goals as goal
 use Rattle.mic_clock.proofs.board.Board.stride.Goals.{After-turn}

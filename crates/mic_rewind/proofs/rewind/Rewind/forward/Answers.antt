@@ -1,10 +1,10 @@
 use Rattle.std.proofs.Common.{◌≡◌, ◌<◌, ◌∙◌, refl, sym, ap, subst, List, [], length, arith, Option, None, slice_get, rules}
 use Rattle.console_port.specs.Prelude.{BusView}
-use Rattle.mic_clock.specs.Prelude.{tick_of}
+use Rattle.mic_clock.specs.Prelude.{goes-nowhere, tick_of}
 use Rattle.mic_clock.specs.declared.end.End.{End}
 use Rattle.mic_rewind.specs.declared.moment.Moment.{Moment}
 use Rattle.mic_rewind.specs.Prelude.{Snapshot, HistoryView, appended, HasAddress, HaveAddresses, moment_of, state_of, newest}
-use Rattle.mic_rewind.proofs.Keeping.{addresses_kept, emptied, forth_keeps, grown_by, left_by, live, newest_here, still}
+use Rattle.mic_rewind.proofs.Keeping.{addresses_kept, emptied, forth_keeps, grown_by, left_by, live, newest_here}
 use Rattle.mic_rewind.proofs.rewind.Rewind.forward.Given.{Over}
 use Rattle.mic_rewind.proofs.rewind.Rewind.forward.Goals as goal
 
@@ -103,5 +103,4 @@ returns-then-behind-gt0-clause-clocks g c =
 
 pub returns-then-behind-gt0-clause-goes_on : goal.returns-then-behind-gt0-clause-goes_on
 returns-then-behind-gt0-clause-goes_on g c =
-    rw (← c.self.view_is)
-    (still g.S.Source.left g.S.Source.faults g.K.Sink.held g.K.Sink.passed g.K.Sink.faults c.args.source.now c.args.sink.now c.self.inside.board)
+    rw (← c.self.view_is) goes-nowhere
