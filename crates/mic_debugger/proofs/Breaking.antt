@@ -7,7 +7,7 @@ use Rattle.console_port.specs.declared.fault.BusFault.TheVariants as faults
 use Rattle.mic_clock.specs.declared.counts.Counts.{Counts}
 use Rattle.mic_clock.specs.declared.end.End.{End}
 use Rattle.mic_clock.specs.declared.end.End.TheVariants as ends
-use Rattle.mic_clock.specs.Prelude.{Meaning, MicroRun, bounded, turn, turns, word_at, BoardView, ShowsRun, ShowsAs, IsLedTo, IsTurned, TurnIsCut, NoFault, EndsUncounted}
+use Rattle.mic_clock.specs.Prelude.{Meaning, MicroRun, bounded, turn, turns, word_at, BoardView, ShowsRun, ShowsAs, IsLedTo, IsTurned, TurnIsCut, NoFault, EndsUncounted, no_fault, turns-suc, turns-uncounted}
 use Rattle.mic_base.specs.Prelude.{HasCause, Rose, Puts, puts_first, puts_nothing, puts_passed, puts_then}
 use Rattle.cli_outside.specs.Prelude.{Got, GotInPart, SinkState}
 use Rattle.mic_debugger.specs.declared.plan.Plan.{Plan}
@@ -17,16 +17,9 @@ use Rattle.mic_debugger.specs.declared.until.Until.{Until}
 use Rattle.mic_debugger.specs.Prelude.{Book, IsBookOf, IsTold, after, passed, printed, turn_lines, turn_text, IsBrokenAt, IsCarriedOut, IsPlanBroken, plan_in, IsBrokenOff, SinkFailed, Streams, shown_text, Carries, IsPart, IsWhole, Rules, Stand, plan_at, rules_of, stand_in, HoldsFront, IsBroken, IsUnderway, StandsAfter, text_between, SessionView}
 use Rattle.cli_session.specs.Prelude.{front_given, front_lost, in_part, IsFrontOf}
 use Rattle.mic_debugger.proofs.Carrying.{led_on, same_plan, same_shown}
-use Rattle.mic_debugger.proofs.Uncounted.{uncounted}
-use Rattle.mic_debugger.proofs.Underway.{after-suc, going_more}
+use Rattle.mic_debugger.proofs.Underway.{going_more}
 
 -- ---- ends
-
--- a board that came to no fault
-pub no_fault : (old new : Option End) → (old ≡ None → new ≢ Some ends.ReadFault) → (old ≡ None → new ≢ Some ends.WriteFault) → NoFault old new
-no_fault None (Some ends.ReadFault) read write = absurd (read refl refl)
-no_fault None (Some ends.WriteFault) read write = absurd (write refl refl)
-no_fault _ _ read write = tt
 
 write_or_not : (e : Option End) → (e ≡ Some ends.WriteFault) ⊎ (e ≢ Some ends.WriteFault)
 write_or_not (Some ends.WriteFault) = inl refl
@@ -100,7 +93,7 @@ module _ {M State : Type 0} (state : M → State) (m : Meaning State) (book : Bo
               let here = at.1.here in
               let next = one.2 before here at.1.untaken in
               let is : turn m board.store.words (bounded m (Some bound) before) ≡ behind =
-              ap (λ (ws : List ℕ). turn m ws (bounded m (Some bound) before)) program ∙ sym (after-suc state m book words breaks bound u times n r) in
+              ap (λ (ws : List ℕ). turn m ws (bounded m (Some bound) before)) program ∙ sym (turns-suc m words (Some bound) r n) in
               let shows : ShowsRun state left' held' board' behind = subst (λ (x : MicroRun State). ShowsRun state left' held' board' x) is next.0 in
               let same_lines : turn_lines m book words breaks bound u before behind ≡ text_between state m book breaks u board board' =
               λ i. turn_text book breaks u (m.registers (here.its_state i)).mpc (m.drives (word_at m (sym program i) (here.its_state i)) (here.its_state i)).stalled (shows.counts i) (m.registers (shows.its_state i)) (shows.world.words i) (shows.its_end i) in
@@ -139,7 +132,7 @@ module _ {M State : Type 0} (state : M → State) (m : Meaning State) (book : Bo
         let before = after m book words breaks bound u n r in
         let so_far : passed m book words breaks bound u n r + w ≡ times = at.count in
         let is : turns m words (Some bound) (suc k) before ≡ after m book words breaks bound u (suc n) r =
-        uncounted m words bound k before same ∙ sym (after-suc state m book words breaks bound u times n r) in (
+        (turns-uncounted m words (Some bound) k before same).0 ∙ sym (turns-suc m words (Some bound) r n) in (
           suc n,
           record {
             here = subst (λ (x : MicroRun State). StandsAfter state board' x) is stands;

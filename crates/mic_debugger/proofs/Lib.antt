@@ -3,5 +3,4 @@ pub mod Placing
 pub mod Underway
 pub mod Carrying
 pub mod InputCauses
-pub mod Uncounted
 pub mod Breaking

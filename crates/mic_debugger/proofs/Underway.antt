@@ -2,17 +2,13 @@
 use Rattle.std.proofs.Common.{◌≡◌, ◌⊎◌, inl, inr, zero, suc, ℕ, ◌+◌, ◌<◌, List, [], ◌++◌, Option, Some, None, IsSome, refl, sym, ◌∙◌, ap, subst, arith}
 use Rattle.std.proofs.lemmas.Bool.{cases_lt}
 use Rattle.mic_clock.specs.declared.end.End.TheVariants as ends
-use Rattle.mic_clock.specs.Prelude.{Meaning, MicroRun, word_at, turn, turns, bounded, BoardView, ShowsRun, IsLedTo, IsCutByRead, Leads}
+use Rattle.mic_clock.specs.Prelude.{Meaning, MicroRun, word_at, turn, turns, bounded, BoardView, ShowsRun, IsLedTo, IsCutByRead, Leads, turns-suc}
 use Rattle.mic_debugger.specs.declared.plan.Plan.TheVariants as plans
 use Rattle.mic_debugger.specs.declared.until.Until.{Until}
 use Rattle.mic_debugger.specs.Prelude.{Book, turn_text, counted_turn, after, turn_lines, passed, printed, IsDone, IsGoing, text_between, IsUnderway, IsStopped}
 
 module _ {M State : Type 0} (state : M → State) (m : Meaning State) (book : Book) (words breaks : List ℕ) (bound : ℕ) (u : Until) (times : ℕ) where
   -- one more turn
-  pub after-suc : (n : ℕ) (r : MicroRun State) → after m book words breaks bound u (suc n) r ≡ turn m words (bounded m (Some bound) (after m book words breaks bound u n r))
-  after-suc zero r = refl
-  after-suc (suc n) r = after-suc n (turn m words (bounded m (Some bound) r))
-
   pub going_more : (n : ℕ) (r : MicroRun State) → IsGoing m book words breaks bound u times n r →
       (after m book words breaks bound u n r).end ≡ None → passed m book words breaks bound u n r < times → IsGoing m book words breaks bound u times (suc n) r
   going_more n r going live less =
@@ -66,7 +62,7 @@ module _ {M State : Type 0} (state : M → State) (m : Meaning State) (book : Bo
               let here = at.1.here in
               let next = one.2 before here at.1.untaken in
               let is : turn m board.store.words (bounded m (Some bound) before) ≡ behind =
-              ap (λ (ws : List ℕ). turn m ws (bounded m (Some bound) before)) program ∙ sym (after-suc n r) in
+              ap (λ (ws : List ℕ). turn m ws (bounded m (Some bound) before)) program ∙ sym (turns-suc m words (Some bound) r n) in
               let shows : ShowsRun state left' held' board' behind = subst (λ (x : MicroRun State). ShowsRun state left' held' board' x) is next.0 in
               let same_lines : turn_lines m book words breaks bound u before behind ≡ text_between state m book breaks u board board' =
               λ i. turn_text book breaks u (m.registers (here.its_state i)).mpc (m.drives (word_at m (sym program i) (here.its_state i)) (here.its_state i)).stalled (shows.counts i) (m.registers (shows.its_state i)) (shows.world.words i) (shows.its_end i) in
