@@ -8,7 +8,7 @@ use Rattle.mic_clock.specs.declared.counts.Counts.{Counts}
 use Rattle.mic_clock.specs.declared.end.End.{End}
 use Rattle.mic_clock.specs.declared.end.End.TheVariants as ends
 use Rattle.mic_clock.specs.Prelude.{Meaning, MicroRun, bounded, turn, turns, word_at, BoardView, ShowsRun, ShowsAs, IsLedTo, IsTurned, TurnIsCut, NoFault, EndsUncounted, no_fault, turns-suc, turns-uncounted}
-use Rattle.mic_base.specs.Prelude.{HasCause, Rose, Puts, puts_first, puts_nothing, puts_passed, puts_then}
+use Rattle.mic_base.specs.Prelude.{HasCause, Puts, puts_first, puts_nothing, puts_passed, puts_then}
 use Rattle.cli_outside.specs.Prelude.{Got, GotInPart, SinkState}
 use Rattle.mic_debugger.specs.declared.plan.Plan.{Plan}
 use Rattle.mic_debugger.specs.declared.plan.Plan.TheVariants as plans
