@@ -1,20 +1,7 @@
 -- A memory of either map is whole blocks, and the line of a run with a cache has the counts of its accesses.
-use Rattle.std.proofs.Common.{◌≡◌, ◌∙◌, ℕ, ◌+◌, ◌%◌, ◌^◌, ◌<◌, ◌≤◌, max, List, ◌++◌, length, Some, ap, subst, arith, inl, inr}
-use Rattle.mic_words.specs.declared.machine.Machine.{Machine}
-use Rattle.console_port.specs.Prelude.{IsMap}
-use Rattle.mem_cache.specs.declared.counts.CacheCounts.{CacheCounts}
-use Rattle.mic_clock.specs.declared.counts.Counts.{Counts}
-use Rattle.mic_clock.specs.declared.end.End.{End}
-use Rattle.mic_clock.specs.Prelude.{Meaning, BoardView}
-use Rattle.mic_watched.specs.declared.cycle.Cycle.{Cycle}
-use Rattle.verifier_facts.specs.Prelude.{VerifiedView}
-use Rattle.mal_parser.specs.Prelude.{MalView}
-use Rattle.mal_shipped.specs.declared.loaded.Loaded.{Loaded}
-use Rattle.cli_watchers.specs.Prelude.{CacheKept, accesses_of, cache_line, counts_of, kept_of_cycles}
-use Rattle.cli_outside.specs.Prelude.{OutsideView, Says, SinkState}
-use Rattle.cli_run_texts.specs.Prelude.{status_of}
-use Rattle.cli_boards.specs.Cached.{Ran}
-use Rattle.cli_boards.specs.Prelude.{IsCached, RunsThrough, report_on}
+use Rattle.cli_boards.proofs.Common.{◌≡◌, ◌∙◌, ℕ, ◌+◌, ◌%◌, ◌^◌, ◌<◌, ◌≤◌, max, List, ◌++◌, length, Some, ap, subst, arith, inl, inr, Machine, IsMap}
+use Rattle.cli_boards.proofs.Common.{CacheCounts, Counts, End, Meaning, BoardView, Cycle, VerifiedView, MalView, Loaded, CacheKept, accesses_of, cache_line}
+use Rattle.cli_boards.proofs.Common.{counts_of, kept_of_cycles, OutsideView, Says, SinkState, status_of, Ran, IsCached, RunsThrough, report_on}
 use Rattle.cli_boards.proofs.Clocked.{clocked_through}
 
 pub whole_blocks : (size stack_end : ℕ) → size ≡ stack_end → IsMap stack_end → size % 4 ≡ 0

@@ -1,22 +1,10 @@
 -- The cycles that a run from its reset shows.
-use Rattle.std.proofs.Common.{◌≡◌, ◌∙◌, ℕ, zero, suc, ◌+◌, ◌-◌, Bool, true, false, if◌then◌else◌, List, [], ◌∷◌, ◌++◌, length, Option, Some, None, refl, sym, ap, subst, arith}
-use Rattle.std.specs.Prelude.{nat_le}
-use Rattle.std.proofs.lemmas.List.{length-append}
-use Rattle.console_port.specs.Prelude.{Given, Untaken, World}
-use Rattle.mic_clock.specs.declared.counts.Counts.{Counts}
-use Rattle.mic_clock.specs.declared.end.End.{End}
+use Rattle.cli_boards.proofs.Common.{◌≡◌, ◌∙◌, ℕ, zero, suc, ◌+◌, ◌-◌, Bool, true, false, if◌then◌else◌, List, [], ◌∷◌, ◌++◌, length, Option, Some, None, refl}
+use Rattle.cli_boards.proofs.Common.{sym, ap, subst, arith, nat_le, length-append, Given, Untaken, World, Counts, End, Meaning, Outcome, Done, Refused}
+use Rattle.cli_boards.proofs.Common.{BoardView, start_run, MicroRun, after_end_or_step, after_step, bounded, counts_at, counts_between, end_before, turn, turns}
+use Rattle.cli_boards.proofs.Common.{word_at, Cycle, cycle_between, cycles_of, shown, shown_where, LeadsOver, ShowsCycles, FRAME, VerifiedView, MalView, Loaded}
+use Rattle.cli_boards.proofs.Common.{OutsideView, IsAtReset, RunsThrough, AreClockedAfter, IsClockedAfter}
 use Rattle.mic_clock.specs.declared.end.End.TheVariants as ends
-use Rattle.mic_clock.specs.Prelude.{Meaning, Outcome, Done, Refused, BoardView, start_run, MicroRun, after_end_or_step, after_step, bounded, counts_at, counts_between, end_before, turn, turns, word_at}
-use Rattle.mic_watched.specs.declared.cycle.Cycle.{Cycle}
-use Rattle.mic_watched.specs.Prelude.{cycle_between, cycles_of, shown, shown_where, LeadsOver, ShowsCycles}
-use Rattle.console_port.specs.declared.map.TheConstants.{FRAME}
-use Rattle.verifier_facts.specs.Prelude.{VerifiedView}
-use Rattle.mal_parser.specs.Prelude.{MalView}
-use Rattle.mal_shipped.specs.declared.loaded.Loaded.{Loaded}
-use Rattle.cli_outside.specs.Prelude.{OutsideView}
-use Rattle.mic_image_board.specs.Prelude.{IsAtReset}
-use Rattle.cli_boards.specs.Prelude.{RunsThrough}
-use Rattle.cli_watchers.specs.Prelude.{AreClockedAfter, IsClockedAfter}
 
 -- ---- cycles after cycles
 

@@ -1,12 +1,6 @@
 -- How a command ends that first read a program and a microprogram, or failed to.
-use Rattle.std.proofs.Common.{ℕ, List}
-use Rattle.mic_words.specs.declared.machine.Machine.{Machine}
-use Rattle.verifier_facts.specs.Prelude.{VerifiedView}
-use Rattle.mal_parser.specs.Prelude.{MalView}
-use Rattle.cli_outside.specs.Prelude.{LentView, OutsideView, Over, IsHad, IsNotHad}
-use Rattle.cli_programs.specs.Prelude.{IsAcceptedProgram, IsRefusedProgram}
-use Rattle.cli_boards.specs.declared.job.Job.{Job}
-use Rattle.cli_boards.specs.Prelude.{NoneChosen, Clocked, EndsPrepared, IsPrepared, IsUnprepared, NoMicroprogram, NoProgram, Unprepared}
+use Rattle.cli_boards.proofs.Common.{ℕ, List, Machine, VerifiedView, MalView, LentView, OutsideView, Over, IsHad, IsNotHad, IsAcceptedProgram, IsRefusedProgram}
+use Rattle.cli_boards.proofs.Common.{Job, NoneChosen, Clocked, EndsPrepared, IsPrepared, IsUnprepared, NoMicroprogram, NoProgram, Unprepared}
 
 module _ {machine : Machine} {job : Job (List ℕ)} {old new : LentView} {status : ℕ} where
   pub no_program : Over (IsNotHad (IsRefusedProgram job.map) job.file) old new status → Over (IsUnprepared machine job) old new status

@@ -1,3 +1,4 @@
+pub mod Common
 pub mod Reporting
 pub mod Micros
 pub mod Ending

@@ -1,16 +1,7 @@
 -- Whose a shipped microprogram is, and what a sink has that got nothing.
-use Rattle.std.proofs.Common.{◌≡◌, ◌∙◌, ℕ, List, [], ◌∷◌, ◌++◌, take, Some, refl, ap}
-use Rattle.mic_words.specs.declared.machine.Machine.{Machine}
-use Rattle.mic_words.specs.declared.machine.Machine.TheVariants.{Mic1, Mic2}
-use Rattle.mic_watched.specs.declared.cycle.Cycle.{Cycle}
-use Rattle.mic_watched.specs.Prelude.{PrintsOf}
-use Rattle.cli_watchers.specs.Prelude.{Profile, Silent, profile_after}
-use Rattle.cli_outside.specs.Prelude.{Got, GotInPart}
+use Rattle.cli_boards.proofs.Common.{◌≡◌, ◌∙◌, ℕ, List, [], ◌∷◌, ◌++◌, take, Some, refl, ap, Machine, Mic1, Mic2, Cycle, PrintsOf, Profile, Silent}
+use Rattle.cli_boards.proofs.Common.{profile_after, Got, GotInPart, take-nil, append-nil, Option, None, option_map, MalView}
 use Rattle.mal_shipped.specs.Prelude.{program1, program2, listed_program}
-use Rattle.std.proofs.Math.Seq.{take-nil}
-use Rattle.std.proofs.lemmas.List.{append-nil}
-use Rattle.std.specs.Prelude.{Option, None, option_map}
-use Rattle.mal_parser.specs.Prelude.{MalView}
 
 -- each shipped microprogram is its machine's
 pub shipped_machine : (machine : Machine) (p : MalView) → p ≡ listed_program machine → p.machine ≡ machine

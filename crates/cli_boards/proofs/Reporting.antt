@@ -1,9 +1,7 @@
 -- A text after another that was put.
-use Rattle.std.proofs.Common.{◌≡◌, ℕ, List, ◌++◌, ◌∙◌, subst, Ok, Err}
+use Rattle.cli_boards.proofs.Common.{◌≡◌, ℕ, List, ◌++◌, ◌∙◌, subst, Ok, Err, Rose, puts_first, puts_then, Puts, Said, Says, SinkState, Unsaid}
 use Rattle.std.specs.Option.{option_map}
-use Rattle.mic_base.specs.Prelude.{Rose, puts_first, puts_then, Puts}
 use Rattle.cli_outside.specs.Status as exits
-use Rattle.cli_outside.specs.Prelude.{Said, Says, SinkState, Unsaid}
 
 -- what is printed after a text that was put
 pub says-after : (old mid new : SinkState) (text rest : List ℕ) (code status : ℕ) → mid.held ≡ option_map (λ held. held ++ text) old.held → mid.faults ≡ old.faults →

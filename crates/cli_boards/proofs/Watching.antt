@@ -1,14 +1,7 @@
 -- A board at its reset can be run, and what a run leaves of the console and of `out`.
-use Rattle.std.proofs.Common.{◌≡◌, ◌≢◌, ◌∙◌, ◌≤◌, ◌+◌, ◌^◌, ℕ, List, Option, Some, None, sym, ap, subst, arith}
-use Rattle.std.specs.Prelude.{unwrap_or}
-use Rattle.console_port.specs.Prelude.{StaysFlushed}
-use Rattle.mic_clock.specs.declared.counts.Counts.{Counts}
-use Rattle.mic_clock.specs.declared.end.End.{End}
+use Rattle.cli_boards.proofs.Common.{◌≡◌, ◌≢◌, ◌∙◌, ◌≤◌, ◌+◌, ◌^◌, ℕ, List, Option, Some, None, sym, ap, subst, arith, unwrap_or, StaysFlushed, Counts, End}
+use Rattle.cli_boards.proofs.Common.{Meaning, last_cycles, BoardView, GoesOn, HasEndCause, CanRun, VerifiedView, IsAtReset}
 use Rattle.mic_clock.specs.declared.end.End.TheVariants as ends
-use Rattle.mic_clock.specs.Prelude.{Meaning, last_cycles, BoardView, GoesOn, HasEndCause}
-use Rattle.mic_watched.specs.Prelude.{CanRun}
-use Rattle.verifier_facts.specs.Prelude.{VerifiedView}
-use Rattle.mic_image_board.specs.Prelude.{IsAtReset}
 
 -- a board can be run from its reset
 pub can_run : {M State : Type 0} (state : M → State) (m : Meaning State) (entry : ℕ) (program : VerifiedView) (board : BoardView M) → IsAtReset state m entry program board → CanRun board

@@ -1,16 +1,9 @@
 -- How the run of an accepted program ends with a cache beside it: the report, and then what the cache counted; or less, where a fault cut it.
 use Rattle.std.specs.Prelude.{ℕ, List, ◌++◌, Some, replicate}
+use Rattle.cli_boards.specs.Common.{End, Meaning, BoardView, Cycle, VerifiedView, MalView, Loaded, accesses_of, cache_line, counts_of, out_of_memory}
+use Rattle.cli_boards.specs.Common.{OutsideView, Says, TellsOnErr, status_of}
 use Rattle.console_port.specs.Prelude.{IsLoaded}
-use Rattle.mic_clock.specs.declared.end.End.{End}
-use Rattle.mic_clock.specs.Prelude.{Meaning, BoardView}
-use Rattle.mic_watched.specs.declared.cycle.Cycle.{Cycle}
-use Rattle.verifier_facts.specs.Prelude.{VerifiedView}
-use Rattle.mal_parser.specs.Prelude.{MalView}
-use Rattle.mal_shipped.specs.declared.loaded.Loaded.{Loaded}
-use Rattle.cli_watchers.specs.Prelude.{accesses_of, cache_line, counts_of}
 use Rattle.cli_outside.specs.Status as exits
-use Rattle.cli_outside.specs.Prelude.{out_of_memory, OutsideView, Says, TellsOnErr}
-use Rattle.cli_run_texts.specs.Prelude.{status_of}
 use Rattle.cli_boards.specs.Runs.{RunsThrough, report_on}
 
 -- a memory that begins with zeros has a program's image loaded

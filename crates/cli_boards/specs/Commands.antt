@@ -1,7 +1,6 @@
 -- How the commands over a board end, from the files that they read.
 use Rattle.std.specs.Prelude.{ℕ, Bool, List}
-use Rattle.mic_clock.specs.Prelude.{Meaning}
-use Rattle.cli_outside.specs.Prelude.{OutsideView}
+use Rattle.cli_boards.specs.Common.{Meaning, OutsideView}
 use Rattle.cli_boards.specs.declared.job.Job.{Job}
 use Rattle.cli_boards.specs.Cached.{IsCached}
 use Rattle.cli_boards.specs.OwnRun.{IsOwnRun}

@@ -1,3 +1,4 @@
+pub mod Common
 pub mod Own
 pub mod Prepared
 pub mod Runs

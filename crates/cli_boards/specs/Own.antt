@@ -1,11 +1,7 @@
 -- The microprogram that a command clocks: that of a file, or the one that ships; and why there is none.
 use Rattle.std.specs.Prelude.{◌≡◌, ℕ, List, Option, Some, None}
-use Rattle.mic_words.specs.declared.machine.Machine.{Machine}
-use Rattle.mal_parser.specs.Prelude.{MalView, SpellsProgram}
+use Rattle.cli_boards.specs.Common.{Machine, MalView, SpellsProgram, out_of_memory, OutsideView, TellsOnErr, IsHad, IsNotHad, listed_program, IsRefusedText}
 use Rattle.cli_outside.specs.Status as exits
-use Rattle.cli_outside.specs.Prelude.{out_of_memory, OutsideView, TellsOnErr, IsHad, IsNotHad}
-use Rattle.mal_shipped.specs.Prelude.{listed_program}
-use Rattle.cli_micro.specs.Prelude.{IsRefusedText}
 
 -- no microprogram comes from a file that should hold one
 abbrev pub HasNoMicroprogram : Machine → List ℕ → OutsideView → OutsideView → ℕ → Type 0

@@ -1,13 +1,8 @@
 -- How the run of an accepted program by a microprogram ends: it has come to its end, or a fault cut it, and its report is printed.
 use Rattle.std.specs.Prelude.{◌≡◌, ℕ, [], Some}
-use Rattle.mic_clock.specs.declared.end.End.{End}
-use Rattle.mic_clock.specs.Prelude.{Meaning, BoardView, IsRun, RunIsCutByRead, RunIsCutByWrite}
-use Rattle.verifier_facts.specs.Prelude.{VerifiedView}
-use Rattle.mal_parser.specs.Prelude.{MalView}
-use Rattle.mal_shipped.specs.declared.loaded.Loaded.{Loaded}
+use Rattle.cli_boards.specs.Common.{End, Meaning, BoardView, IsRun, RunIsCutByRead, RunIsCutByWrite, VerifiedView, MalView, Loaded, out_of_memory, OutsideView}
+use Rattle.cli_boards.specs.Common.{Says, TellsOnErr, status_of}
 use Rattle.cli_outside.specs.Status as exits
-use Rattle.cli_outside.specs.Prelude.{out_of_memory, OutsideView, Says, TellsOnErr}
-use Rattle.cli_run_texts.specs.Prelude.{status_of}
 use Rattle.cli_boards.specs.Runs.{IsFirstBoard, IsLeftBy, report_on}
 
 module _ {M State : Type 0} (state : M → State) (m : Meaning State) where

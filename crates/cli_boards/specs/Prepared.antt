@@ -1,11 +1,6 @@
 -- What a command clocks, a program and a microprogram, and how a command ends that first reads both from files.
 use Rattle.std.specs.Prelude.{ℕ, List}
-use Rattle.std.specs.Borrow.{Bor}
-use Rattle.mic_words.specs.declared.machine.Machine.{Machine}
-use Rattle.verifier_facts.specs.Prelude.{VerifiedView}
-use Rattle.mal_parser.specs.Prelude.{MalView}
-use Rattle.cli_outside.specs.Prelude.{OutsideView, name_in, IsHad}
-use Rattle.cli_programs.specs.Prelude.{HasNoProgram, IsAcceptedProgram}
+use Rattle.cli_boards.specs.Common.{Bor, Machine, VerifiedView, MalView, OutsideView, name_in, IsHad, HasNoProgram, IsAcceptedProgram}
 use Rattle.cli_boards.specs.Own.{IsChosenMicroprogram, NoneChosen}
 use Rattle.cli_boards.specs.declared.job.Job.{Job}
 use Rattle.cli_boards.specs.declared.preparing.Prepared.{Prepared}

@@ -1,16 +1,8 @@
 -- How the profile of an accepted program ends: what its run's boundaries count, and the report; or less, where a fault stopped it.
 use Rattle.std.specs.Prelude.{◌≡◌, ℕ, List, [], ◌++◌, Some, None, length, unwrap_or}
-use Rattle.mic_base.specs.Prelude.{Rose}
-use Rattle.mic_clock.specs.declared.end.End.{End}
-use Rattle.mic_clock.specs.Prelude.{Meaning, BoardView}
-use Rattle.verifier_facts.specs.Prelude.{VerifiedView}
-use Rattle.mal_parser.specs.Prelude.{MalView}
-use Rattle.mal_shipped.specs.declared.loaded.Loaded.{Loaded}
-use Rattle.mic_watched.specs.declared.cycle.Cycle.{Cycle}
-use Rattle.cli_watchers.specs.Prelude.{AreRowsUpTo, profile_of_cycles, profile_text}
+use Rattle.cli_boards.specs.Common.{Rose, End, Meaning, BoardView, VerifiedView, MalView, Loaded, Cycle, AreRowsUpTo, profile_of_cycles, profile_text}
+use Rattle.cli_boards.specs.Common.{out_of_memory, Got, OutsideView, Says, TellsOnErr, status_of}
 use Rattle.cli_outside.specs.Status as exits
-use Rattle.cli_outside.specs.Prelude.{out_of_memory, Got, OutsideView, Says, TellsOnErr}
-use Rattle.cli_run_texts.specs.Prelude.{status_of}
 use Rattle.cli_boards.specs.Runs.{RunsThrough, report_on}
 
 module _ {M State : Type 0} (state : M → State) (m : Meaning State) where

@@ -1,21 +1,9 @@
 -- The run of an accepted program by a microprogram: where it begins, what it leaves of the outside, and its report.
 use Rattle.std.specs.Prelude.{◌≡◌, ◌≢◌, ℕ, List, [], ◌++◌, Option, Some, None, IfSome, Result, length}
-use Rattle.mic_base.specs.Prelude.{HasCause, Puts}
-use Rattle.console_port.specs.Prelude.{StaysFlushed}
-use Rattle.mic_clock.specs.declared.end.End.{End}
+use Rattle.cli_boards.specs.Common.{HasCause, Puts, StaysFlushed, End, Meaning, BoardView, HasEndCause, VerifiedView, MalView, Loaded, IsLoaded, Cycle}
+use Rattle.cli_boards.specs.Common.{ShowsCycles, LentView, Over, OutsideView, Says, SinkState, sink_of, status_of, AreClockedAfter, IsAtReset}
 use Rattle.mic_clock.specs.declared.end.End.TheVariants as ends
-use Rattle.mic_clock.specs.Prelude.{Meaning, BoardView, HasEndCause}
-use Rattle.verifier_facts.specs.Prelude.{VerifiedView}
-use Rattle.mal_parser.specs.Prelude.{MalView}
-use Rattle.mal_shipped.specs.declared.loaded.Loaded.{Loaded}
-use Rattle.mal_shipped.specs.Prelude.{IsLoaded}
-use Rattle.mic_watched.specs.declared.cycle.Cycle.{Cycle}
-use Rattle.mic_watched.specs.Prelude.{ShowsCycles}
-use Rattle.cli_outside.specs.Prelude.{LentView, Over, OutsideView, Says, SinkState, sink_of}
-use Rattle.cli_run_texts.specs.Prelude.{status_of}
 use Rattle.cli_run_texts.specs.Report.{report as report_of}
-use Rattle.cli_watchers.specs.Prelude.{AreClockedAfter}
-use Rattle.mic_image_board.specs.Prelude.{IsAtReset}
 use Rattle.cli_boards.specs.declared.preparing.Prepared.{Prepared}
 
 -- the run of a prepared microprogram over its program does this to an outside that is lent

@@ -1,17 +1,8 @@
 -- How the trace of an accepted program ends: the lines of each cycle of its run, and the report; or less, where a fault stopped it.
 use Rattle.std.specs.Prelude.{◌≡◌, ℕ, List, ◌++◌, Bool, Some, None}
-use Rattle.mic_base.specs.Prelude.{Rose}
-use Rattle.mic_clock.specs.declared.end.End.{End}
-use Rattle.mic_clock.specs.Prelude.{Meaning, BoardView}
-use Rattle.verifier_facts.specs.Prelude.{VerifiedView}
-use Rattle.mal_parser.specs.Prelude.{MalView}
-use Rattle.mal_shipped.specs.declared.loaded.Loaded.{Loaded}
-use Rattle.mic_watched.specs.declared.cycle.Cycle.{Cycle}
-use Rattle.mic_watched.specs.Prelude.{PrintsOf}
-use Rattle.cli_watchers.specs.Prelude.{AreLinesOf, Traced}
+use Rattle.cli_boards.specs.Common.{Rose, End, Meaning, BoardView, VerifiedView, MalView, Loaded, Cycle, PrintsOf, AreLinesOf, Traced, out_of_memory, GotInPart}
+use Rattle.cli_boards.specs.Common.{OutsideView, Says, TellsOnErr, status_of}
 use Rattle.cli_outside.specs.Status as exits
-use Rattle.cli_outside.specs.Prelude.{out_of_memory, GotInPart, OutsideView, Says, TellsOnErr}
-use Rattle.cli_run_texts.specs.Prelude.{status_of}
 use Rattle.cli_boards.specs.Runs.{RunsThrough, report_on}
 
 -- the lines of these cycles, one after the other

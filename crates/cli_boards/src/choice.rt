@@ -1,8 +1,7 @@
 //! Which microprogram a command clocks: a person's own file, or the one that ships.
 
 ghost use Rattle.std.specs.Prelude.{◌≡◌, IfOk, OnOk};
-ghost use Rattle.mal_parser.specs.Prelude.{SpellsProgram};
-ghost use Rattle.cli_outside.specs.Prelude.{name_in, IsHad, OverIfErr};
+ghost use Rattle.cli_boards.specs.Common.{SpellsProgram, name_in, IsHad, OverIfErr};
 ghost use Rattle.cli_boards.specs.Own.{HasNoMicroprogram, IsChosenMicroprogram, NoneChosen};
 
 use crate::microprogram::{Microprogram, placed_microprogram, shipped_microprogram};

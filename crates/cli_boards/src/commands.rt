@@ -1,8 +1,7 @@
 //! The commands, from the files that they read to their status.
 
 ghost use Rattle.std.specs.Prelude.{◌≤◌, ◌<◌, ◌^◌};
-ghost use Rattle.console_port.specs.Prelude.{IsMap};
-ghost use Rattle.cli_outside.specs.Prelude.{Over};
+ghost use Rattle.cli_boards.specs.Common.{IsMap, Over};
 ghost use Rattle.cli_boards.specs.Commands.{EndsCache, EndsOwnRun, EndsProfile, EndsTrace};
 ghost use Rattle.cli_boards.specs.Prepared.{job_in};
 

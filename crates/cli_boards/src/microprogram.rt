@@ -1,10 +1,7 @@
 //! The microprogram that a board is clocked with: a person's own, from its text, or the one that ships.
 
 ghost use Rattle.std.specs.Prelude.{◌≡◌, ◌<◌, ◌^◌, length, IfOk, IfErr};
-ghost use Rattle.mal_parser.specs.Prelude.{SpellsProgram};
-ghost use Rattle.mal_shipped.specs.Prelude.{IsLoaded, listed_program};
-ghost use Rattle.cli_outside.specs.Prelude.{IsRefusal};
-ghost use Rattle.cli_micro.specs.Prelude.{IsRefusedText};
+ghost use Rattle.cli_boards.specs.Common.{SpellsProgram, IsLoaded, listed_program, IsRefusal, IsRefusedText};
 
 use cli_micro::{mal_reason, place_reason};
 use cli_outside::Refusal;

@@ -1,8 +1,7 @@
 //! What a command clocks, from the files that it reads.
 
 ghost use Rattle.std.specs.Prelude.{◌≡◌, IfOk, OnOk};
-ghost use Rattle.console_port.specs.Prelude.{IsMap};
-ghost use Rattle.cli_outside.specs.Prelude.{OverIfErr};
+ghost use Rattle.cli_boards.specs.Common.{IsMap, OverIfErr};
 ghost use Rattle.cli_boards.specs.Prepared.{HasPrepared, IsUnprepared, job_in};
 
 use crate::choice::chosen_microprogram;

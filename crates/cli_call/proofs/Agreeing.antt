@@ -1,29 +1,13 @@
 -- `run` and `reference` of one program agree.
-use Rattle.std.proofs.Common.{◌≡◌, ◌≢◌, ◌∙◌, ℕ, false, List, ◌++◌, Some, Option, refl, sym, ap, subst}
-use Rattle.std.specs.Prelude.{codes, IfSome}
-use Rattle.mic_base.specs.Prelude.{Rose}
-use Rattle.console_port.specs.Prelude.{Untaken, World}
-use Rattle.mic_clock.specs.declared.end.End.{End}
-use Rattle.mic_clock.specs.declared.counts.Boundary.{Boundary}
-use Rattle.mic_clock.specs.declared.counts.Counts.{Counts}
-use Rattle.mic_clock.specs.Prelude.{Meaning, BoardView, state_line}
-use Rattle.ijvm_meaning.specs.declared.run.RunEnd.{RunEnd}
+use Rattle.cli_call.proofs.Common.{◌≡◌, ◌≢◌, ◌∙◌, ℕ, false, List, ◌++◌, Some, Option, refl, sym, ap, subst, codes, IfSome, Rose, Untaken, World, End, Boundary}
+use Rattle.cli_call.proofs.Common.{Counts, Meaning, BoardView, state_line, RunEnd, timing_of, TimedImage, Point, Finish, EndsBy, first_point, PlainReport}
+use Rattle.cli_call.proofs.Common.{Reports, VerifiedView, boundary_of, board_end, HasRun, program as program_on, Got, OutsideView, Said, Says, SinkState}
+use Rattle.cli_call.proofs.Common.{Unsaid, status_of, clocked_head, cycles_of, head, last_boundary, plain_head, IsReferenceRun, Reported, report_on, NoRoom}
+use Rattle.ijvm_reference.specs.Prelude.{HasRun as HasPlainRun}
 use Rattle.ijvm_meaning.specs.declared.run.RunEnd.TheVariants as defined
-use Rattle.ijvm_meaning.specs.Prelude.{timing_of, TimedImage, Point, Finish, EndsBy, first_point}
-use Rattle.ijvm_reference.specs.declared.plain.PlainReport.{PlainReport}
-use Rattle.ijvm_reference.specs.Plain.{HasRun as HasPlainRun}
-use Rattle.ijvm_reference.specs.Prelude.{Reports}
 use Rattle.ijvm_reference.specs.Plain as plain
-use Rattle.verifier_facts.specs.Prelude.{VerifiedView}
-use Rattle.ijvm_simulation.specs.Prelude.{boundary_of, board_end, HasRun}
-use Rattle.ijvm_simulation.specs.Verified.{program as program_on}
-use Rattle.cli_outside.specs.Prelude.{Got, OutsideView, Said, Says, SinkState, Unsaid}
-use Rattle.cli_run_texts.specs.Prelude.{status_of, clocked_head, cycles_of, head, last_boundary, plain_head}
 use Rattle.cli_run_texts.specs.Ends as texts
-use Rattle.cli_programs.specs.Prelude.{IsReferenceRun, Reported}
 use Rattle.cli_programs.specs.Reference as reference
-use Rattle.cli_boards.specs.Prelude.{report_on}
-use Rattle.cli_call.specs.ClockedEnd.{NoRoom}
 use Rattle.cli_call.specs.Prelude.{ClockedEnd, CutByRead, CutByWrite, Ran, Agrees, IsQuiet}
 use Rattle.cli_call.proofs.AtLimit.{OfLimit, cycles_at_last}
 

@@ -1,67 +1,38 @@
 -- Each end of a call is one of its answers.
-use Rattle.std.proofs.Common.{◌≡◌, ◌≢◌, ◌∙◌, ◌⊎◌, ℕ, Bool, List, Option, Some, None, refl, sym, ap, subst, arith, inl, inr}
-use Rattle.std.specs.Prelude.{MatchOption}
-use Rattle.mic_words.specs.declared.machine.Machine.{Machine}
-use Rattle.mic_words.specs.declared.machine.Machine.TheVariants.{Mic1, Mic2}
-use Rattle.console_port.specs.Prelude.{World}
-use Rattle.mic_clock.specs.declared.end.End.{End}
+use Rattle.cli_call.proofs.Common.{◌≡◌, ◌≢◌, ◌∙◌, ◌⊎◌, ℕ, Bool, List, Option, Some, None, refl, sym, ap, subst, arith, inl, inr, MatchOption, Machine, Mic1}
+use Rattle.cli_call.proofs.Common.{Mic2, World, End, Meaning, BoardView, HasEndCause, NoFault, IsAtReset, IsReady as IsReady1, mic1_meaning}
+use Rattle.cli_call.proofs.Common.{micro_of as micro_of1, mic2_meaning, RunEnd, mic3_meaning, pipeline_of, mic3_timing, Timing, timing_of, VerifiedView}
+use Rattle.cli_call.proofs.Common.{IsAccepted, board_end, EndsAsDefined, MalView, PlainReport, Loaded, listed_program, HasShipped, Cycle, ShowsCycles, Rose}
+use Rattle.cli_call.proofs.Common.{Processor, Datapath, Mic3, CommandName, Asked, machine_of, out_of_memory, FilesState, OutsideView, PrintsOnOut, Said, Says}
+use Rattle.cli_call.proofs.Common.{SinkState, SourceState, TellsOnErr, Unsaid, with_files, Ends, IsNotHad, IsUnread, PrintsTextOf, WritesThenPrints, status_of}
+use Rattle.cli_call.proofs.Common.{EndsOver, IsReferenceRun, IsReported, SoakEnds, Job, EndsOwnRun, IsChosenMicroprogram, NoneChosen, EndsPrepared}
+use Rattle.cli_call.proofs.Common.{IsUnprepared, IsFirstBoard, RunsThrough, IsCached, IsOwnRun, IsProfiled, IsTraced, IsDebugged, RewindingView, rewinding}
+use Rattle.cli_call.proofs.Common.{IsRewound, status_after, Step, Goes, EndsWithInput, IsNoInput, most_lines, AreDone, place}
+use Rattle.mic2_datapath.specs.Prelude.{IsReady as IsReady2, micro_of as micro_of2}
+use Rattle.mic3_datapath.specs.Prelude.{IsReady as IsReady3}
+use Rattle.mal_shipped.specs.Prelude.{IsLoaded}
+use Rattle.cli_call.specs.Answers.{Done}
 use Rattle.mic_clock.specs.declared.end.End.TheVariants as ends
-use Rattle.mic_clock.specs.Prelude.{Meaning, BoardView, HasEndCause, NoFault}
-use Rattle.mic_image_board.specs.Prelude.{IsAtReset}
-use Rattle.mic1_datapath.specs.Mic1.{IsReady as IsReady1}
-use Rattle.mic1_datapath.specs.Prelude.{mic1_meaning}
-use Rattle.mic1_datapath.specs.View.{micro_of as micro_of1}
-use Rattle.mic2_datapath.specs.Mic2.{IsReady as IsReady2}
-use Rattle.mic2_datapath.specs.Prelude.{mic2_meaning}
-use Rattle.mic2_datapath.specs.View.{micro_of as micro_of2}
-use Rattle.ijvm_meaning.specs.declared.run.RunEnd.{RunEnd}
 use Rattle.ijvm_meaning.specs.declared.run.RunEnd.TheVariants as defined
-use Rattle.mic3_datapath.specs.Mic3.{IsReady as IsReady3}
-use Rattle.mic3_datapath.specs.Prelude.{mic3_meaning, pipeline_of}
-use Rattle.mic3_interpreter.specs.Prelude.{mic3_timing}
-use Rattle.ijvm_meaning.specs.Prelude.{Timing, timing_of}
-use Rattle.verifier_facts.specs.Prelude.{VerifiedView, IsAccepted}
-use Rattle.ijvm_simulation.specs.Prelude.{board_end, EndsAsDefined}
-use Rattle.mal_parser.specs.Prelude.{MalView}
-use Rattle.ijvm_reference.specs.declared.plain.PlainReport.{PlainReport}
 use Rattle.ijvm_reference.specs.Plain as plain
-use Rattle.mal_shipped.specs.declared.loaded.Loaded.{Loaded}
-use Rattle.mal_shipped.specs.Prelude.{IsLoaded, listed_program, HasShipped}
-use Rattle.mic_watched.specs.declared.cycle.Cycle.{Cycle}
-use Rattle.mic_watched.specs.Prelude.{ShowsCycles}
-use Rattle.mic_base.specs.Prelude.{Rose}
-use Rattle.cli_words.specs.declared.request.Processor.{Processor}
-use Rattle.cli_words.specs.declared.request.Processor.TheVariants.{Datapath, Mic3}
-use Rattle.cli_words.specs.declared.table.CommandName.{CommandName}
 use Rattle.cli_words.specs.declared.table.CommandName.TheVariants as name
-use Rattle.cli_words.specs.Prelude.{Asked, machine_of}
 use Rattle.cli_outside.specs.Status as exits
-use Rattle.cli_outside.specs.Prelude.{out_of_memory, FilesState, OutsideView, PrintsOnOut, Said, Says, SinkState, SourceState, TellsOnErr, Unsaid, with_files, Ends, IsNotHad, IsUnread, PrintsTextOf, WritesThenPrints}
 use Rattle.cli_outside.specs.Work as work
-use Rattle.cli_run_texts.specs.Prelude.{status_of}
 use Rattle.cli_run_texts.specs.Ends as texts
-use Rattle.cli_programs.specs.Prelude.{EndsOver, IsReferenceRun, IsReported, SoakEnds}
 use Rattle.cli_programs.specs.Reference as reference
-use Rattle.cli_boards.specs.declared.job.Job.{Job}
-use Rattle.cli_boards.specs.Prelude.{EndsOwnRun, IsChosenMicroprogram, NoneChosen, EndsPrepared, IsUnprepared, IsFirstBoard, RunsThrough, IsCached, IsOwnRun, IsProfiled, IsTraced}
 use Rattle.cli_boards.specs.Prepared as preparing
 use Rattle.cli_boards.specs.Cached as cached
 use Rattle.cli_boards.specs.OwnRun as own_run
 use Rattle.cli_boards.specs.Profiled as profiled
 use Rattle.cli_boards.specs.Traced as traced
-use Rattle.cli_debug.specs.Prelude.{IsDebugged}
 use Rattle.cli_debug.specs.Debugged as debugging
-use Rattle.cli_rewind.specs.Prelude.{RewindingView, rewinding, IsRewound, status_after}
 use Rattle.cli_rewind.specs.Rewound as rewound_by
-use Rattle.cli_session.specs.declared.lines.Step.{Step}
-use Rattle.cli_session.specs.Prelude.{Goes, EndsWithInput, IsNoInput, most_lines, AreDone, place}
 use Rattle.cli_session.specs.Goes as lines_of
 use Rattle.cli_session.specs.Input as inputs
 use Rattle.cli_programs.specs.SoakEnds as soaking
 use Rattle.cli_call.specs.Prelude.{ClockedEnd, CallEnds, EndsOn, EndsOnMachine, PrintsMicro, job_of, shipped_job_of, Adrift, ConsoleFailed, Ended, FileFailed, HasFileRead, IsAnswer, IsRun, IsFaultless, IsOnlyTold, IsReference, IsUntouched, Misused, NoMemory, OutOfMap, Refused, Runs, RunsOwn, ShortOfMemory, SinkFailed, TakesFile, TooLong}
 use Rattle.cli_call.specs.ClockedEnd as clocking
 use Rattle.cli_call.specs.CallEnds as calls
-use Rattle.cli_call.specs.Answers.{Done}
 
 -- a sink that failed between these has failed since the one before
 either_of : (a a' b b' c d : ℕ) → a ≡ a' → b ≡ b' → Rose a c ⊎ Rose b d → Rose a' c ⊎ Rose b' d

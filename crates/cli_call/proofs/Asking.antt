@@ -1,24 +1,8 @@
 -- A call ends as its words ask.
-use Rattle.std.proofs.Common.{◌≡◌, ℕ, List, None, Some, Option, ap, subst, sym}
-use Rattle.std.specs.Prelude.{MatchOption}
-use Rattle.std.specs.Borrow.{Bor}
-use Rattle.console_port.specs.Prelude.{World}
-use Rattle.mal_shipped.specs.Prelude.{HasShipped}
-use Rattle.mic_clock.specs.Prelude.{Meaning}
-use Rattle.ijvm_meaning.specs.Prelude.{Timing}
-use Rattle.mic_words.specs.declared.machine.Machine.TheVariants.{Mic2}
-use Rattle.mic3_datapath.specs.Mic3.{IsReady as IsReady3}
-use Rattle.mic3_datapath.specs.Prelude.{mic3_meaning, pipeline_of}
-use Rattle.mic3_interpreter.specs.Prelude.{mic3_timing}
-use Rattle.cli_words.specs.Prelude.{Text, Asked, HasLimits, asked}
-use Rattle.cli_words.specs.declared.request.Processor.TheVariants.{Mic3}
-use Rattle.cli_words.specs.declared.request.Processor.{Processor}
-use Rattle.cli_words.specs.declared.table.CommandName.{CommandName}
-use Rattle.cli_words.specs.declared.request.Request.{Request}
-use Rattle.cli_outside.specs.Prelude.{LentView, Over, name_in}
-use Rattle.cli_programs.specs.Prelude.{EndsOver}
-use Rattle.cli_boards.specs.declared.job.Job.{Job}
-use Rattle.cli_boards.specs.Prelude.{EndsOwnRun}
+use Rattle.cli_call.proofs.Common.{◌≡◌, ℕ, List, None, Some, Option, ap, subst, sym, MatchOption, Bor, World, HasShipped, Meaning, Timing, Mic2, mic3_meaning}
+use Rattle.cli_call.proofs.Common.{pipeline_of, mic3_timing, Text, Asked, HasLimits, asked, Mic3, Processor, CommandName, Request, LentView, Over, name_in}
+use Rattle.cli_call.proofs.Common.{EndsOver, Job, EndsOwnRun}
+use Rattle.mic3_datapath.specs.Prelude.{IsReady as IsReady3}
 use Rattle.cli_call.specs.CallEnds.{Done}
 use Rattle.cli_call.specs.Prelude.{CallEnds, DoesAsked, EndsAs, EndsOnMachine, EndsRun, job_of, ClockedEnd}
 

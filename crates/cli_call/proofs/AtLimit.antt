@@ -1,8 +1,9 @@
 -- A run that the stack's end cuts has given and spent what it had at its last boundary.
 use Rattle.std.proofs.Common.{◌≡◌, ℕ, zero, suc, Bool, true, false, nat_le, Some, refl, subst}
 use Rattle.std.proofs.lemmas.Option.{same_Some}
+use Rattle.ijvm_meaning.specs.Prelude.{StepOutcome, Goes, Halts, Errs, Limits, Stuck, step_outcome, TimedImage, Point, Finish, EndsBy, finish_from, after_test}
+use Rattle.ijvm_meaning.specs.Prelude.{after_outcome, point_after, KeepsAtLimit, keeps_at_limit}
 use Rattle.ijvm_meaning.specs.declared.run.RunEnd.TheVariants as defined
-use Rattle.ijvm_meaning.specs.Prelude.{StepOutcome, Goes, Halts, Errs, Limits, Stuck, step_outcome, TimedImage, Point, Finish, EndsBy, finish_from, after_test, after_outcome, point_after, KeepsAtLimit, keeps_at_limit}
 
 -- at a stack limit the definition's cycles are those of the last boundary
 abbrev pub OfLimit : Finish → Type 0

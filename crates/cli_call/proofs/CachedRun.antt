@@ -1,32 +1,13 @@
 -- `cache` makes the run that `run` makes on Mic-1.
-use Rattle.std.proofs.Common.{◌≡◌, ◌≢◌, ◌∙◌, ℕ, Bool, true, false, List, [], ◌++◌, Option, Some, None, refl, sym, ap, subst}
-use Rattle.std.specs.Prelude.{IfSome, IsSome, replicate}
-use Rattle.std.proofs.lemmas.Option.{same_Some}
-use Rattle.std.proofs.lemmas.List.{append-nil}
-use Rattle.console_port.specs.Prelude.{Given, Untaken, World}
-use Rattle.micro_word.specs.Prelude.{ControlStore}
-use Rattle.mic_words.specs.declared.machine.Machine.TheVariants.{Mic1}
-use Rattle.mic_clock.specs.declared.counts.Counts.{Counts}
-use Rattle.mic_clock.specs.declared.end.End.{End}
-use Rattle.mic_clock.specs.declared.end.End.TheVariants as ends
-use Rattle.mic_clock.specs.Prelude.{NoFault, ShowsRun, HasOneEnd, MicroRun, turns, BoardView}
-use Rattle.mic_watched.specs.declared.cycle.Cycle.{Cycle}
+use Rattle.cli_call.proofs.Common.{◌≡◌, ◌≢◌, ◌∙◌, ℕ, Bool, true, false, List, [], ◌++◌, Option, Some, None, refl, sym, ap, subst, IfSome, IsSome, replicate}
+use Rattle.cli_call.proofs.Common.{same_Some, append-nil, Given, Untaken, World, ControlStore, Mic1, Counts, End, NoFault, ShowsRun, HasOneEnd, MicroRun, turns}
+use Rattle.cli_call.proofs.Common.{BoardView, Cycle, IsAtReset, reset_run, Micro, IsReady, mic1_meaning, registers_of, micro_of, Loaded, listed_program}
+use Rattle.cli_call.proofs.Common.{IsLoadedFor, HasShipped, VerifiedView, timing_of, board_end, HasRun, told_of, Got, OutsideView, Says, status_of}
+use Rattle.cli_call.proofs.Common.{report as report_of, accesses_of, cache_line, counts_of, IsCached, RunsThrough, report_on, NoRoom}
 use Rattle.mic_watched.specs.Prelude.{cycles_of}
-use Rattle.mic_image_board.specs.Prelude.{IsAtReset, reset_run}
-use Rattle.mic1_datapath.specs.Prelude.{Micro, IsReady, mic1_meaning, registers_of, micro_of}
 use Rattle.mic1_datapath.specs.declared.mic1.Mic1.{Mic1 as Datapath}
-use Rattle.mal_shipped.specs.declared.loaded.Loaded.{Loaded}
-use Rattle.mal_shipped.specs.Prelude.{listed_program, IsLoadedFor, HasShipped}
-use Rattle.verifier_facts.specs.Prelude.{VerifiedView}
-use Rattle.ijvm_meaning.specs.Prelude.{timing_of}
-use Rattle.ijvm_simulation.specs.Prelude.{board_end, HasRun, told_of}
-use Rattle.cli_outside.specs.Prelude.{Got, OutsideView, Says}
-use Rattle.cli_run_texts.specs.Prelude.{status_of}
-use Rattle.cli_run_texts.specs.Report.{report as report_of}
-use Rattle.cli_watchers.specs.Prelude.{accesses_of, cache_line, counts_of}
-use Rattle.cli_boards.specs.Prelude.{IsCached, RunsThrough, report_on}
+use Rattle.mic_clock.specs.declared.end.End.TheVariants as ends
 use Rattle.cli_boards.specs.Cached as caching
-use Rattle.cli_call.specs.ClockedEnd.{NoRoom}
 use Rattle.cli_call.specs.Prelude.{ClockedEnd, CutByRead, CutByWrite, Ran, CountsTheRun, IsQuiet}
 use Rattle.cli_call.proofs.Agreeing.{said, told_input}
 use Rattle.cli_call.proofs.SameRuns.{same_memory, same_runs}

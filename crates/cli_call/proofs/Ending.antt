@@ -1,16 +1,7 @@
 -- How a run ends, by the end of its board.
-use Rattle.std.proofs.Common.{◌≡◌, ◌≢◌, ◌∙◌, ℕ, List, Some, None, refl, sym, subst}
-use Rattle.std.proofs.lemmas.Option.{same_Some}
-use Rattle.console_port.specs.Prelude.{StaysFlushed, World}
-use Rattle.mic_clock.specs.declared.end.End.{End}
+use Rattle.cli_call.proofs.Common.{◌≡◌, ◌≢◌, ◌∙◌, ℕ, List, Some, None, refl, sym, subst, same_Some, StaysFlushed, World, End, Meaning, NoFault, HasEndCause}
+use Rattle.cli_call.proofs.Common.{BoardView, Timing, VerifiedView, board_end, HasRun, IsCutByRead, IsCutByWrite, OutsideView, Says, status_of, report_on}
 use Rattle.mic_clock.specs.declared.end.End.TheVariants as ends
-use Rattle.mic_clock.specs.Prelude.{Meaning, NoFault, HasEndCause, BoardView}
-use Rattle.ijvm_meaning.specs.Prelude.{Timing}
-use Rattle.verifier_facts.specs.Prelude.{VerifiedView}
-use Rattle.ijvm_simulation.specs.Prelude.{board_end, HasRun, IsCutByRead, IsCutByWrite}
-use Rattle.cli_outside.specs.Prelude.{OutsideView, Says}
-use Rattle.cli_run_texts.specs.Prelude.{status_of}
-use Rattle.cli_boards.specs.Prelude.{report_on}
 use Rattle.cli_call.specs.Prelude.{ClockedEnd, CutByRead, CutByWrite, Ran}
 
 module _ {M S : Type 0} (state : M → S) (m : Meaning S) (IsReady : ℕ → List ℕ → ℕ → S → World → Type 0) (IsShipped : List ℕ → Type 0) (entry : ℕ) (timing : Timing) where

@@ -1,24 +1,12 @@
 -- The machines only add to what was given.
-use Rattle.std.proofs.Common.{◌≡◌, ◌∙◌, ℕ, ◌%◌, Bool, true, false, if◌then◌else◌, List, [], ◌∷◌, ◌++◌, length, Option, Some, None, refl, sym, ap}
-use Rattle.std.specs.Prelude.{nat_lt}
-use Rattle.std.proofs.lemmas.List.{append-nil}
-use Rattle.console_port.specs.Prelude.{World, Refusal, given_after}
+use Rattle.cli_call.proofs.Common.{◌≡◌, ◌∙◌, ℕ, ◌%◌, Bool, true, false, if◌then◌else◌, List, [], ◌∷◌, ◌++◌, length, Option, Some, None, refl, sym, ap, nat_lt}
+use Rattle.cli_call.proofs.Common.{append-nil, World, Refusal, given_after, statement_of, Mem, Placed, Done, Ports, outcome, sampled, written, ports_given}
+use Rattle.cli_call.proofs.Common.{step_of_word as step_of_word1, mic1_meaning, edge_refusal, mic2_meaning, OnlyGives}
+use Rattle.mic2_datapath.specs.Prelude.{step_of_word as step_of_word2, Micro}
 use Rattle.mic_words.specs.declared.machine.Machine.TheVariants as machines
-use Rattle.micro_word.specs.Prelude.{statement_of}
-use Rattle.micro_word.specs.declared.statement.Mem.{Mem}
 use Rattle.micro_word.specs.declared.statement.Mem.TheVariants as mems
-use Rattle.micro_word.specs.declared.statement.Placed.{Placed}
-use Rattle.mic_clock.specs.Prelude.{Done}
-use Rattle.mic_datapath.specs.declared.ports.Ports.{Ports}
-use Rattle.mic_datapath.specs.Prelude.{outcome, sampled, written, ports_given}
-use Rattle.mic1_datapath.specs.Mic1.{step_of_word as step_of_word1}
-use Rattle.mic1_datapath.specs.Prelude.{mic1_meaning}
 use Rattle.mic1_datapath.specs.Microstep as mic1
-use Rattle.mic2_fetch_unit.specs.Prelude.{edge_refusal}
-use Rattle.mic2_datapath.specs.Mic2.{step_of_word as step_of_word2}
-use Rattle.mic2_datapath.specs.Prelude.{mic2_meaning, Micro}
 use Rattle.mic2_datapath.specs.Microstep as mic2
-use Rattle.cli_session.specs.Prelude.{OnlyGives}
 
 abbrev Gives : World → World → Type 0
 Gives w v = (more : List ℕ) × (v.given ≡ w.given ++ more)

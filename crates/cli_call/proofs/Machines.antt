@@ -1,20 +1,9 @@
 -- `run` of one program on two machines ends alike.
-use Rattle.std.proofs.Common.{◌≡◌, ◌≢◌, ◌∙◌, ℕ, List, Some, Option, sym, ap, subst}
-use Rattle.std.specs.Prelude.{IfSome}
-use Rattle.std.proofs.lemmas.Option.{same_Some}
-use Rattle.console_port.specs.Prelude.{World}
-use Rattle.mic_clock.specs.declared.end.End.{End}
+use Rattle.cli_call.proofs.Common.{◌≡◌, ◌≢◌, ◌∙◌, ℕ, List, Some, Option, sym, ap, subst, IfSome, same_Some, World, End, Meaning, BoardView, Timing}
+use Rattle.cli_call.proofs.Common.{VerifiedView, board_end, HasRun, MeetNoBound, Got, OutsideView, Says, status_of, report_on, NoRoom}
 use Rattle.mic_clock.specs.declared.end.End.TheVariants as clocked
-use Rattle.mic_clock.specs.Prelude.{Meaning, BoardView}
-use Rattle.ijvm_meaning.specs.Prelude.{Timing}
-use Rattle.verifier_facts.specs.Prelude.{VerifiedView}
-use Rattle.ijvm_simulation.specs.Prelude.{board_end, HasRun, MeetNoBound}
 use Rattle.ijvm_simulation.specs.Agreement as boards
 use Rattle.cli_outside.specs.Status as exits
-use Rattle.cli_outside.specs.Prelude.{Got, OutsideView, Says}
-use Rattle.cli_run_texts.specs.Prelude.{status_of}
-use Rattle.cli_boards.specs.Prelude.{report_on}
-use Rattle.cli_call.specs.ClockedEnd.{NoRoom}
 use Rattle.cli_call.specs.Prelude.{ClockedEnd, CutByRead, CutByWrite, Ran, CallsEndAlike, IsQuiet}
 use Rattle.cli_call.proofs.Agreeing.{said}
 

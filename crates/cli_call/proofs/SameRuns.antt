@@ -1,22 +1,13 @@
 -- Runs of Mic-1 from one reset are the same over every store that holds the microprogram which ships, and over every loaded memory.
-use Rattle.std.proofs.Common.{◌≡◌, ◌⊎◌, inl, inr, ◌∙◌, ◌<◌, ◌≤◌, ◌+◌, ◌-◌, ◌*◌, ◌==◌, ◌&&◌, ℕ, zero, suc, nat_le, nat_lt, Bool, true, false, if◌then◌else◌, List, [], ◌∷◌, length, slice_index, Option, Some, None, IfSome, IsSome, IsTrue, refl, sym, ap, subst, arith}
-use Rattle.std.proofs.lemmas.Bool.{cases_lt}
-use Rattle.std.proofs.lemmas.Bool.Decides.{nat_tests}
-use Rattle.std.proofs.lemmas.Grind.{same_number_lists}
-use Rattle.std.proofs.Math.Nat.{mod-lt}
-use Rattle.console_port.specs.Prelude.{HasTextWords, IsLoaded, World, Refusal, byte_in}
+use Rattle.cli_call.proofs.Common.{◌≡◌, ◌⊎◌, inl, inr, ◌∙◌, ◌<◌, ◌≤◌, ◌+◌, ◌-◌, ◌*◌, ◌==◌, ◌&&◌, ℕ, zero, suc, nat_le, nat_lt, Bool, true, false, if◌then◌else◌}
+use Rattle.cli_call.proofs.Common.{List, [], ◌∷◌, length, slice_index, Option, Some, None, IfSome, IsSome, IsTrue, refl, sym, ap, subst, arith, cases_lt}
+use Rattle.cli_call.proofs.Common.{nat_tests, same_number_lists, mod-lt, HasTextWords, IsLoaded, World, Refusal, byte_in, statement_of, is_next, Placed}
+use Rattle.cli_call.proofs.Common.{PlacedNext, End, Outcome, Done, Refused, MicroRun, HasOneEnd, after_end_or_step, after_step, bounded, bounded_by}
+use Rattle.cli_call.proofs.Common.{counts_after, end_before, turn, turn_by, turns, word_at, Ports, byte_under_way, outcome, flag, next_address, arrived, Micro}
+use Rattle.cli_call.proofs.Common.{clock, refusal, result_of, settled, world_after, driven, mic1_meaning, microstep, step_of_word, ListingRow, table1}
+use Rattle.cli_call.proofs.Common.{HasShipped, shipped, statement_among, reset_run}
 use Rattle.mic_words.specs.declared.machine.Machine.TheVariants as machines
-use Rattle.micro_word.specs.Prelude.{statement_of, is_next}
-use Rattle.micro_word.specs.declared.statement.Placed.{Placed}
-use Rattle.micro_word.specs.declared.statement.PlacedNext.{PlacedNext}
 use Rattle.micro_word.specs.declared.statement.PlacedNext.TheVariants as nexts
-use Rattle.mic_clock.specs.declared.end.End.{End}
-use Rattle.mic_clock.specs.Prelude.{Outcome, Done, Refused, MicroRun, HasOneEnd, after_end_or_step, after_step, bounded, bounded_by, counts_after, end_before, turn, turn_by, turns, word_at}
-use Rattle.mic_datapath.specs.declared.ports.Ports.{Ports}
-use Rattle.mic_datapath.specs.Prelude.{byte_under_way, outcome, flag, next_address, arrived}
-use Rattle.mic1_datapath.specs.Prelude.{Micro, clock, refusal, result_of, settled, world_after, driven, mic1_meaning, microstep, step_of_word}
-use Rattle.mal_shipped.specs.Prelude.{ListingRow, table1, HasShipped, shipped, statement_among}
-use Rattle.mic_image_board.specs.Prelude.{reset_run}
 
 -- A loaded memory is one list of words.
 

@@ -1,33 +1,14 @@
 -- Calls of `tiny` over one text are as its program means.
-use Rattle.std.proofs.Common.{◌≡◌, ◌⊎◌, inl, inr, ◌∙◌, ◌<◌, ◌≤◌, ℕ, List, length, Option, Some, refl, sym, ap, subst, arith}
-use Rattle.mic_base.specs.Prelude.{Contents, Tells, file_in, most_bytes}
-use Rattle.mic_words.specs.declared.machine.Machine.{Machine}
-use Rattle.mic_words.specs.declared.machine.Machine.TheVariants.{Mic1, Mic2}
-use Rattle.console_port.specs.Prelude.{World}
-use Rattle.mic_clock.specs.Prelude.{Meaning}
-use Rattle.mic1_datapath.specs.Mic1.{IsReady as IsReady1}
-use Rattle.mic1_datapath.specs.Prelude.{mic1_meaning}
-use Rattle.mic1_datapath.specs.View.{micro_of as micro_of1}
-use Rattle.mic2_datapath.specs.Mic2.{IsReady as IsReady2}
-use Rattle.mic2_datapath.specs.Prelude.{mic2_meaning}
-use Rattle.mic2_datapath.specs.View.{micro_of as micro_of2}
-use Rattle.mal_shipped.specs.Prelude.{HasShipped}
-use Rattle.ijvm_meaning.specs.declared.run.RunEnd.{RunEnd}
+use Rattle.cli_call.proofs.Common.{◌≡◌, ◌⊎◌, inl, inr, ◌∙◌, ◌<◌, ◌≤◌, ℕ, List, length, Option, Some, refl, sym, ap, subst, arith, Contents, Tells, file_in}
+use Rattle.cli_call.proofs.Common.{most_bytes, Machine, Mic1, Mic2, World, Meaning, IsReady as IsReady1, mic1_meaning, micro_of as micro_of1, mic2_meaning}
+use Rattle.cli_call.proofs.Common.{HasShipped, RunEnd, Timing, timing_of, TimedImage, Point, Finish, EndsBy, Passes, first_point, VerifiedView, board_end}
+use Rattle.cli_call.proofs.Common.{Program, Ended, meaning, TinyError, HasNoCode, IsCompiled, OutsideView, Ends, status_of, IsRefusedTiny, Tiny}
+use Rattle.mic2_datapath.specs.Prelude.{IsReady as IsReady2, micro_of as micro_of2}
 use Rattle.ijvm_meaning.specs.declared.run.RunEnd.TheVariants as defined
-use Rattle.ijvm_meaning.specs.Prelude.{Timing, timing_of, TimedImage, Point, Finish, EndsBy, Passes, first_point}
-use Rattle.verifier_facts.specs.Prelude.{VerifiedView}
-use Rattle.ijvm_simulation.specs.Prelude.{board_end}
-use Rattle.tiny_tree.specs.Prelude.{Program, Ended, meaning}
 use Rattle.tiny_runs.specs.Prelude.{IsPrefix, RunsAsMeant, output, runs_of}
-use Rattle.tiny_parser.specs.declared.error.TinyError.{TinyError}
-use Rattle.tiny_compiler.specs.Prelude.{HasNoCode, IsCompiled}
 use Rattle.cli_outside.specs.Status as exits
-use Rattle.cli_outside.specs.Prelude.{OutsideView, Ends}
-use Rattle.cli_run_texts.specs.Prelude.{status_of}
-use Rattle.cli_programs.specs.Prelude.{IsRefusedTiny}
 use Rattle.cli_call.specs.Prelude.{ClockedEnd, CutByRead, CutByWrite, Ran, IsQuiet, CallEnds, EndsAs, CallsAreAsMeant, Cut, EndsAsMeant, HasEnded, HasGot, IsTinyCall, SomeBound, Whole}
 use Rattle.cli_call.specs.ClockedEnd as clocked
-use Rattle.cli_words.specs.Prelude.{Tiny}
 use Rattle.cli_call.specs.CallEnds.{Done, NoRoom}
 use Rattle.cli_call.proofs.Agreeing.{OneEnd, said, told_input}
 use Rattle.cli_call.proofs.AtLimit.{given_at_last}

@@ -1,9 +1,7 @@
 -- Two calls over one file work over the same program.
-use Rattle.std.proofs.Common.{◌≡◌, ◌⊎◌, inl, inr, ◌∙◌, ◌<◌, ◌≤◌, ℕ, List, length, Option, Some, sym, subst, arith}
-use Rattle.std.proofs.lemmas.Option.{same_Some}
-use Rattle.mic_base.specs.Prelude.{Contents, Tells, file_in, most_bytes}
+use Rattle.cli_call.proofs.Common.{◌≡◌, ◌⊎◌, inl, inr, ◌∙◌, ◌<◌, ◌≤◌, ℕ, List, length, Option, Some, sym, subst, arith, same_Some, Contents, Tells, file_in}
+use Rattle.cli_call.proofs.Common.{most_bytes, OutsideView, Did, Ends, IsHad, IsNotHad, IsFileRead, IsUnread, NotHad}
 use Rattle.cli_outside.specs.Status as exits
-use Rattle.cli_outside.specs.Prelude.{OutsideView, Did, Ends, IsHad, IsNotHad, IsFileRead, IsUnread, NotHad}
 use Rattle.cli_outside.specs.Work as work
 use Rattle.cli_call.specs.Prelude.{BothRan, CallsAgree, IsQuiet, NoneHad}
 use Rattle.cli_call.proofs.Agreeing.{said}

@@ -2,28 +2,10 @@
 -- of their reports. That `run` agrees on two machines: the same output, status, end and number of instructions.
 -- That `cache` counts the accesses of the run that `run` makes on Mic-1: the same output, status and report.
 use Rattle.std.specs.Prelude.{◌≡◌, ◌≢◌, ◌⊎◌, ℕ, List, ◌++◌, Some, codes, replicate}
-use Rattle.mic_base.specs.Prelude.{Rose, Contents}
-use Rattle.mic_words.specs.declared.machine.Machine.{Machine}
-use Rattle.mic_words.specs.declared.machine.Machine.TheVariants.{Mic1, Mic2}
-use Rattle.console_port.specs.Prelude.{IsLoaded, World}
-use Rattle.console_port.specs.declared.map.MemoryMap.{MemoryMap}
-use Rattle.mic_clock.specs.declared.counts.Counts.{Counts}
-use Rattle.mic_clock.specs.declared.end.End.{End}
-use Rattle.mic_clock.specs.declared.registers.Registers.{Registers}
-use Rattle.mic_clock.specs.Prelude.{MicroRun, turns, state_line}
-use Rattle.mic_watched.specs.declared.cycle.Cycle.{Cycle}
-use Rattle.mic_watched.specs.Prelude.{cycles_of}
-use Rattle.mic_image_board.specs.Prelude.{reset_run}
-use Rattle.mic1_datapath.specs.Prelude.{Micro, mic1_meaning, registers_of}
-use Rattle.mal_shipped.specs.Prelude.{HasShipped}
-use Rattle.verifier_facts.specs.Prelude.{VerifiedView}
-use Rattle.ijvm_reference.specs.declared.plain.PlainReport.{PlainReport}
+use Rattle.cli_call.specs.Common.{Rose, Contents, Machine, Mic1, Mic2, IsLoaded, World, MemoryMap, Counts, End, Registers, MicroRun, turns, state_line, Cycle}
+use Rattle.cli_call.specs.Common.{cycles_of, reset_run, Micro, mic1_meaning, registers_of, HasShipped, VerifiedView, PlainReport, Got, OutsideView}
+use Rattle.cli_call.specs.Common.{report as report_of, plain_head, accesses_of, cache_line, counts_of, Cache, Reference, Run}
 use Rattle.cli_outside.specs.Status as exits
-use Rattle.cli_outside.specs.Prelude.{Got, OutsideView}
-use Rattle.cli_run_texts.specs.Report.{report as report_of}
-use Rattle.cli_run_texts.specs.Prelude.{plain_head}
-use Rattle.cli_watchers.specs.Prelude.{accesses_of, cache_line, counts_of}
-use Rattle.cli_words.specs.Prelude.{Cache, Reference, Run}
 use Rattle.cli_call.specs.CallEnds.{CallEnds}
 
 -- a call met no fault of its files and its streams, and was not out of memory

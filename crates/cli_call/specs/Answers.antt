@@ -1,11 +1,8 @@
 -- The answers of a call of `mic`, one by one: the cause of each, and the state of the outside after it.
 use Rattle.std.specs.Prelude.{◌≡◌, ◌<◌, ◌≤◌, ◌⊎◌, ℕ, true, List, length, Option, Some, None, codes, is_some}
-use Rattle.mic_base.specs.Prelude.{Rose, Tells, most_bytes}
-use Rattle.cli_words.specs.declared.table.CommandName.{CommandName}
+use Rattle.cli_call.specs.Common.{Rose, Tells, most_bytes, CommandName, is_in, form_for, Asked, OutsideView, IsFileRead}
 use Rattle.cli_words.specs.declared.table.CommandName.TheVariants as name
-use Rattle.cli_words.specs.Prelude.{is_in, form_for, Asked}
 use Rattle.cli_outside.specs.Status as exits
-use Rattle.cli_outside.specs.Prelude.{OutsideView, IsFileRead}
 use Rattle.cli_call.specs.CallEnds.{CallEnds}
 
 -- the command has the plain word FILE, which names a file that it reads

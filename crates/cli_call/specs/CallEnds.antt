@@ -1,35 +1,14 @@
 -- How a call of `mic` ends, by what its words ask for.
 use Rattle.std.specs.Prelude.{ℕ, List, Option, Some, None, MatchOption}
-use Rattle.mic_words.specs.declared.machine.Machine.{Machine}
-use Rattle.mic_words.specs.declared.machine.Machine.TheVariants.{Mic1, Mic2}
-use Rattle.console_port.specs.Prelude.{World}
-use Rattle.mal_parser.specs.Prelude.{canonical_text}
-use Rattle.mic_clock.specs.Prelude.{Meaning}
-use Rattle.mic1_datapath.specs.Mic1.{IsReady as IsReady1}
-use Rattle.mic1_datapath.specs.Prelude.{mic1_meaning}
-use Rattle.mic1_datapath.specs.View.{micro_of as micro_of1}
-use Rattle.mic2_datapath.specs.Mic2.{IsReady as IsReady2}
-use Rattle.mic2_datapath.specs.Prelude.{mic2_meaning}
-use Rattle.mic2_datapath.specs.View.{micro_of as micro_of2}
-use Rattle.mic3_datapath.specs.Mic3.{IsReady as IsReady3}
-use Rattle.mic3_datapath.specs.Prelude.{mic3_meaning, pipeline_of}
-use Rattle.mic3_interpreter.specs.Prelude.{mic3_timing}
-use Rattle.ijvm_meaning.specs.Prelude.{Timing, timing_of}
-use Rattle.mal_shipped.specs.Prelude.{listed_program, HasShipped}
-use Rattle.cli_words.specs.declared.request.Processor.{Processor}
-use Rattle.cli_words.specs.declared.request.Processor.TheVariants.{Datapath, Mic3}
-use Rattle.cli_words.specs.declared.table.CommandName.{CommandName}
+use Rattle.cli_call.specs.Common.{Machine, Mic1, Mic2, World, canonical_text, Meaning, IsReady as IsReady1, mic1_meaning, micro_of as micro_of1, mic2_meaning}
+use Rattle.cli_call.specs.Common.{mic3_meaning, pipeline_of, mic3_timing, Timing, timing_of, listed_program, HasShipped, Processor, Datapath, Mic3, CommandName}
+use Rattle.cli_call.specs.Common.{Text, Asked, machine_of, out_of_memory, LentView, Over, OutsideView, PrintsOnOut, TellsOnErr, PrintsTextOf, Lists, Summarizes}
+use Rattle.cli_call.specs.Common.{Assembles, EndsOver, IsReferenceRun, SoakEnds, Compiles, EndsOverTiny, MicroAnswers, PrintMicroAnswers, Job, EndsCache}
+use Rattle.cli_call.specs.Common.{EndsOwnRun, EndsProfile, EndsTrace, EndsDebug, EndsRewind}
+use Rattle.mic2_datapath.specs.Prelude.{IsReady as IsReady2, micro_of as micro_of2}
+use Rattle.mic3_datapath.specs.Prelude.{IsReady as IsReady3}
 use Rattle.cli_words.specs.declared.table.CommandName.TheVariants as name
-use Rattle.cli_words.specs.Prelude.{Text, Asked, machine_of}
 use Rattle.cli_outside.specs.Status as exits
-use Rattle.cli_outside.specs.Prelude.{out_of_memory, LentView, Over, OutsideView, PrintsOnOut, TellsOnErr, PrintsTextOf}
-use Rattle.cli_program_texts.specs.Prelude.{Lists, Summarizes}
-use Rattle.cli_programs.specs.Prelude.{Assembles, EndsOver, IsReferenceRun, SoakEnds, Compiles, EndsOverTiny}
-use Rattle.cli_micro.specs.Prelude.{MicroAnswers, PrintMicroAnswers}
-use Rattle.cli_boards.specs.declared.job.Job.{Job}
-use Rattle.cli_boards.specs.Prelude.{EndsCache, EndsOwnRun, EndsProfile, EndsTrace}
-use Rattle.cli_debug.specs.Prelude.{EndsDebug}
-use Rattle.cli_rewind.specs.Prelude.{EndsRewind}
 use Rattle.cli_call.specs.ClockedEnd.{ClockedEnd}
 use Rattle.cli_call.specs.Usage.{usage_text}
 

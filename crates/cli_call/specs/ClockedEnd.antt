@@ -1,16 +1,9 @@
 -- How the clocking of an accepted program ends, by the microprogram that ships: its run and its report.
 use Rattle.std.specs.Prelude.{◌≡◌, ℕ, List}
-use Rattle.mic_base.specs.Prelude.{Rose}
-use Rattle.console_port.specs.Prelude.{StaysFlushed, World}
+use Rattle.cli_call.specs.Common.{Rose, StaysFlushed, World, Meaning, BoardView, Timing, VerifiedView, board_end, HasRun, IsCutByRead, IsCutByWrite}
+use Rattle.cli_call.specs.Common.{out_of_memory, OutsideView, Says, TellsOnErr, status_of, report_on}
 use Rattle.mic_clock.specs.declared.end.End.TheVariants as ends
-use Rattle.mic_clock.specs.Prelude.{Meaning, BoardView}
-use Rattle.ijvm_meaning.specs.Prelude.{Timing}
-use Rattle.verifier_facts.specs.Prelude.{VerifiedView}
-use Rattle.ijvm_simulation.specs.Prelude.{board_end, HasRun, IsCutByRead, IsCutByWrite}
 use Rattle.cli_outside.specs.Status as exits
-use Rattle.cli_outside.specs.Prelude.{out_of_memory, OutsideView, Says, TellsOnErr}
-use Rattle.cli_run_texts.specs.Prelude.{status_of}
-use Rattle.cli_boards.specs.Prelude.{report_on}
 
 -- A machine: its meaning, when its next instruction is ready, its store that ships, where that begins, and what is spent.
 module _ {M S : Type 0} (state : M → S) (m : Meaning S) (IsReady : ℕ → List ℕ → ℕ → S → World → Type 0)

@@ -1,3 +1,4 @@
+pub mod Common
 pub mod Usage
 pub mod ClockedEnd
 pub mod CallEnds

@@ -1,16 +1,8 @@
 -- That `tiny` does what the program of its text means: what its calls come to, in the words of that meaning.
 use Rattle.std.specs.Prelude.{◌≡◌, ◌≤◌, ◌⊎◌, ℕ, List, ◌++◌, Some, IfSome, length}
-use Rattle.mic_base.specs.Prelude.{Contents, file_in, most_bytes}
-use Rattle.mic_words.specs.declared.machine.Machine.{Machine}
-use Rattle.ijvm_simulation.specs.Prelude.{told_of}
-use Rattle.tiny_tree.specs.Prelude.{Program, Ended, meaning}
+use Rattle.cli_call.specs.Common.{Contents, file_in, most_bytes, Machine, told_of, Program, Ended, meaning, Spells, IsCompiled, VerifiedView, OutsideView, Tiny}
 use Rattle.tiny_runs.specs.Prelude.{IsPrefix, output}
-use Rattle.tiny_parser.specs.Prelude.{Spells}
-use Rattle.tiny_compiler.specs.Prelude.{IsCompiled}
-use Rattle.verifier_facts.specs.Prelude.{VerifiedView}
 use Rattle.cli_outside.specs.Status as exits
-use Rattle.cli_outside.specs.Prelude.{OutsideView}
-use Rattle.cli_words.specs.Prelude.{Tiny}
 use Rattle.cli_call.specs.CallEnds.{CallEnds}
 use Rattle.cli_call.specs.Agree.{IsQuiet}
 

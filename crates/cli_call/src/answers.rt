@@ -1,8 +1,7 @@
 //! The top call: the words, the files and the streams of one call of the program, and the cause of each answer.
 
 ghost use Rattle.std.specs.Prelude.{ℕ, Option, map, string_bytes};
-ghost use Rattle.cli_words.specs.Prelude.{Asked, request_of};
-ghost use Rattle.cli_outside.specs.Prelude.{OutsideView, files_of, outside_view, sink_of, source_of};
+ghost use Rattle.cli_call.specs.Common.{Asked, request_of, OutsideView, files_of, outside_view, sink_of, source_of};
 ghost use Rattle.cli_call.specs.CallEnds.{CallEnds};
 ghost use Rattle.cli_call.specs.Answers.{HasItsCause, IsAnswer};
 

@@ -1,11 +1,7 @@
 //! What holds between two commands.
 
 ghost use Rattle.std.specs.Prelude.{ℕ, List};
-ghost use Rattle.mic_words.specs.declared.machine.Machine.{Machine};
-ghost use Rattle.console_port.specs.declared.map.MemoryMap.{MemoryMap};
-ghost use Rattle.mic1_datapath.specs.Prelude.{mic1_meaning};
-ghost use Rattle.mic2_datapath.specs.Prelude.{mic2_meaning};
-ghost use Rattle.cli_session.specs.Prelude.{OnlyGives};
+ghost use Rattle.cli_call.specs.Common.{Machine, MemoryMap, mic1_meaning, mic2_meaning, OnlyGives};
 ghost use Rattle.cli_call.specs.Agree.{CacheCountsTheRun, RunIsAsReference, RunsEndAlike};
 ghost use Rattle.cli_call.specs.Meant.{TinyIsAsMeant};
 

@@ -1,10 +1,7 @@
 //! `run FILE`: one program, clocked on a machine.
 
 ghost use Rattle.std.specs.Prelude.{◌≤◌, ◌^◌};
-ghost use Rattle.console_port.specs.Prelude.{IsMap};
-ghost use Rattle.cli_outside.specs.Prelude.{Over};
-ghost use Rattle.cli_programs.specs.Prelude.{EndsOver};
-ghost use Rattle.cli_boards.specs.Prelude.{job_in};
+ghost use Rattle.cli_call.specs.Common.{IsMap, Over, EndsOver, job_in};
 ghost use Rattle.cli_call.specs.CallEnds.{EndsRun};
 ghost use Rattle.cli_call.specs.ClockedEnd.{ClockedEnd};
 

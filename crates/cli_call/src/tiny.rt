@@ -1,8 +1,7 @@
 //! `tiny`: the program of a Tiny text, clocked on a machine with the microprogram that ships for it.
 
 ghost use Rattle.std.specs.Prelude.{◌≤◌, ◌^◌};
-ghost use Rattle.cli_outside.specs.Prelude.{Over};
-ghost use Rattle.cli_programs.specs.Prelude.{EndsOverTiny};
+ghost use Rattle.cli_call.specs.Common.{Over, EndsOverTiny};
 ghost use Rattle.cli_call.specs.ClockedEnd.{ClockedEnd};
 
 use crate::run::run_program;

@@ -1,8 +1,7 @@
 //! What the words of a command line ask for is done, on the machine that they name.
 
 ghost use Rattle.std.specs.Prelude.{map, string_bytes};
-ghost use Rattle.cli_words.specs.Prelude.{HasLimits, asked, request_of};
-ghost use Rattle.cli_outside.specs.Prelude.{Over};
+ghost use Rattle.cli_call.specs.Common.{HasLimits, asked, request_of, Over};
 ghost use Rattle.cli_call.specs.CallEnds.{CallEnds, DoesAsked, EndsOn};
 
 use crate::print::print_asked;

@@ -1,9 +1,5 @@
 -- What a call does, by what its words ask for.
-use Rattle.std.proofs.Common.{◌≡◌, ℕ, Option, Some, subst, sym}
-use Rattle.cli_outside.specs.Outside.{LentView, Over}
-use Rattle.cli_check.specs.declared.words.MachineName.{MachineName}
-use Rattle.cli_check.specs.CheckEnds.{CheckEnds, JudgesFor}
-use Rattle.cli_check.specs.Words.{Asked}
+use Rattle.cli_check.proofs.Common.{◌≡◌, ℕ, Option, Some, subst, sym, LentView, Over, MachineName, CheckEnds, JudgesFor, Asked}
 
 module _ {old new : LentView} {status : ℕ} where
   pub call_ends : {asks is : Option Asked} → asks ≡ is → Over (CheckEnds is) old new status → Over (CheckEnds asks) old new status

@@ -1,3 +1,4 @@
+pub mod Common
 pub mod Seconds
 pub mod Rows
 pub mod Asking

@@ -1,9 +1,6 @@
 -- The lines of the rows, one after another.
-use Rattle.std.proofs.Common.{◌≡◌, ℕ, ◌+◌, ◌<◌, ◌≤◌, List, ◌∷◌, ◌++◌, length, get_or, drop, ap, sym, ◌∙◌, append_assoc, add-one, drop-cons}
-use Rattle.std.proofs.lemmas.List.{append-nil, drop_all}
-use Rattle.ijvm_instr.specs.declared.instr.Instr.{Instr}
-use Rattle.mic1_checks.specs.declared.judged.Costs.{Costs}
-use Rattle.cli_check.specs.Table.{instr_line, rows_text}
+use Rattle.cli_check.proofs.Common.{◌≡◌, ℕ, ◌+◌, ◌<◌, ◌≤◌, List, ◌∷◌, ◌++◌, length, get_or, drop, ap, sym, ◌∙◌, append_assoc, add-one, drop-cons, append-nil}
+use Rattle.cli_check.proofs.Common.{drop_all, Instr, Costs, instr_line, rows_text}
 
 -- the lines from this row on
 rows_rest : (costs : Costs) (row : ℕ) (is : List Instr) (d : Instr) → row < length is →

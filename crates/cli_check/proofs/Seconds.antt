@@ -1,7 +1,5 @@
 -- The second count of a row, found as the first leaf of it.
-use Rattle.std.proofs.Common.{◌≡◌, ℕ, Bool, true, false, ◌&&◌, ◌==◌, if◌then◌else◌, List, [], ◌∷◌, Option, Some, refl}
-use Rattle.std.specs.Prelude.{find, option_map}
-use Rattle.mic1_checks.specs.declared.leaf.Counts.{Counts}
+use Rattle.cli_check.proofs.Common.{◌≡◌, ℕ, Bool, true, false, ◌&&◌, ◌==◌, if◌then◌else◌, List, [], ◌∷◌, Option, Some, refl, find, option_map, Counts}
 use Rattle.mic1_checks.specs.Spent.{second_in}
 
 abbrev pub second_of : Option Counts → Option ℕ

@@ -1,19 +1,10 @@
 -- What a failing sink leaves of a line, as the definition has it.
-use Rattle.std.proofs.Common.{◌≡◌, inl, inr, ◌∙◌, ℕ, zero, suc, ◌≤◌, Bool, true, false, List, [], ◌++◌, length, take, min, if◌then◌else◌, Option, Some, None, IsSome, Result, Ok, Err, refl, sym, ap, subst, arith}
-use Rattle.std.specs.Prelude.{OnErr, nat_le}
-use Rattle.std.specs.Option.{option_map}
-use Rattle.std.proofs.lemmas.Bool.{cases_lt}
-use Rattle.std.proofs.lemmas.List.{take_min, take-append-le}
-use Rattle.mic_base.specs.Prelude.{no_rise}
-use Rattle.console_port.specs.Prelude.{World}
-use Rattle.mic_clock.specs.declared.end.End.{End}
-use Rattle.mic_clock.specs.Prelude.{Meaning, MicroRun, bounded, bounded_by, turn}
-use Rattle.mic_debugger.specs.declared.plan.Plan.{Plan}
+use Rattle.cli_debug.proofs.Common.{◌≡◌, inl, inr, ◌∙◌, ℕ, zero, suc, ◌≤◌, Bool, true, false, List, [], ◌++◌, length, take, min, if◌then◌else◌, Option, Some}
+use Rattle.cli_debug.proofs.Common.{None, IsSome, Result, Ok, Err, refl, sym, ap, subst, arith, OnErr, nat_le, option_map, cases_lt, take_min, take-append-le}
+use Rattle.cli_debug.proofs.Common.{no_rise, World, End, Meaning, MicroRun, bounded, bounded_by, turn, Plan, Until, GotInPart, OutsideView}
 use Rattle.mic_debugger.specs.declared.plan.Plan.TheVariants as plans
-use Rattle.mic_debugger.specs.declared.until.Until.{Until}
 use Rattle.mic_debugger.specs.Prelude.{Book, IsDone, IsGoing, IsTold, after, printed, turn_lines, IsLineBroken, HasReadCause, Carries, IsPart, IsWhole, Rules, Stand, plan_at, rules_of, stand_in, KeepFronts, SessionView}
 use Rattle.cli_session.specs.Prelude.{IsCutShort, IsFrontOf, place, OnlyGives, IsFront, front_same, front_then, held_front, turn_gives}
-use Rattle.cli_outside.specs.Prelude.{GotInPart, OutsideView}
 use Rattle.cli_debug.specs.Prelude.{IsBrokenOff, debugging, debugging_view}
 use Rattle.cli_debug.proofs.Standing.{leads_on, same_stand, streams_at}
 

@@ -1,15 +1,8 @@
 -- How a session that is over ends its command.
-use Rattle.std.proofs.Common.{◌≡◌, ◌≢◌, ◌∙◌, ℕ, Bool, List, Option, Some, None, refl, sym, ap, subst}
-use Rattle.std.specs.Prelude.{IfSome}
-use Rattle.std.proofs.lemmas.List.{append-nil}
-use Rattle.mic_clock.specs.Prelude.{Meaning}
-use Rattle.verifier_facts.specs.Prelude.{VerifiedView}
-use Rattle.mal_parser.specs.Prelude.{MalView}
-use Rattle.mal_shipped.specs.declared.loaded.Loaded.{Loaded}
+use Rattle.cli_debug.proofs.Common.{◌≡◌, ◌≢◌, ◌∙◌, ℕ, Bool, List, Option, Some, None, refl, sym, ap, subst, IfSome, append-nil, Meaning, VerifiedView, MalView}
+use Rattle.cli_debug.proofs.Common.{Loaded, OutsideView, TellsOnErr, Step}
 use Rattle.mic_debugger.specs.Prelude.{SessionView}
 use Rattle.cli_outside.specs.Status as exits
-use Rattle.cli_outside.specs.Prelude.{OutsideView, TellsOnErr}
-use Rattle.cli_session.specs.declared.lines.Step.{Step}
 use Rattle.cli_session.specs.declared.lines.Step.TheVariants as steps
 use Rattle.cli_session.specs.Prelude.{IsCutIn, IsNext, IsReadOut, most_lines, Place, place, ConsoleFailed, Goes, On, Over, SinkFailed}
 use Rattle.cli_debug.specs.Prelude.{is_quit, DebuggingView, debugging, debugging_view, Cut, IsDebugged, IsStart, Left, Stopped, report_in}

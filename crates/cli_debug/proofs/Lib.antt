@@ -1,3 +1,4 @@
+pub mod Common
 pub mod Standing
 pub mod Ending
 pub mod Breaking

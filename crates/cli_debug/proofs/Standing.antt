@@ -1,23 +1,13 @@
 -- What the debugger's library says of a line, as the definition has it.
-use Rattle.std.proofs.Common.{◌≡◌, ◌∙◌, ℕ, Bool, true, false, List, [], ◌∷◌, Option, Some, None, Result, Ok, Err, refl, sym, ap, subst}
-use Rattle.std.specs.Prelude.{OnOk, IfOk, if◌then◌else◌}
-use Rattle.std.proofs.lemmas.List.{append-nil}
-use Rattle.mic_base.specs.Prelude.{no_rise}
-use Rattle.mic_clock.specs.declared.end.End.{End}
-use Rattle.mic_clock.specs.Prelude.{Meaning, MicroRun, BoardView, IsLedTo}
-use Rattle.mic_debugger.specs.declared.until.Until.{Until}
+use Rattle.cli_debug.proofs.Common.{◌≡◌, ◌∙◌, ℕ, Bool, true, false, List, [], ◌∷◌, Option, Some, None, Result, Ok, Err, refl, sym, ap, subst, OnOk, IfOk}
+use Rattle.cli_debug.proofs.Common.{if◌then◌else◌, append-nil, no_rise, End, Meaning, MicroRun, BoardView, IsLedTo, Until, Reply, Verb, BadCommand, BadNumber}
+use Rattle.cli_debug.proofs.Common.{Command, CommandError, OutsideView, source_state}
 use Rattle.mic_debugger.specs.declared.until.Until.TheVariants as until
-use Rattle.mic_debugger.specs.declared.reply.Reply.{Reply}
 use Rattle.mic_debugger.specs.declared.reply.Reply.TheVariants as replies
-use Rattle.mic_debugger.specs.declared.table.Verb.{Verb}
 use Rattle.mic_debugger.specs.declared.table.Verb.TheVariants as verbs
-use Rattle.cli_session.specs.declared.reading.CommandError.TheVariants.{BadCommand, BadNumber}
-use Rattle.cli_session.specs.declared.reading.Command.{Command}
-use Rattle.cli_session.specs.declared.reading.CommandError.{CommandError}
 use Rattle.cli_session.specs.Prelude.{is_quit_in, is_untaken, one_untaken, untaken_of, Gone, place}
 use Rattle.mic_debugger.specs.Prelude.{IsBookOf, command_of, KeepsRules, Obeys, plan_in, clocking, is_full_for, plan_by, plan_of, reply_of, watched_now, HasReadCause, ListingView, SessionView, Does, Rules, Stand, StandsAt, rules_of, stand_in, Streams}
 use Rattle.cli_debug.specs.Prelude.{is_quit, is_quit_reply, is_quit_verb, debugging, debugging_view}
-use Rattle.cli_outside.specs.Prelude.{OutsideView, source_state}
 
 -- what the debugger's library sees of a call's outside, with what its program's input has left
 abbrev pub streams_at : List ℕ → OutsideView → Streams

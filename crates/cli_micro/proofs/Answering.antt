@@ -1,16 +1,9 @@
 -- What a command returns, from what the layers below it say.
-use Rattle.std.proofs.Common.{◌≡◌, ◌⊎◌, ℕ, List, Option, Some, None, false, IsSome, refl, sym, subst}
-use Rattle.mic_words.specs.declared.machine.Machine.{Machine}
-use Rattle.cli_outside.specs.declared.refusal.Refusal.{Refusal}
-use Rattle.cli_outside.specs.Prelude.{IsRefusal, refusal_by, by_reason}
-use Rattle.mal_parser.specs.declared.error.MalError.{MalError}
-use Rattle.mal_parser.specs.Prelude.{MalView, is_memory, IsRefused}
-use Rattle.store_placement.specs.declared.refusal.PlaceError.{PlaceError}
-use Rattle.store_placement.specs.declared.store_error.StoreError.{StoreError}
+use Rattle.cli_micro.proofs.Common.{◌≡◌, ◌⊎◌, ℕ, List, Option, Some, None, false, IsSome, refl, sym, subst, Machine, Refusal, IsRefusal, refusal_by, by_reason}
+use Rattle.cli_micro.proofs.Common.{MalError, MalView, is_memory, IsRefused, PlaceError, StoreError, IsChosenList, Demands, demands_of, machine_of, RefusesFile}
+use Rattle.cli_micro.proofs.Common.{IsUnprinted, NoStore, NoText, mal_reason, store_reason, is_refusal}
 use Rattle.store_placement.specs.declared.store_error.StoreError.TheVariants as store
-use Rattle.store_placement.specs.Prelude.{IsChosenList, Demands, demands_of, machine_of, RefusesFile}
 use Rattle.store_placement.specs.Refusals as placing
-use Rattle.cli_micro.specs.Prelude.{IsUnprinted, NoStore, NoText, mal_reason, store_reason, is_refusal}
 use Rattle.cli_micro.proofs.Stores.{refused_file}
 
 -- what refuses the constraints refuses the program's demands, where the constraints are these

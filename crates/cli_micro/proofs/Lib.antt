@@ -1,3 +1,4 @@
+pub mod Common
 mod Lined
 mod Words
 mod Answering

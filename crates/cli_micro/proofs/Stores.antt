@@ -1,9 +1,6 @@
 -- A refusal of a store file that has a reason.
-use Rattle.std.proofs.Common.{◌≡◌, ◌⊎◌, ℕ, List, Some, inl, inr}
-use Rattle.store_placement.specs.declared.store_error.StoreError.{StoreError}
+use Rattle.cli_micro.proofs.Common.{◌≡◌, ◌⊎◌, ℕ, List, Some, inl, inr, StoreError, RefusesFile, store_reason}
 use Rattle.store_placement.specs.declared.store_error.StoreError.TheVariants as store
-use Rattle.store_placement.specs.Prelude.{RefusesFile}
-use Rattle.cli_micro.specs.Prelude.{store_reason}
 
 no_reason : (e : StoreError) (reason : List ℕ) → Some reason ≡ store_reason e → e ≡ store.OutOfMemory → ⊥
 no_reason e reason h memory = let none : Some reason ≡ store_reason store.OutOfMemory = rw memory at h in cc

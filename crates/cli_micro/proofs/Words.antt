@@ -1,10 +1,6 @@
 -- How many digits a canonical word has.
-use Rattle.std.proofs.Common.{ℕ, Bool, true, false, ◌&&◌, ◌^◌, ◌<◌, nat_lt, IsTrue, refl, arith}
-use Rattle.std.proofs.lemmas.Bool.Decides.{nat_tests}
-use Rattle.mic_words.specs.declared.machine.Machine.{Machine}
-use Rattle.mic_words.specs.declared.machine.Machine.TheVariants.{Mic1, Mic2}
+use Rattle.cli_micro.proofs.Common.{ℕ, Bool, true, false, ◌&&◌, ◌^◌, ◌<◌, nat_lt, IsTrue, refl, arith, nat_tests, Machine, Mic1, Mic2, word_digits}
 use Rattle.micro_word.specs.Prelude.{are_canonical, is_canonical, word_end, fields_of}
-use Rattle.cli_micro.specs.Prelude.{word_digits}
 
 first_holds : (a b : Bool) → IsTrue (a && b) → IsTrue a
 first_holds true b h = refl

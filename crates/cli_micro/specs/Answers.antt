@@ -1,14 +1,9 @@
 -- How `micro` and `print-micro` end.
 use Rattle.std.specs.Prelude.{◌≡◌, ℕ, List, Some, None, IsSome}
-use Rattle.mic_words.specs.declared.machine.Machine.{Machine}
-use Rattle.micro_word.specs.Prelude.{ControlStore, IsStore}
+use Rattle.cli_micro.specs.Common.{Machine, ControlStore, IsStore, OutsideView, PrintsOnOut, Ends, WritesThenPrints, MalError, MalView, IsRefused}
+use Rattle.cli_micro.specs.Common.{SpellsProgram, canonical_text, PlaceError, StoreError, IsChosenList, demands_of, IsFilled, machine_of, RefusesFile}
+use Rattle.cli_micro.specs.Common.{store_file}
 use Rattle.cli_outside.specs.Status as exits
-use Rattle.cli_outside.specs.Prelude.{OutsideView, PrintsOnOut, Ends, WritesThenPrints}
-use Rattle.mal_parser.specs.declared.error.MalError.{MalError}
-use Rattle.mal_parser.specs.Prelude.{MalView, IsRefused, SpellsProgram, canonical_text}
-use Rattle.store_placement.specs.declared.refusal.PlaceError.{PlaceError}
-use Rattle.store_placement.specs.declared.store_error.StoreError.{StoreError}
-use Rattle.store_placement.specs.Prelude.{IsChosenList, demands_of, IsFilled, machine_of, RefusesFile, store_file}
 use Rattle.store_placement.specs.Refusals as placing
 use Rattle.cli_micro.specs.Reasons.{mal_reason, place_reason, store_reason}
 use Rattle.cli_micro.specs.Texts.{listing, placement_text}

@@ -1,14 +1,8 @@
 -- Why a microprogram or a store file is refused: what follows the file's name in the message.
 use Rattle.std.specs.Prelude.{ℕ, ◌<◌, List, ◌++◌, codes, Option, Some, None, option_map, slice_get, unwrap_or}
-use Rattle.std.specs.Fmt.{decimal}
-use Rattle.mic_base.specs.Prelude.{hex_text}
-use Rattle.cli_outside.specs.Prelude.{of_file, of_line}
-use Rattle.mal_parser.specs.declared.error.MalError.{MalError}
+use Rattle.cli_micro.specs.Common.{decimal, hex_text, of_file, of_line, MalError, Statement, PlaceError, StoreError}
 use Rattle.mal_parser.specs.declared.error.MalError.TheVariants as mal
-use Rattle.mal_parser.specs.declared.statement.Statement.{Statement}
-use Rattle.store_placement.specs.declared.refusal.PlaceError.{PlaceError}
 use Rattle.store_placement.specs.declared.refusal.PlaceError.TheVariants as place
-use Rattle.store_placement.specs.declared.store_error.StoreError.{StoreError}
 use Rattle.store_placement.specs.declared.store_error.StoreError.TheVariants as store
 
 -- a text that is no program; out of memory is no refusal

@@ -1,16 +1,9 @@
 -- That what a command refuses, it refuses for a reason that holds of the file.
 use Rattle.std.proofs.Common.{◌≡◌, ℕ, List, Some, false, refl, sym, subst, length, arith}
-use Rattle.std.proofs.lemmas.List.{length-map}
-use Rattle.mic_words.specs.declared.machine.Machine.{Machine}
-use Rattle.cli_outside.specs.declared.refusal.Refusal.{Refusal}
-use Rattle.cli_outside.specs.Prelude.{IsRefusal, refusal_by, by_reason}
-use Rattle.mal_parser.specs.declared.error.MalError.{MalError}
+use Rattle.cli_micro.specs.Common.{length-map, Machine, Refusal, IsRefusal, refusal_by, by_reason, MalError, Statement, MalView, is_memory, IsRefused}
+use Rattle.cli_micro.specs.Common.{PlaceError, demands_of}
 use Rattle.mal_parser.specs.declared.error.MalError.TheVariants as mal
-use Rattle.mal_parser.specs.declared.statement.Statement.{Statement}
-use Rattle.mal_parser.specs.Prelude.{MalView, is_memory, IsRefused}
-use Rattle.store_placement.specs.declared.refusal.PlaceError.{PlaceError}
 use Rattle.store_placement.specs.declared.refusal.PlaceError.TheVariants as place
-use Rattle.store_placement.specs.Prelude.{demands_of}
 use Rattle.store_placement.specs.Refusals as placing
 use Rattle.cli_micro.specs.Answers.{IsRefusedText, NoProgram}
 use Rattle.cli_micro.specs.Reasons.{mal_reason, NamesStatements}

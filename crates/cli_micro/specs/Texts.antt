@@ -1,12 +1,7 @@
 -- What is printed of a placed program and of a control store. Addresses have three hexadecimal digits, words as many as the machine's need.
 use Rattle.std.specs.Prelude.{ℕ, List, [], ◌∷◌, ◌++◌, length, map, slice_index, codes}
-use Rattle.std.specs.Fmt.{decimal}
-use Rattle.mic_base.specs.Prelude.{hex_text}
-use Rattle.mic_words.specs.declared.machine.Machine.{Machine}
-use Rattle.mic_words.specs.declared.machine.Machine.TheVariants.{Mic1, Mic2}
-use Rattle.micro_word.specs.Prelude.{statement_of, ControlStore}
-use Rattle.mal_parser.specs.Prelude.{MalView, placed_text, statement_text, text_of}
-use Rattle.store_placement.specs.Prelude.{fixed_count, pair_count, below, demands_of}
+use Rattle.cli_micro.specs.Common.{decimal, hex_text, Machine, Mic1, Mic2, statement_of, ControlStore, MalView, placed_text, statement_text, text_of}
+use Rattle.cli_micro.specs.Common.{fixed_count, pair_count, below, demands_of}
 
 -- the digits of 36 bits, and of 39
 abbrev pub word_digits : Machine → ℕ

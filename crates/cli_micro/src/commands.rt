@@ -1,9 +1,7 @@
 //! The commands, from the file that they read to their status.
 
-ghost use Rattle.mal_parser.specs.Prelude.{canonical_text};
-ghost use Rattle.mal_shipped.specs.Prelude.{listed_program};
+ghost use Rattle.cli_micro.specs.Common.{canonical_text, listed_program, Over, PrintsOnOut};
 ghost use Rattle.cli_outside.specs.Status as exits;
-ghost use Rattle.cli_outside.specs.Prelude.{Over, PrintsOnOut};
 ghost use Rattle.cli_micro.specs.Answers.{MicroAnswers, PrintMicroAnswers};
 
 use crate::listing::printed_text;

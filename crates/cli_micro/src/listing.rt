@@ -1,9 +1,7 @@
 //! A control store is listed, and a microprogram printed.
 
 ghost use Rattle.std.specs.Prelude.{◌≡◌, ◌<◌, ◌^◌, length, IfOk, IfErr, IsSome, None};
-ghost use Rattle.micro_word.specs.Prelude.{IsStore};
-ghost use Rattle.store_placement.specs.Prelude.{machine_of};
-ghost use Rattle.cli_outside.specs.Prelude.{IsRefusal};
+ghost use Rattle.cli_micro.specs.Common.{IsStore, machine_of, IsRefusal};
 ghost use Rattle.cli_micro.specs.Answers.{IsPrinted, IsUnprinted};
 ghost use Rattle.cli_micro.specs.Texts.{listing, store_line};
 

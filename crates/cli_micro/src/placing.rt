@@ -1,8 +1,7 @@
 //! A microprogram is placed: its control store, and what is printed of it.
 
 ghost use Rattle.std.specs.Prelude.{◌≡◌, ◌<◌, ◌^◌, ◌++◌, length, IfOk, IfErr, OnOk};
-ghost use Rattle.store_placement.specs.Prelude.{Places, demands_of};
-ghost use Rattle.cli_outside.specs.Prelude.{IsRefusal};
+ghost use Rattle.cli_micro.specs.Common.{Places, demands_of, IsRefusal};
 ghost use Rattle.cli_micro.specs.Answers.{IsMade, IsRefusedText};
 ghost use Rattle.cli_micro.specs.Texts.{counts_line, placement_text, statement_line, statements_text};
 

@@ -1,8 +1,7 @@
 //! Why a microprogram or a store file is refused: what follows the file's name in the message.
 
 ghost use Rattle.std.specs.Prelude.{◌≡◌, ◌<◌, ◌++◌, length, codes};
-ghost use Rattle.mic_base.specs.Prelude.{hex_text};
-ghost use Rattle.cli_outside.specs.Prelude.{of_file};
+ghost use Rattle.cli_micro.specs.Common.{hex_text, of_file};
 ghost use Rattle.cli_micro.specs.Reasons.{line_at, mal_reason, of_two_lines, place_reason, store_reason, NamesPlaces, NamesStatements};
 
 use cli_outside::{number, numbered, of_line, text_line};

@@ -1,19 +1,11 @@
 -- A file holds at most one program, and is not refused if it holds one.
-use Rattle.std.proofs.Common.{◌≡◌, ◌∙◌, ℕ, List, Some, sym, subst, true, false, arith}
-use Rattle.console_port.specs.declared.map.MemoryMap.{MemoryMap}
-use Rattle.ijvm_image.specs.declared.image.ImageError.{ImageError}
-use Rattle.ijvm_image.specs.Prelude.{ImageView, IsWithinLimits, IsFileOf}
-use Rattle.ijvm_image.specs.ImageFile.{IsRefused as IsRefusedFile}
-use Rattle.ijvm_program.specs.Prelude.{ProgramView}
-use Rattle.ijvm_asm.specs.declared.error.AsmError.{AsmError}
-use Rattle.ijvm_asm.specs.Prelude.{SpellsProgram}
+use Rattle.cli_programs.proofs.Common.{◌≡◌, ◌∙◌, ℕ, List, Some, sym, subst, true, false, arith, MemoryMap, ImageError, ImageView, IsWithinLimits, IsFileOf}
+use Rattle.cli_programs.proofs.Common.{IsRefused as IsRefusedFile, ProgramView, AsmError, SpellsProgram, LinkError, VerifiedView, IsMainCount, IsTrueOf}
+use Rattle.cli_programs.proofs.Common.{one_count, link_reason, AsFile, AsSource, IsNoSource, IsOf, IsAcceptedProgram, IsRefusedProgram, IsSource, NoImage}
+use Rattle.cli_programs.proofs.Common.{NoProgram, NoSource, NotAccepted, NotLinked, begins_image}
 use Rattle.ijvm_asm.specs.Text as assembler
-use Rattle.method_linker.specs.declared.error.LinkError.{LinkError}
 use Rattle.method_linker.specs.declared.error.LinkError.TheVariants as limits
 use Rattle.method_linker.specs.Linked as linker
-use Rattle.verifier_facts.specs.Prelude.{VerifiedView, IsMainCount, IsTrueOf, one_count}
-use Rattle.cli_program_texts.specs.Prelude.{link_reason}
-use Rattle.cli_programs.specs.Prelude.{AsFile, AsSource, IsNoSource, IsOf, IsAcceptedProgram, IsRefusedProgram, IsSource, NoImage, NoProgram, NoSource, NotAccepted, NotLinked, begins_image}
 
 -- ---- links
 

@@ -1,25 +1,13 @@
 -- Why there is no accepted program.
-use Rattle.std.proofs.Common.{◌≡◌, ◌⊎◌, inl, inr, ℕ, List, Some, refl, sym, ◌∙◌, ap, subst, true, false, Result, Ok, Err}
-use Rattle.std.specs.Prelude.{IfErr}
-use Rattle.console_port.specs.declared.map.MemoryMap.{MemoryMap}
-use Rattle.ijvm_image.specs.declared.image.ImageError.{ImageError}
+use Rattle.cli_programs.proofs.Common.{◌≡◌, ◌⊎◌, inl, inr, ℕ, List, Some, refl, sym, ◌∙◌, ap, subst, true, false, Result, Ok, Err, IfErr, MemoryMap, ImageError}
+use Rattle.cli_programs.proofs.Common.{ImageView, IsRefused as IsRefusedFile, VerifyError, IsTrueOf, image_reason, link_reason, source_reason, verify_reason}
+use Rattle.cli_programs.proofs.Common.{Refusal, IsRefusal, refusal_by, by_reason, IsNoSource, IsOf, IsRefusedProgram, IsRefusalByAll, NoImage, NoProgram}
+use Rattle.cli_programs.proofs.Common.{NoSource, NotAccepted, NotLinked, begins_image, ProgramView, AsmError, is_memory, SpellsProgram, LinkError}
 use Rattle.ijvm_image.specs.declared.image.ImageError.TheVariants as images
-use Rattle.ijvm_image.specs.Prelude.{ImageView}
-use Rattle.ijvm_image.specs.ImageFile.{IsRefused as IsRefusedFile}
-use Rattle.verifier_facts.specs.declared.error.VerifyError.{VerifyError}
 use Rattle.verifier_facts.specs.declared.error.VerifyError.TheVariants as facts
-use Rattle.verifier_facts.specs.Prelude.{IsTrueOf}
-use Rattle.cli_program_texts.specs.Prelude.{image_reason, link_reason, source_reason, verify_reason}
-use Rattle.cli_outside.specs.declared.refusal.Refusal.{Refusal}
 use Rattle.cli_outside.specs.declared.refusal.Refusal.TheVariants as refusals
-use Rattle.cli_outside.specs.Prelude.{IsRefusal, refusal_by, by_reason}
-use Rattle.cli_programs.specs.Prelude.{IsNoSource, IsOf, IsRefusedProgram, IsRefusalByAll, NoImage, NoProgram, NoSource, NotAccepted, NotLinked, begins_image}
-use Rattle.ijvm_program.specs.Prelude.{ProgramView}
-use Rattle.ijvm_asm.specs.declared.error.AsmError.{AsmError}
 use Rattle.ijvm_asm.specs.declared.error.AsmError.TheVariants as sources
-use Rattle.ijvm_asm.specs.Prelude.{is_memory, SpellsProgram}
 use Rattle.ijvm_asm.specs.Text as assembler
-use Rattle.method_linker.specs.declared.error.LinkError.{LinkError}
 use Rattle.method_linker.specs.Linked as linker
 
 pub no_image : (map : MemoryMap) (bytes : List ℕ) (e : ImageError) (u : Refusal) → begins_image bytes ≡ true → (e ≡ images.OutOfMemory) ⊎ IsRefusedFile bytes e →

@@ -1,15 +1,7 @@
 -- What a report says of its run, by the run's end.
-use Rattle.std.proofs.Common.{◌≡◌, ◌≢◌, ◌∙◌, ℕ, Some, Ok, refl, sym, ap}
-use Rattle.mic_words.specs.declared.machine.Machine.{Machine}
-use Rattle.console_port.specs.Prelude.{StaysFlushed}
-use Rattle.ijvm_reference.specs.declared.plain.PlainEnd.{PlainEnd}
+use Rattle.cli_programs.proofs.Common.{◌≡◌, ◌≢◌, ◌∙◌, ℕ, Some, Ok, refl, sym, ap, Machine, StaysFlushed, PlainEnd, PlainReport, HasRunCause, IsRunReport}
+use Rattle.cli_programs.proofs.Common.{VerifiedView, OutsideView, Ran, CutByRead, CutByWrite, IsReported, verified_program}
 use Rattle.ijvm_reference.specs.declared.plain.PlainEnd.TheVariants as ends
-use Rattle.ijvm_reference.specs.declared.plain.PlainReport.{PlainReport}
-use Rattle.ijvm_reference.specs.Prelude.{HasRunCause, IsRunReport}
-use Rattle.verifier_facts.specs.Prelude.{VerifiedView}
-use Rattle.cli_outside.specs.Prelude.{OutsideView}
-use Rattle.cli_programs.specs.Reference.{Ran}
-use Rattle.cli_programs.specs.Prelude.{CutByRead, CutByWrite, IsReported, verified_program}
 
 module _ (machine : Machine) (bound : ℕ) (program : VerifiedView) (old new : OutsideView) where
   -- what is known of a run

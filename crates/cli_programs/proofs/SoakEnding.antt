@@ -1,18 +1,9 @@
 -- How `soak` ends: a plain source and a plain sink never fail, so the run is never cut.
-use Rattle.std.proofs.Common.{◌≡◌, ◌∙◌, ℕ, List, [], length, Option, Some, None, refl, sym, subst}
-use Rattle.mic_base.specs.Prelude.{no_rise}
-use Rattle.console_port.specs.Prelude.{World}
-use Rattle.mic_clock.specs.declared.end.End.{End}
+use Rattle.cli_programs.proofs.Common.{◌≡◌, ◌∙◌, ℕ, List, [], length, Option, Some, None, refl, sym, subst, no_rise, World, End, ImageView, Timing}
+use Rattle.cli_programs.proofs.Common.{VerifiedView, board_end, HasRun, LentView, Over, PrintsOnOut, status_of, soak_summary, soak_bound, IsGenerated, SoakEnds}
+use Rattle.cli_programs.specs.SoakEnds.{Ran}
 use Rattle.mic_clock.specs.declared.end.End.TheVariants as ends
 use Rattle.mic_clock.specs.Prelude.{Meaning, NoFault, HasEndCause, BoardView}
-use Rattle.ijvm_image.specs.Prelude.{ImageView}
-use Rattle.ijvm_meaning.specs.Prelude.{Timing}
-use Rattle.verifier_facts.specs.Prelude.{VerifiedView}
-use Rattle.ijvm_simulation.specs.Prelude.{board_end, HasRun}
-use Rattle.cli_outside.specs.Prelude.{LentView, Over, PrintsOnOut}
-use Rattle.cli_run_texts.specs.Prelude.{status_of}
-use Rattle.cli_programs.specs.Prelude.{soak_summary, soak_bound, IsGenerated, SoakEnds}
-use Rattle.cli_programs.specs.SoakEnds.{Ran}
 
 some_is : {A : Type 0} → (x y : A) → Some x ≡ Some y → x ≡ y
 some_is x y e = cc

@@ -1,12 +1,8 @@
 -- Why there is no compiled program.
-use Rattle.std.proofs.Common.{◌≡◌, ℕ, List, Some, refl, sym, subst, false}
-use Rattle.cli_outside.specs.declared.refusal.Refusal.{Refusal}
-use Rattle.cli_outside.specs.Prelude.{IsRefusal, refusal_by, by_reason}
+use Rattle.cli_programs.proofs.Common.{◌≡◌, ℕ, List, Some, refl, sym, subst, false, Refusal, IsRefusal, refusal_by, by_reason, TinyError, HasNoCode}
+use Rattle.cli_programs.proofs.Common.{IsRefusedTiny, tiny_reason}
 use Rattle.tiny_parser.specs.Prelude.{is_memory}
-use Rattle.tiny_parser.specs.declared.error.TinyError.{TinyError}
 use Rattle.tiny_parser.specs.declared.error.TinyError.TheVariants as errors
-use Rattle.tiny_compiler.specs.Prelude.{HasNoCode}
-use Rattle.cli_programs.specs.Prelude.{IsRefusedTiny, tiny_reason}
 
 -- a refusal with a reason is not out of memory
 is_told : (e : TinyError) (said : List ℕ) → tiny_reason e ≡ Some said → is_memory e ≡ false

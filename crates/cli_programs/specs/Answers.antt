@@ -1,10 +1,6 @@
 -- How a command ends that works over the program of a file.
 use Rattle.std.specs.Prelude.{ℕ, List, length}
-use Rattle.console_port.specs.declared.map.MemoryMap.{MemoryMap}
-use Rattle.ijvm_image.specs.Prelude.{file_of}
-use Rattle.verifier_facts.specs.Prelude.{VerifiedView}
-use Rattle.cli_outside.specs.Prelude.{OutsideView, Ends, WritesThenPrints}
-use Rattle.cli_program_texts.specs.Prelude.{sizes}
+use Rattle.cli_programs.specs.Common.{MemoryMap, file_of, VerifiedView, OutsideView, Ends, WritesThenPrints, sizes}
 use Rattle.cli_programs.specs.Program.{IsNoSource, IsAcceptedProgram, IsRefusedProgram, IsSource}
 
 -- over the accepted program that a file holds

@@ -1,3 +1,4 @@
+pub mod Common
 pub mod Program
 pub mod Answers
 pub mod Reference

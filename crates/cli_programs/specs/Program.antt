@@ -1,21 +1,10 @@
 -- What a file holds, by its bytes: an image or a source of one, that is accepted or refused for a reason.
 use Rattle.std.specs.Prelude.{◌≡◌, ℕ, Bool, false, true, ◌==◌, List, [], ◌∷◌, Some}
-use Rattle.console_port.specs.declared.map.MemoryMap.{MemoryMap}
-use Rattle.ijvm_image.specs.declared.image.ImageError.{ImageError}
-use Rattle.ijvm_image.specs.Prelude.{ImageView, IsWithinLimits, IsFileOf}
-use Rattle.ijvm_image.specs.ImageFile.{IsRefused as IsRefusedFile}
-use Rattle.ijvm_program.specs.Prelude.{ProgramView}
-use Rattle.ijvm_asm.specs.declared.error.AsmError.{AsmError}
-use Rattle.ijvm_asm.specs.Prelude.{SpellsProgram}
+use Rattle.cli_programs.specs.Common.{MemoryMap, ImageError, ImageView, IsWithinLimits, IsFileOf, IsRefused as IsRefusedFile, ProgramView, AsmError}
+use Rattle.cli_programs.specs.Common.{SpellsProgram, LinkError, IsLinked, VerifyError, IsAccepted, VerifiedView, IsTrueOf, image_reason, link_reason}
+use Rattle.cli_programs.specs.Common.{source_reason, verify_reason, Refusal, OutsideView, IsNotHad, IsRefusal}
 use Rattle.ijvm_asm.specs.Text as assembler
-use Rattle.method_linker.specs.declared.error.LinkError.{LinkError}
-use Rattle.method_linker.specs.Prelude.{IsLinked}
 use Rattle.method_linker.specs.Linked as linker
-use Rattle.verifier_facts.specs.declared.error.VerifyError.{VerifyError}
-use Rattle.verifier_facts.specs.Prelude.{IsAccepted, VerifiedView, IsTrueOf}
-use Rattle.cli_program_texts.specs.Prelude.{image_reason, link_reason, source_reason, verify_reason}
-use Rattle.cli_outside.specs.declared.refusal.Refusal.{Refusal}
-use Rattle.cli_outside.specs.Prelude.{OutsideView, IsNotHad, IsRefusal}
 
 -- A file is an image file by its first byte. Every other file is a source.
 abbrev pub begins_image : List ℕ → Bool

@@ -1,16 +1,10 @@
 -- How the definition's run of an accepted program ends, with a machine's costs, and its report.
 use Rattle.std.specs.Prelude.{◌≡◌, ℕ}
-use Rattle.mic_base.specs.Prelude.{Rose}
-use Rattle.mic_words.specs.declared.machine.Machine.{Machine}
-use Rattle.console_port.specs.Prelude.{StaysFlushed}
+use Rattle.cli_programs.specs.Common.{Rose, Machine, StaysFlushed, PlainReport, timing_of, TimedImage, VerifiedView, OutsideView, Says, out_of_memory}
+use Rattle.cli_programs.specs.Common.{clocked_end, status_of, plain_head}
 use Rattle.ijvm_reference.specs.declared.plain.PlainEnd.TheVariants as ends
-use Rattle.ijvm_reference.specs.declared.plain.PlainReport.{PlainReport}
-use Rattle.ijvm_meaning.specs.Prelude.{timing_of, TimedImage}
 use Rattle.ijvm_reference.specs.Prelude.{HasRun, IsCutByRead, IsCutByWrite, IsShort}
-use Rattle.verifier_facts.specs.Prelude.{VerifiedView}
 use Rattle.cli_outside.specs.Status as exits
-use Rattle.cli_outside.specs.Prelude.{OutsideView, Says, out_of_memory}
-use Rattle.cli_run_texts.specs.Prelude.{clocked_end, status_of, plain_head}
 
 -- an accepted program on its memory map, with this machine's costs
 abbrev pub verified_program : VerifiedView → Machine → TimedImage

@@ -1,15 +1,8 @@
 -- How `soak` ends: the generated program's run on a machine, with no input and its output thrown away, and its summary; or memory ran out.
 use Rattle.std.specs.Prelude.{◌≡◌, ℕ, List, [], length, Option, Some, None}
-use Rattle.console_port.specs.declared.map.TheConstants.MemoryMap.{STANDARD}
-use Rattle.console_port.specs.Prelude.{World}
-use Rattle.mic_clock.specs.Prelude.{Meaning, BoardView}
-use Rattle.ijvm_meaning.specs.Prelude.{Timing}
-use Rattle.verifier_facts.specs.Prelude.{VerifiedView, IsAccepted}
-use Rattle.ijvm_simulation.specs.Prelude.{board_end, HasRun}
-use Rattle.ijvm_soak.specs.Prelude.{generated}
+use Rattle.cli_programs.specs.Common.{STANDARD, World, Meaning, BoardView, Timing, VerifiedView, IsAccepted, board_end, HasRun, generated, out_of_memory}
+use Rattle.cli_programs.specs.Common.{OutsideView, PrintsOnOut, TellsOnErr, status_of}
 use Rattle.cli_outside.specs.Status as exits
-use Rattle.cli_outside.specs.Prelude.{out_of_memory, OutsideView, PrintsOnOut, TellsOnErr}
-use Rattle.cli_run_texts.specs.Prelude.{status_of}
 use Rattle.cli_programs.specs.SoakSummary.{soak_summary}
 
 -- the cycles after which a run ends at the next boundary

@@ -1,10 +1,6 @@
 -- The summary of a generated program's run: the size of its text, the first three lines of the run's report, and TOS as a signed number.
 use Rattle.std.specs.Prelude.{ℕ, List, ◌++◌, codes}
-use Rattle.std.specs.Int.{w32, cast_signed}
-use Rattle.std.specs.Fmt.{decimal, signed_decimal}
-use Rattle.mic_clock.specs.declared.end.End.{End}
-use Rattle.mic_clock.specs.declared.counts.Counts.{Counts}
-use Rattle.cli_run_texts.specs.Prelude.{clocked_head}
+use Rattle.cli_programs.specs.Common.{w32, cast_signed, decimal, signed_decimal, End, Counts, clocked_head}
 
 abbrev pub soak_summary : ℕ → End → Counts → ℕ → List ℕ
 soak_summary size end counts tos =

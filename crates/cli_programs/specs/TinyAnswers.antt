@@ -1,10 +1,6 @@
 -- How a command ends that works over the program that a Tiny file compiles to.
 use Rattle.std.specs.Prelude.{ℕ, List, length}
-use Rattle.ijvm_image.specs.Prelude.{file_of}
-use Rattle.verifier_facts.specs.Prelude.{VerifiedView}
-use Rattle.cli_outside.specs.Prelude.{OutsideView, Ends, WritesThenPrints}
-use Rattle.cli_program_texts.specs.Prelude.{sizes}
-use Rattle.tiny_compiler.specs.Prelude.{IsCompiled}
+use Rattle.cli_programs.specs.Common.{file_of, VerifiedView, OutsideView, Ends, WritesThenPrints, sizes, IsCompiled}
 use Rattle.cli_programs.specs.TinyRefusals.{IsRefusedTiny}
 
 -- over the program that a file compiles to

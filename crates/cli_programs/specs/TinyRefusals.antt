@@ -1,11 +1,8 @@
 -- What is printed of a text that is no Tiny program, or that has no code: the table of messages. A limit of the image has the message that it has for a source.
 use Rattle.std.specs.Prelude.{◌≡◌, ℕ, List, Option, Some, None, codes}
-use Rattle.cli_outside.specs.Prelude.{of_file, of_line}
+use Rattle.cli_programs.specs.Common.{of_file, of_line, link_reason, TinyError, HasNoCode}
 use Rattle.method_linker.specs.declared.error.LinkError.TheVariants as limits
-use Rattle.cli_program_texts.specs.Prelude.{link_reason}
-use Rattle.tiny_parser.specs.declared.error.TinyError.{TinyError}
 use Rattle.tiny_parser.specs.declared.error.TinyError.TheVariants as errors
-use Rattle.tiny_compiler.specs.Prelude.{HasNoCode}
 
 -- why a text is no Tiny program or has no code, unless memory ran out
 abbrev pub tiny_reason : TinyError → Option (List ℕ)

@@ -1,8 +1,6 @@
 //! `list FILE [--map W]`: the listing of a program.
 
-ghost use Rattle.console_port.specs.Prelude.{IsMap};
-ghost use Rattle.cli_outside.specs.Prelude.{Over, PrintsTextOf};
-ghost use Rattle.cli_program_texts.specs.Prelude.{Lists};
+ghost use Rattle.cli_programs.specs.Common.{IsMap, Over, PrintsTextOf, Lists};
 ghost use Rattle.cli_programs.specs.Answers.{EndsOver};
 
 use crate::program::program_in_file;

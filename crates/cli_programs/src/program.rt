@@ -1,9 +1,7 @@
 //! The accepted program that a file holds.
 
 ghost use Rattle.std.specs.Prelude.{◌≡◌, ◌≤◌, true, length, IfOk, IfErr, OnOk};
-ghost use Rattle.mic_base.specs.Prelude.{most_bytes};
-ghost use Rattle.console_port.specs.Prelude.{IsMap};
-ghost use Rattle.cli_outside.specs.Prelude.{IsHad, IsRefusal, OverIfErr};
+ghost use Rattle.cli_programs.specs.Common.{most_bytes, IsMap, IsHad, IsRefusal, OverIfErr};
 ghost use Rattle.cli_programs.specs.Program.{HasNoProgram, IsNoSource, IsOf, IsAcceptedProgram, IsRefusalByAll, IsRefusedProgram, IsSource, begins_image};
 
 use cli_outside::{Outside, Refusal, Status};

@@ -1,8 +1,7 @@
 //! `reference FILE`: a run of the plain machine, and its report.
 
 ghost use Rattle.std.specs.Prelude.{◌≤◌, ◌^◌};
-ghost use Rattle.console_port.specs.Prelude.{IsMap};
-ghost use Rattle.cli_outside.specs.Prelude.{Over};
+ghost use Rattle.cli_programs.specs.Common.{IsMap, Over};
 ghost use Rattle.cli_programs.specs.Answers.{EndsOver};
 ghost use Rattle.cli_programs.specs.Reference.{IsReferenceRun};
 

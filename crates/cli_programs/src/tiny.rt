@@ -1,9 +1,7 @@
 //! The program that a Tiny file compiles to.
 
 ghost use Rattle.std.specs.Prelude.{◌≡◌, ◌≤◌, length, IfOk, IfErr, OnOk};
-ghost use Rattle.mic_base.specs.Prelude.{most_bytes};
-ghost use Rattle.cli_outside.specs.Prelude.{IsHad, IsNotHad, IsRefusal, OverIfErr};
-ghost use Rattle.tiny_compiler.specs.Prelude.{IsCompiled};
+ghost use Rattle.cli_programs.specs.Common.{most_bytes, IsHad, IsNotHad, IsRefusal, OverIfErr, IsCompiled};
 ghost use Rattle.cli_programs.specs.TinyRefusals.{IsRefusedTiny};
 
 use crate::tiny_refusals::tiny_reason;

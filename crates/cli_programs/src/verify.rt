@@ -1,8 +1,6 @@
 //! `verify FILE [--map W]`: whether a program is accepted, and its summary.
 
-ghost use Rattle.console_port.specs.Prelude.{IsMap};
-ghost use Rattle.cli_outside.specs.Prelude.{Over, PrintsTextOf};
-ghost use Rattle.cli_program_texts.specs.Prelude.{Summarizes};
+ghost use Rattle.cli_programs.specs.Common.{IsMap, Over, PrintsTextOf, Summarizes};
 ghost use Rattle.cli_programs.specs.Answers.{EndsOver};
 
 use crate::program::program_in_file;

@@ -1,21 +1,12 @@
 -- The output of a line, and what is passed on after it.
-use Rattle.std.proofs.Common.{◌≡◌, ◌≢◌, inl, inr, ◌-◌, ◌^◌, ℕ, zero, suc, List, [], ◌∷◌, Option, Some, None, Result, Ok, Err, refl, sym, ap, subst, ◌∙◌, arith}
-use Rattle.std.specs.Prelude.{OnErr, OnOk}
-use Rattle.std.proofs.lemmas.List.{append-nil}
-use Rattle.mic_base.specs.Prelude.{Holds, IsFlushed, KeepsFront, HasCause, Rose}
-use Rattle.console_port.specs.Prelude.{IsLost, World}
-use Rattle.mic_clock.specs.declared.end.End.{End}
+use Rattle.cli_rewind.proofs.Common.{◌≡◌, ◌≢◌, inl, inr, ◌-◌, ◌^◌, ℕ, zero, suc, List, [], ◌∷◌, Option, Some, None, Result, Ok, Err, refl, sym, ap, subst, ◌∙◌}
+use Rattle.cli_rewind.proofs.Common.{arith, OnErr, OnOk, append-nil, Holds, IsFlushed, KeepsFront, HasCause, Rose, IsLost, World, End, Meaning, MicroRun}
+use Rattle.cli_rewind.proofs.Common.{BoardView, ShowsAs, ShowsRun, ControlStore, HistoryView, RewindView, state_of, FilesState, Got, SinkState, SourceState}
+use Rattle.cli_rewind.proofs.Common.{outside_view, Command, CommandError, front_given, front_lost, in_part, Gone, IsCutShort, IsFrontOf, place, Verb}
+use Rattle.cli_rewind.proofs.Common.{command_of, Cut, Does, Follows, IsBrokenOff, IsCutIn, Stand, StandsAt, Told, at_reset, run_at, shown_run, state_at}
+use Rattle.cli_rewind.proofs.Common.{states_from, IsFront, IsMoved, IsPassedOn, IsTold, IsToldInPart, WasCut, scene, Lasts, RewindingRules, RewindingView}
+use Rattle.cli_rewind.proofs.Common.{rewinding, rewinding_view, rules_of, Went}
 use Rattle.mic_clock.specs.declared.end.End.TheVariants as ends
-use Rattle.mic_clock.specs.Prelude.{Meaning, MicroRun, BoardView, ShowsAs, ShowsRun}
-use Rattle.micro_word.specs.Prelude.{ControlStore}
-use Rattle.mic_rewind.specs.Prelude.{HistoryView, RewindView, state_of}
-use Rattle.cli_outside.specs.Prelude.{FilesState, Got, SinkState, SourceState, outside_view}
-use Rattle.cli_session.specs.declared.reading.Command.{Command}
-use Rattle.cli_session.specs.declared.reading.CommandError.{CommandError}
-use Rattle.cli_session.specs.Prelude.{front_given, front_lost, in_part, Gone, IsCutShort, IsFrontOf, place}
-use Rattle.cli_rewind.specs.declared.table.Verb.{Verb}
-use Rattle.cli_rewind.specs.Prelude.{command_of, Cut, Does, Follows, IsBrokenOff, IsCutIn, Stand, StandsAt, Told, at_reset, run_at, shown_run, state_at, states_from, IsFront, IsMoved, IsPassedOn, IsTold, IsToldInPart, WasCut, scene, Lasts, RewindingRules, RewindingView, rewinding, rewinding_view, rules_of}
-use Rattle.cli_rewind.specs.Moves.{Went}
 use Rattle.cli_rewind.proofs.Turning.{end_leaves}
 use Rattle.cli_rewind.proofs.Stepping.{stands_with}
 

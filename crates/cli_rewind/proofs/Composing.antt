@@ -1,15 +1,9 @@
 -- Moves one after the other.
-use Rattle.std.proofs.Common.{◌≡◌, ◌≢◌, ◌<◌, ◌≤◌, ◌+◌, ℕ, suc, true, false, List, Option, Some, None, is_some, refl, sym, ap, subst, ◌∙◌, arith}
-use Rattle.mic_base.specs.Prelude.{Rose}
-use Rattle.mic_clock.specs.declared.end.End.{End}
+use Rattle.cli_rewind.proofs.Common.{◌≡◌, ◌≢◌, ◌<◌, ◌≤◌, ◌+◌, ℕ, suc, true, false, List, Option, Some, None, is_some, refl, sym, ap, subst, ◌∙◌, arith, Rose}
+use Rattle.cli_rewind.proofs.Common.{End, Meaning, MicroRun, BoardView, ControlStore, Snapshot, HistoryView, RewindView, SinkState, GoesForward, IsCutForward}
+use Rattle.cli_rewind.proofs.Common.{Stand, StandsAt, run_at, state_here, IsShown, Scene, WasCut, scene, Went}
 use Rattle.mic_clock.specs.declared.end.End.TheVariants as ends
-use Rattle.mic_clock.specs.Prelude.{Meaning, MicroRun, BoardView}
-use Rattle.micro_word.specs.Prelude.{ControlStore}
-use Rattle.mic_rewind.specs.Prelude.{Snapshot, HistoryView, RewindView}
-use Rattle.cli_outside.specs.Prelude.{SinkState}
-use Rattle.cli_rewind.specs.Prelude.{GoesForward, IsCutForward, Stand, StandsAt, run_at, state_here, IsShown, Scene, WasCut, scene}
 use Rattle.cli_rewind.proofs.Giving.{cut_whole}
-use Rattle.cli_rewind.specs.Moves.{Went}
 
 module _ {State : Type 0} (m : Meaning State) (words : List ℕ) where
   same_run : (s t : Stand State) → t.start ≡ s.start → (n : ℕ) → run_at m words s.start n ≡ run_at m words t.start n

@@ -1,10 +1,7 @@
 -- What is given before a cycle that was cut is a front of what is given where all is done.
-use Rattle.std.proofs.Common.{◌≡◌, ◌<◌, ◌≤◌, inl, inr, ℕ, zero, suc, List, Option, Some, None, sym, subst, ◌∙◌, arith}
-use Rattle.std.proofs.lemmas.Bool.{cases_lt}
-use Rattle.mic_clock.specs.declared.end.End.{End}
-use Rattle.mic_clock.specs.Prelude.{Meaning, MicroRun}
-use Rattle.cli_session.specs.Prelude.{IsFrontOf, OnlyGives, IsFront, front_same, front_then, held_front, turn_gives}
-use Rattle.cli_rewind.specs.Prelude.{GoesForward, Stand, StopsBy, run_at}
+use Rattle.cli_rewind.proofs.Common.{◌≡◌, ◌<◌, ◌≤◌, inl, inr, ℕ, zero, suc, List, Option, Some, None, sym, subst, ◌∙◌, arith, cases_lt, End, Meaning, MicroRun}
+use Rattle.cli_rewind.proofs.Common.{IsFrontOf, OnlyGives, front_same, front_then, held_front, turn_gives, GoesForward, Stand, StopsBy, run_at}
+use Rattle.cli_session.specs.Prelude.{IsFront}
 use Rattle.cli_rewind.proofs.Turning.{earlier, turned}
 
 module _ {State : Type 0} (m : Meaning State) (words : List ℕ) where

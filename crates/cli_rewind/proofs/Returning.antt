@@ -1,8 +1,6 @@
 -- Steps back.
-use Rattle.std.proofs.Common.{◌≡◌, ◌<◌, ◌≤◌, ◌+◌, ◌-◌, ℕ, suc, List, [], ◌∷◌, min, Option, refl, sym, ap, subst, ◌∙◌, arith}
-use Rattle.mic_clock.specs.Prelude.{Meaning, BoardView, ShowsRun}
-use Rattle.mic_rewind.specs.Prelude.{HistoryView, GoesBack, RewindView}
-use Rattle.cli_rewind.specs.Prelude.{Stand, StandsAt, back, history_at, kept, shown_run, state_at, states_from}
+use Rattle.cli_rewind.proofs.Common.{◌≡◌, ◌<◌, ◌≤◌, ◌+◌, ◌-◌, ℕ, suc, List, [], ◌∷◌, min, Option, refl, sym, ap, subst, ◌∙◌, arith, Meaning, BoardView}
+use Rattle.cli_rewind.proofs.Common.{ShowsRun, HistoryView, GoesBack, RewindView, Stand, StandsAt, back, history_at, kept, shown_run, state_at, states_from}
 use Rattle.cli_rewind.proofs.Snapshots.{same_states, states_last, states_none}
 use Rattle.cli_rewind.proofs.Stepping.{stands_with}
 

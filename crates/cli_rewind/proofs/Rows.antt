@@ -1,12 +1,7 @@
 -- Worked rows of the definitions, evaluated.
-use Rattle.std.proofs.Common.{◌≡◌, ℕ, true, Some, Ok, Err, refl}
-use Rattle.std.specs.Prelude.{codes}
-use Rattle.mic_base.specs.Prelude.{hex_text, number_of}
-use Rattle.mic_clock.specs.Prelude.{MicroRun}
-use Rattle.cli_session.specs.declared.reading.CommandError.TheVariants.{BadCommand, BadNumber}
-use Rattle.cli_session.specs.Prelude.{command_in, word_text}
+use Rattle.cli_rewind.proofs.Common.{◌≡◌, ℕ, true, Some, Ok, Err, refl, codes, hex_text, number_of, MicroRun, BadCommand, BadNumber, command_in, word_text}
+use Rattle.cli_rewind.proofs.Common.{command_of, is_quit, Stand, back, kept}
 use Rattle.cli_rewind.specs.declared.table.Verb.TheVariants as verbs
-use Rattle.cli_rewind.specs.Prelude.{command_of, is_quit, Stand, back, kept}
 
 -- ---- how lines are read, over 65,536 memory words
 

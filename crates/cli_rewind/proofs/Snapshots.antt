@@ -1,8 +1,6 @@
 -- States of the one run, one after the other.
-use Rattle.std.proofs.Common.{◌≡◌, ◌+◌, ◌-◌, ◌++◌, ℕ, zero, suc, List, [], ◌∷◌, drop, length, refl, sym, ap, ◌∙◌, arith}
-use Rattle.mic_clock.specs.Prelude.{Meaning, MicroRun}
-use Rattle.mic_rewind.specs.Prelude.{Snapshot}
-use Rattle.cli_rewind.specs.Prelude.{state_at, states_from}
+use Rattle.cli_rewind.proofs.Common.{◌≡◌, ◌+◌, ◌-◌, ◌++◌, ℕ, zero, suc, List, [], ◌∷◌, drop, length, refl, sym, ap, ◌∙◌, arith, Meaning, MicroRun, Snapshot}
+use Rattle.cli_rewind.proofs.Common.{state_at, states_from}
 
 -- the last of some states, at most this many
 abbrev pub latest : ℕ → List Snapshot → List Snapshot

@@ -1,13 +1,11 @@
 -- What a call of the rewind is at each stand that it shows.
-use Rattle.std.proofs.Common.{◌≡◌, ◌≢◌, ◌≤◌, ◌⊎◌, inl, inr, ◌+◌, ◌-◌, ◌++◌, ℕ, zero, suc, List, [], ◌∷◌, Option, Some, None, IsSome, refl, sym, ap, subst, ◌∙◌, arith}
+use Rattle.cli_rewind.proofs.Common.{◌≡◌, ◌≢◌, ◌≤◌, ◌⊎◌, inl, inr, ◌+◌, ◌-◌, ◌++◌, ℕ, zero, suc, List, [], ◌∷◌, Option, Some, None, IsSome, refl, sym, ap}
+use Rattle.cli_rewind.proofs.Common.{subst, ◌∙◌, arith, End, Meaning, UsesConsole, MicroRun, turn, word_at, BoardView, IsCutByFault, IsTurned, NoFault}
+use Rattle.cli_rewind.proofs.Common.{ShowsRun, ControlStore, Snapshot, GoesBack, HistoryView, appended, Keeps, RewindView, state_of, front_lost, is_untaken}
+use Rattle.cli_rewind.proofs.Common.{one_untaken, untaken_of, IsFrontOf, GoesForward, IsCutForward, Stand, StandsAt, history_at, kept, run_at, shown_run}
+use Rattle.cli_rewind.proofs.Common.{state_at, states_from, IsMoved}
 use Rattle.console_port.specs.declared.fault.BusFault.TheVariants as faults
-use Rattle.mic_clock.specs.declared.end.End.{End}
 use Rattle.mic_clock.specs.declared.end.End.TheVariants as ends
-use Rattle.mic_clock.specs.Prelude.{Meaning, UsesConsole, MicroRun, turn, word_at, BoardView, IsCutByFault, IsTurned, NoFault, ShowsRun}
-use Rattle.micro_word.specs.Prelude.{ControlStore}
-use Rattle.mic_rewind.specs.Prelude.{Snapshot, GoesBack, HistoryView, appended, Keeps, RewindView, state_of}
-use Rattle.cli_session.specs.Prelude.{front_lost, is_untaken, one_untaken, untaken_of, IsFrontOf}
-use Rattle.cli_rewind.specs.Prelude.{GoesForward, IsCutForward, Stand, StandsAt, history_at, kept, run_at, shown_run, state_at, states_from, IsMoved}
 use Rattle.cli_rewind.proofs.Turning.{earlier, stays, turned}
 use Rattle.cli_rewind.proofs.Giving.{cut_whole}
 use Rattle.cli_rewind.proofs.Snapshots.{latest, same_states, states_kept, states_more, states_none, states_split}

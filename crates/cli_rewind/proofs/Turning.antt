@@ -1,9 +1,7 @@
 -- Turns of a run: how it goes on, and how its end stays.
-use Rattle.std.proofs.Common.{◌≡◌, ◌≤◌, inl, inr, ℕ, zero, suc, List, Option, Some, None, refl, sym, ap, subst, ◌∙◌, arith}
+use Rattle.cli_rewind.proofs.Common.{◌≡◌, ◌≤◌, inl, inr, ℕ, zero, suc, List, Option, Some, None, refl, sym, ap, subst, ◌∙◌, arith, cases_lt, End, Meaning}
+use Rattle.cli_rewind.proofs.Common.{Outcome, Done, Refused, MicroRun, after_end_or_step, after_step, bounded, end_before, turn, turn_by, turns, word_at}
 use Rattle.std.specs.Fn.{iterate}
-use Rattle.std.proofs.lemmas.Bool.{cases_lt}
-use Rattle.mic_clock.specs.declared.end.End.{End}
-use Rattle.mic_clock.specs.Prelude.{Meaning, Outcome, Done, Refused, MicroRun, after_end_or_step, after_step, bounded, end_before, turn, turn_by, turns, word_at}
 
 iterate-suc : {A : Type 0} (h : A → A) (n : ℕ) (x : A) → iterate h (suc n) x ≡ h (iterate h n x)
 iterate-suc h zero x = refl

@@ -1,9 +1,7 @@
 -- The commands of a session that rewinds: their table, and how a line is read by it.
 use Rattle.std.specs.Prelude.{ℕ, Bool, true, false, List, [], ◌∷◌, Option, Result}
-use Rattle.cli_session.specs.declared.reading.Command.{Command}
-use Rattle.cli_session.specs.declared.reading.CommandError.{CommandError}
+use Rattle.cli_rewind.specs.Common.{Command, CommandError, command_in, is_quit_in, CommandForm, command_form}
 use Rattle.cli_session.specs.declared.table.Argument.TheVariants as arguments
-use Rattle.cli_session.specs.Prelude.{command_in, is_quit_in, CommandForm, command_form}
 use Rattle.cli_rewind.specs.declared.table.Verb.{Verb}
 use Rattle.cli_rewind.specs.declared.table.Verb.TheVariants as verbs
 

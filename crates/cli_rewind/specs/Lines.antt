@@ -1,12 +1,6 @@
 -- The lines of a session, as bytes.
 use Rattle.std.specs.Prelude.{ℕ, Bool, List, [], ◌++◌, Option, Some, None, codes, if◌then◌else◌}
-use Rattle.std.specs.Fmt.{decimal}
-use Rattle.mic_base.specs.Prelude.{hex_text}
-use Rattle.mic_clock.specs.declared.end.End.{End}
-use Rattle.mic_rewind.specs.declared.moment.Moment.{Moment}
-use Rattle.cli_session.specs.declared.reading.CommandError.{CommandError}
-use Rattle.cli_session.specs.declared.reading.CommandError.TheVariants.{BadCommand, BadNumber}
-use Rattle.cli_session.specs.Prelude.{end_line}
+use Rattle.cli_rewind.specs.Common.{decimal, hex_text, End, Moment, CommandError, BadCommand, BadNumber, end_line}
 
 -- the cycles at a moment, and the address of the word that comes next
 unfoldable pub cycle_line : Moment → List ℕ

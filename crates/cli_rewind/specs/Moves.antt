@@ -1,16 +1,8 @@
 -- How a call moves a rewind and its cursor, between what its input has left and what `out` holds.
 use Rattle.std.specs.Prelude.{◌≡◌, ◌≢◌, ◌≤◌, ◌⊎◌, ◌+◌, ◌^◌, ℕ, List, [], Bool, nat_le, Option, Some, Result}
-use Rattle.console_port.specs.Prelude.{StaysFlushed}
-use Rattle.mic_base.specs.Prelude.{Rose, plain_left, IsFlushed, KeepsFront}
-use Rattle.mic_base.specs.declared.plain.source.PlainSource.{PlainSource}
-use Rattle.mic_clock.specs.declared.end.End.{End}
+use Rattle.cli_rewind.specs.Common.{StaysFlushed, Rose, plain_left, IsFlushed, KeepsFront, PlainSource, End, Meaning, RewindView, Got, GotInPart, SinkState}
+use Rattle.cli_rewind.specs.Common.{sink_of, IsFrontOf, Command, CommandError}
 use Rattle.mic_clock.specs.declared.end.End.TheVariants as ends
-use Rattle.mic_clock.specs.Prelude.{Meaning}
-use Rattle.mic_rewind.specs.Prelude.{RewindView}
-use Rattle.cli_outside.specs.Prelude.{Got, GotInPart, SinkState, sink_of}
-use Rattle.cli_session.specs.Prelude.{IsFrontOf}
-use Rattle.cli_session.specs.declared.reading.Command.{Command}
-use Rattle.cli_session.specs.declared.reading.CommandError.{CommandError}
 use Rattle.cli_rewind.specs.declared.table.Verb.{Verb}
 use Rattle.cli_rewind.specs.declared.table.Verb.TheVariants as verbs
 use Rattle.cli_rewind.specs.Stand.{Follows, GoesForward, IsCutForward, IsCutIn, Obeys, Stand, StandsAt, back, kept, run_at}

@@ -1,12 +1,7 @@
 -- What the lines of a rewinding session mean.
 use Rattle.std.specs.Prelude.{◌≡◌, ◌≢◌, ◌≤◌, ◌+◌, ◌*◌, ◌^◌, ℕ, suc, List, Some}
-use Rattle.mic_base.specs.Prelude.{plain_left}
-use Rattle.mic_base.specs.declared.plain.source.PlainSource.{PlainSource}
+use Rattle.cli_rewind.specs.Common.{plain_left, PlainSource, Meaning, RewindView, LentView, IsCutShort, SessionMeaning, place}
 use Rattle.mic_clock.specs.declared.end.End.TheVariants as ends
-use Rattle.mic_clock.specs.Prelude.{Meaning}
-use Rattle.mic_rewind.specs.Prelude.{RewindView}
-use Rattle.cli_outside.specs.Prelude.{LentView}
-use Rattle.cli_session.specs.Prelude.{IsCutShort, SessionMeaning, place}
 use Rattle.cli_rewind.specs.Commands.{is_quit}
 use Rattle.cli_rewind.specs.Stand.{Does, IsBrokenOff, Stand, StandsAt}
 

@@ -1,18 +1,8 @@
 -- How rewinding an accepted program ends: what the lines of the console print; or less, where a fault stopped it.
 use Rattle.std.specs.Prelude.{◌≡◌, ℕ, List, Option}
-use Rattle.console_port.specs.Prelude.{World, Shows}
-use Rattle.mic_clock.specs.Prelude.{Meaning}
-use Rattle.verifier_facts.specs.Prelude.{VerifiedView}
-use Rattle.mal_parser.specs.Prelude.{MalView}
-use Rattle.mal_shipped.specs.declared.loaded.Loaded.{Loaded}
-use Rattle.mic_image_board.specs.Prelude.{reset_run}
+use Rattle.cli_rewind.specs.Common.{World, Shows, Meaning, VerifiedView, MalView, Loaded, reset_run, out_of_memory, LentView, Over, OutsideView, TellsOnErr}
+use Rattle.cli_rewind.specs.Common.{Job, EndsPrepared, IsFirstBoard, Prepared, EndsWithInput, most_lines, place, Goes, Step}
 use Rattle.cli_outside.specs.Status as exits
-use Rattle.cli_outside.specs.Prelude.{out_of_memory, LentView, Over, OutsideView, TellsOnErr}
-use Rattle.cli_boards.specs.declared.job.Job.{Job}
-use Rattle.cli_boards.specs.Prelude.{EndsPrepared, IsFirstBoard}
-use Rattle.cli_boards.specs.declared.preparing.Prepared.{Prepared}
-use Rattle.cli_session.specs.Prelude.{EndsWithInput, most_lines, place, Goes}
-use Rattle.cli_session.specs.declared.lines.Step.{Step}
 use Rattle.cli_session.specs.declared.lines.Step.TheVariants as steps
 use Rattle.cli_rewind.specs.Stand.{StandsAt, at_reset}
 use Rattle.cli_rewind.specs.Rewinding.{RewindingView, rewinding}

@@ -1,12 +1,7 @@
 -- Where a session stands, and what a line does there: the definition of rewinding.
 use Rattle.std.specs.Prelude.{◌≡◌, ◌<◌, ◌≤◌, ℕ, zero, suc, ◌+◌, ◌-◌, min, max, nat_le, List, [], ◌∷◌, Option, Some, None, Result, Ok, Err}
-use Rattle.mic_clock.specs.declared.end.End.{End}
-use Rattle.mic_clock.specs.Prelude.{Meaning, UsesConsole, MicroRun, turns, word_at, ShowsRun}
-use Rattle.mic_rewind.specs.Prelude.{Snapshot, HistoryView, RewindView, snapshot_of}
-use Rattle.cli_session.specs.declared.reading.Command.{Command}
-use Rattle.cli_session.specs.declared.reading.CommandError.{CommandError}
-use Rattle.cli_session.specs.Prelude.{OnlyGives, IsFrontOf, state_text, word_line}
-use Rattle.cli_outside.specs.Prelude.{GotInPart}
+use Rattle.cli_rewind.specs.Common.{End, Meaning, UsesConsole, MicroRun, turns, word_at, ShowsRun, Snapshot, HistoryView, RewindView, snapshot_of, Command}
+use Rattle.cli_rewind.specs.Common.{CommandError, OnlyGives, IsFrontOf, state_text, word_line, GotInPart}
 use Rattle.cli_rewind.specs.declared.table.Verb.{Verb}
 use Rattle.cli_rewind.specs.declared.table.Verb.TheVariants as verbs
 use Rattle.cli_rewind.specs.Commands.{command_of}

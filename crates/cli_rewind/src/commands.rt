@@ -1,9 +1,7 @@
 //! The command, from the files that it reads to its status.
 
 ghost use Rattle.std.specs.Prelude.{◌≤◌, ◌<◌};
-ghost use Rattle.console_port.specs.Prelude.{IsMap};
-ghost use Rattle.cli_outside.specs.Prelude.{Over, name_in};
-ghost use Rattle.cli_boards.specs.Prelude.{job_in};
+ghost use Rattle.cli_rewind.specs.Common.{IsMap, Over, name_in, job_in};
 ghost use Rattle.cli_rewind.specs.Rewound.{EndsRewind};
 
 use crate::rewind::rewind_program;

@@ -1,8 +1,7 @@
 //! The cursor's moves, over as many cycles as a line asks for.
 
 ghost use Rattle.std.specs.Prelude.{◌≡◌, ◌≢◌, ◌≤◌, ◌+◌, ◌^◌, Option, Some, OnErr, IfOk, true, false};
-ghost use Rattle.mic_clock.specs.Prelude.{tick_of};
-ghost use Rattle.mic_clock.specs.declared.counts.Counts.{Counts};
+ghost use Rattle.cli_rewind.specs.Common.{tick_of, Counts};
 ghost use Rattle.cli_rewind.specs.Moves.{GoesBack, WasCutForward, WentForward};
 
 use mic_base::{PlainSource, Sink, SinkFailed};

@@ -1,8 +1,7 @@
 //! What does the lines of a rewinding session.
 
 ghost use Rattle.std.specs.Prelude.{◌≡◌, ◌∷◌, ℕ, suc, [], IfOk, OnOk, OnErr};
-ghost use Rattle.cli_outside.specs.Prelude.{FilesState, SourceState, outside_view, sink_of};
-ghost use Rattle.cli_session.specs.Prelude.{Gone, IsCutShort, place};
+ghost use Rattle.cli_rewind.specs.Common.{FilesState, SourceState, outside_view, sink_of, Gone, IsCutShort, place};
 ghost use Rattle.cli_rewind.specs.Commands.{is_quit};
 ghost use Rattle.cli_rewind.specs.Rewinding.{IsCutAt, Lasts, LastsOneLess, rewinding, rewinding_at};
 

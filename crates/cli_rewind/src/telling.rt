@@ -1,8 +1,7 @@
 //! The output of a line.
 
 ghost use Rattle.std.specs.Prelude.{OnOk, OnErr};
-ghost use Rattle.mic_base.specs.Prelude.{Rose};
-ghost use Rattle.cli_outside.specs.Prelude.{sink_of};
+ghost use Rattle.cli_rewind.specs.Common.{Rose, sink_of};
 ghost use Rattle.cli_rewind.specs.Moves.{IsTold, IsToldInPart, LeavesFront, PassesOn};
 
 use mic_base::{Sink, SinkFailed};

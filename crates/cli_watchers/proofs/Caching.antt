@@ -1,23 +1,13 @@
 -- A cache counts the accesses of a run, and a run leaves it room.
-use Rattle.std.proofs.Common.{◌≡◌, ◌∙◌, ℕ, ◌+◌, ◌*◌, ◌/◌, ◌^◌, ◌<◌, ◌≤◌, Bool, true, false, if◌then◌else◌, List, [], ◌∷◌, ◌++◌, map, length, Option, Some, None, refl, sym, ap, subst, arith, get_or, replicate}
-use Rattle.std.specs.Prelude.{nat_lt, slice_index, slice_set}
-use Rattle.std.proofs.lemmas.Bool.{lt-ltb}
-use Rattle.std.proofs.lemmas.List.{length-replicate, length-set}
-use Rattle.std.proofs.lemmas.Option.{unwrap_or-slice_get}
+use Rattle.cli_watchers.proofs.Common.{◌≡◌, ◌∙◌, ℕ, ◌+◌, ◌*◌, ◌/◌, ◌^◌, ◌<◌, ◌≤◌, Bool, true, false, if◌then◌else◌, List, [], ◌∷◌, ◌++◌, map, length, Option}
+use Rattle.cli_watchers.proofs.Common.{Some, None, refl, sym, ap, subst, arith, get_or, replicate, nat_lt, slice_index, slice_set, lt-ltb, length-replicate}
+use Rattle.cli_watchers.proofs.Common.{length-set, unwrap_or-slice_get, Machine, Mic1, Mic2, Mem, statement_of, BusView, Registers, Cycle, kept_of, CacheCounts}
+use Rattle.cli_watchers.proofs.Common.{CacheKept, SaysNothing, access_at, access_in, accesses_by, accesses_of, after_access, after_cycle, all_counted, at_mar}
+use Rattle.cli_watchers.proofs.Common.{at_pc, counts_of, has_room, kept_after, kept_of_cycles}
 use Rattle.std.proofs.Math.ListN as lists
-use Rattle.mic_words.specs.declared.machine.Machine.{Machine}
-use Rattle.mic_words.specs.declared.machine.Machine.TheVariants.{Mic1, Mic2}
-use Rattle.micro_word.specs.declared.statement.Mem.{Mem}
 use Rattle.micro_word.specs.declared.statement.Mem.TheVariants as mems
-use Rattle.micro_word.specs.Prelude.{statement_of}
-use Rattle.console_port.specs.Prelude.{BusView}
-use Rattle.mic_clock.specs.declared.registers.Registers.{Registers}
-use Rattle.mic_watched.specs.declared.cycle.Cycle.{Cycle}
-use Rattle.mic_watched.specs.Prelude.{kept_of}
-use Rattle.mem_cache.specs.declared.counts.CacheCounts.{CacheCounts}
 use Rattle.mem_cache.specs.Prelude.{Access, Read, Write, Fetch, asks_for, hits_of, misses_of, Tally, after_asking, after_hit, after_miss, counted, empty_tally, has_block, AllLead, CacheView, answered}
 use Rattle.cli_watchers.specs.declared.cache.WordAccess.{WordAccess}
-use Rattle.cli_watchers.specs.Prelude.{CacheKept, SaysNothing, access_at, access_in, accesses_by, accesses_of, after_access, after_cycle, all_counted, at_mar, at_pc, counts_of, has_room, kept_after, kept_of_cycles}
 
 -- ---- one access
 

@@ -1,17 +1,10 @@
 -- What the profiler counts step by step is what the run completed.
-use Rattle.std.proofs.Common.{◌≡◌, ◌∙◌, ℕ, zero, suc, ◌+◌, ◌<◌, ◌≤◌, ◌^◌, ◌==◌, ◌≢◌, get_or, Bool, true, false, if◌then◌else◌, List, [], ◌∷◌, ◌++◌, length, Option, Some, None, refl, sym, ap, subst, arith}
-use Rattle.std.specs.Prelude.{slice_set, replicate}
-use Rattle.std.proofs.lemmas.Bool.{eqb-false, eqb-true}
-use Rattle.std.proofs.lemmas.Grind.{get_or-set_at}
-use Rattle.std.proofs.lemmas.List.{get_or-set_other, length-set}
-use Rattle.std.proofs.lemmas.Option.{unwrap_or-slice_get}
-use Rattle.mic_clock.specs.declared.counts.Boundary.{Boundary}
-use Rattle.mic_clock.specs.declared.end.End.{End}
-use Rattle.mic_clock.specs.Prelude.{completes}
-use Rattle.mic_watched.specs.declared.cycle.Cycle.{Cycle}
-use Rattle.mic_watched.specs.Prelude.{kept_of}
-use Rattle.cli_watchers.specs.declared.profiler.RowCount.{RowCount}
-use Rattle.cli_watchers.specs.Prelude.{Profile, Silent, boot_of, completed, more, no_tally, plus, profile_after, reached_at, row_at, start_profile, tallies_at, tally_at, AreClockedAfter, Completed, Reached, boot_cycles, boundaries_of, completed_from, completed_in, cut_cycles, cut_from, cycles_of, end_after, of_row, reached_by, tally_of}
+use Rattle.cli_watchers.proofs.Common.{◌≡◌, ◌∙◌, ℕ, zero, suc, ◌+◌, ◌<◌, ◌≤◌, ◌^◌, ◌==◌, ◌≢◌, get_or, Bool, true, false, if◌then◌else◌, List, [], ◌∷◌, ◌++◌}
+use Rattle.cli_watchers.proofs.Common.{length, Option, Some, None, refl, sym, ap, subst, arith, slice_set, replicate, eqb-false, eqb-true, get_or-set_at}
+use Rattle.cli_watchers.proofs.Common.{get_or-set_other, length-set, unwrap_or-slice_get, Boundary, End, completes, Cycle, kept_of, RowCount, Profile, Silent}
+use Rattle.cli_watchers.proofs.Common.{boot_of, completed, more, no_tally, plus, profile_after, reached_at, row_at, start_profile, tallies_at, tally_at}
+use Rattle.cli_watchers.proofs.Common.{AreClockedAfter, Completed, Reached, boot_cycles, boundaries_of, completed_from, completed_in, cut_cycles, cut_from}
+use Rattle.cli_watchers.proofs.Common.{cycles_of, end_after, of_row, reached_by, tally_of}
 
 -- ---- the steps, as a list of completed instructions
 

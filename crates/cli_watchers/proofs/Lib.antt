@@ -1,3 +1,4 @@
+pub mod Common
 pub mod Placed
 pub mod RowNames
 pub mod Ordered

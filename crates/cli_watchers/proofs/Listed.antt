@@ -1,12 +1,7 @@
 -- The rows of addresses, one after another.
-use Rattle.std.proofs.Common.{◌≡◌, ℕ, ◌+◌, ◌<◌, ◌⊎◌, inl, inr, List, [], ◌∷◌, ◌++◌, length, get_or, refl, ap, sym, ◌∙◌, subst, arith, length-append, Some}
-use Rattle.std.specs.Prelude.{slice_get}
-use Rattle.std.proofs.lemmas.Option.{slice_get_within, get_or_from_slice_get, slice_get-get_or}
-use Rattle.std.proofs.Math.ListN.{get_or-append}
-use Rattle.std.proofs.Math.Seq.{get_or-append_seam}
-use Rattle.std.proofs.lemmas.Bool.{cases_lt}
-use Rattle.ijvm_image.specs.Prelude.{ImageView}
-use Rattle.cli_watchers.specs.Prelude.{AreRowsUpTo, IsRowAt}
+use Rattle.cli_watchers.proofs.Common.{◌≡◌, ℕ, ◌+◌, ◌<◌, ◌⊎◌, inl, inr, List, [], ◌∷◌, ◌++◌, length, get_or, refl, ap, sym, ◌∙◌, subst, arith, length-append}
+use Rattle.cli_watchers.proofs.Common.{Some, slice_get, slice_get_within, get_or_from_slice_get, slice_get-get_or, get_or-append, get_or-append_seam, cases_lt}
+use Rattle.cli_watchers.proofs.Common.{ImageView, AreRowsUpTo, IsRowAt}
 
 -- a member of a list with one more is of the list, or is the one more
 last_or_before : (xs : List ℕ) (x k y : ℕ) → slice_get (xs ++ x ∷ []) k ≡ Some y → (slice_get xs k ≡ Some y) ⊎ ((k ≡ length xs) × (x ≡ y))

@@ -1,10 +1,5 @@
 -- The table of instructions has the names of the rows, in their order.
-use Rattle.std.proofs.Common.{◌≡◌, ℕ, List, refl, ap, sym, ◌∙◌}
-use Rattle.std.specs.Prelude.{map, option_map, slice_get}
-use Rattle.std.proofs.lemmas.Option.{slice_get-map}
-use Rattle.ijvm_instr.specs.declared.instr.TheConstants.{INSTRUCTIONS}
-use Rattle.ijvm_instr.specs.Prelude.{mnemonic_of}
-use Rattle.cli_watchers.specs.Prelude.{row_names}
+use Rattle.cli_watchers.proofs.Common.{◌≡◌, ℕ, List, refl, ap, sym, ◌∙◌, map, option_map, slice_get, slice_get-map, INSTRUCTIONS, mnemonic_of, row_names}
 
 in_order : map mnemonic_of INSTRUCTIONS ≡ row_names
 in_order = refl

@@ -1,7 +1,5 @@
 -- The statements of a placed program.
-use Rattle.std.proofs.Common.{◌≡◌, ℕ, List, length, ◌∙◌}
-use Rattle.std.proofs.lemmas.List.{length-map}
-use Rattle.mal_parser.specs.Prelude.{MalView}
+use Rattle.cli_watchers.proofs.Common.{◌≡◌, ℕ, List, length, ◌∙◌, length-map, MalView}
 use Rattle.store_placement.specs.Prelude.{Places, demands_of}
 
 -- each has an address

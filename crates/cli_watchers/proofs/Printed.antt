@@ -1,8 +1,6 @@
 -- The lines of rows, one after another.
-use Rattle.std.proofs.Common.{◌≡◌, ℕ, ◌+◌, ◌<◌, ◌≤◌, List, ◌∷◌, ◌++◌, length, get_or, drop, ap, sym, ◌∙◌, append_assoc, add-one, drop-cons}
-use Rattle.std.proofs.lemmas.List.{append-nil, drop_all}
-use Rattle.cli_watchers.specs.declared.profiler.RowCount.{RowCount}
-use Rattle.cli_watchers.specs.Prelude.{row_line, rows_text}
+use Rattle.cli_watchers.proofs.Common.{◌≡◌, ℕ, ◌+◌, ◌<◌, ◌≤◌, List, ◌∷◌, ◌++◌, length, get_or, drop, ap, sym, ◌∙◌, append_assoc, add-one, drop-cons, append-nil}
+use Rattle.cli_watchers.proofs.Common.{drop_all, RowCount, row_line, rows_text}
 
 -- the lines from this row on
 rows_rest : (row : ℕ) (ts : List RowCount) (d : RowCount) → row < length ts →

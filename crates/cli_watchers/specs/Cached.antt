@@ -1,14 +1,7 @@
 -- The accesses of a run, in the order of its cycles, and what a cache counts of them.
 use Rattle.std.specs.Prelude.{◌≡◌, ℕ, ◌&&◌, ◌++◌, nat_lt, if◌then◌else◌, Bool, false, List, [], ◌∷◌, codes, length, map, slice_get, slice_index, slice_set, unwrap_or}
-use Rattle.std.specs.Fmt.{decimal}
-use Rattle.mic_words.specs.declared.machine.Machine.{Machine}
-use Rattle.micro_word.specs.declared.statement.Mem.{Mem}
+use Rattle.cli_watchers.specs.Common.{decimal, Machine, Mem, statement_of, Registers, Cycle, kept_of, CacheCounts}
 use Rattle.micro_word.specs.declared.statement.Mem.TheVariants as mems
-use Rattle.micro_word.specs.Prelude.{statement_of}
-use Rattle.mic_clock.specs.declared.registers.Registers.{Registers}
-use Rattle.mic_watched.specs.declared.cycle.Cycle.{Cycle}
-use Rattle.mic_watched.specs.Prelude.{kept_of}
-use Rattle.mem_cache.specs.declared.counts.CacheCounts.{CacheCounts}
 use Rattle.mem_cache.specs.Prelude.{Access, Read, Write, Fetch, hits_of, misses_of, CacheView, Tally, counted, empty_tally}
 use Rattle.cli_watchers.specs.declared.cache.CacheWatcher.{CacheWatcher}
 use Rattle.cli_watchers.specs.declared.cache.WordAccess.{WordAccess}

@@ -1,9 +1,6 @@
 -- The rows of a profile in the words of the run: which instructions it completed, and in how many cycles.
 use Rattle.std.specs.Prelude.{◌≡◌, ℕ, ◌+◌, ◌-◌, ◌==◌, if◌then◌else◌, List, [], ◌∷◌, ◌++◌, Option, Some, None, filter, length}
-use Rattle.mic_clock.specs.declared.counts.Boundary.{Boundary}
-use Rattle.mic_clock.specs.declared.end.End.{End}
-use Rattle.mic_clock.specs.Prelude.{completes}
-use Rattle.mic_watched.specs.declared.cycle.Cycle.{Cycle}
+use Rattle.cli_watchers.specs.Common.{Boundary, End, completes, Cycle}
 use Rattle.cli_watchers.specs.declared.profiler.RowCount.{RowCount}
 use Rattle.cli_watchers.specs.Profile.{row_at}
 

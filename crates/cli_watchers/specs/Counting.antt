@@ -1,8 +1,6 @@
 -- That the rows of a profile, and the counts of a cache, are those of the run whose cycles were watched, from its reset on.
 use Rattle.std.specs.Prelude.{◌≡◌, ◌+◌, ◌<◌, ◌^◌, ℕ, List, length}
-use Rattle.mic_words.specs.declared.machine.Machine.{Machine}
-use Rattle.mic_clock.specs.declared.end.End.{End}
-use Rattle.mic_watched.specs.declared.cycle.Cycle.{Cycle}
+use Rattle.cli_watchers.specs.Common.{Machine, End, Cycle}
 use Rattle.cli_watchers.specs.Profile.{boot_of, profile_of_cycles, tallies_at, tally_at}
 use Rattle.cli_watchers.specs.Cached.{accesses_of, counts_of, kept_of_cycles}
 use Rattle.cli_watchers.specs.Counted.{AreClockedAfter, Completed, boot_cycles, boundaries_of, completed_in, cut_cycles, cycles_of, end_after, tally_of}

@@ -1,13 +1,6 @@
 -- The lines that a trace prints of a clocked cycle.
 use Rattle.std.specs.Prelude.{◌≡◌, ℕ, List, [], ◌++◌, Bool, true, false, not, ◌&&◌, if◌then◌else◌, Option, Some, None, Result, codes}
-use Rattle.std.specs.Fmt.{decimal}
-use Rattle.mic_base.specs.Prelude.{hex_text, Puts}
-use Rattle.ijvm_image.specs.Prelude.{ImageView}
-use Rattle.mal_parser.specs.Prelude.{MalView}
-use Rattle.mic_clock.specs.declared.buses.Drive.{Drive}
-use Rattle.mic_clock.specs.declared.buses.Computed.{Computed}
-use Rattle.mic_clock.specs.Prelude.{state_line}
-use Rattle.mic_watched.specs.declared.cycle.Cycle.{Cycle}
+use Rattle.cli_watchers.specs.Common.{decimal, hex_text, Puts, ImageView, MalView, Drive, Computed, state_line, Cycle}
 use Rattle.cli_watchers.specs.Naming.{IsInstruction, IsWord, labelled_text}
 
 -- `CYCLE MPC LABEL TEXT`

@@ -1,14 +1,7 @@
 -- The word at an address of a placed microprogram, by label and text; and the instruction at an address of an image.
 use Rattle.std.specs.Prelude.{◌≡◌, ◌≢◌, ◌<◌, ℕ, List, ◌++◌, Bool, true, false, Option, Some, None, length, slice_index, codes, unwrap_or}
-use Rattle.ijvm_image.specs.Prelude.{ImageView}
-use Rattle.ijvm_instr.specs.declared.instr.Instr.{Instr}
-use Rattle.ijvm_instr.specs.Prelude.{instr_at, instr_text}
-use Rattle.verifier_facts.specs.declared.kind.Kind.{Kind}
+use Rattle.cli_watchers.specs.Common.{ImageView, Instr, instr_at, instr_text, Kind, IsKind, Statement, MalView, label_at, fallback_of, parts_text, IsOnlyAt}
 use Rattle.verifier_facts.specs.declared.kind.Kind.TheVariants as kinds
-use Rattle.verifier_facts.specs.Prelude.{IsKind}
-use Rattle.mal_parser.specs.declared.statement.Statement.{Statement}
-use Rattle.mal_parser.specs.Prelude.{MalView, label_at, fallback_of, parts_text}
-use Rattle.store_placement.specs.Prelude.{IsOnlyAt}
 
 -- a statement's label, or a dash
 abbrev pub label_text : MalView → ℕ → List ℕ

@@ -1,12 +1,6 @@
 -- The profile of a run by its boundaries: at each boundary the instruction at the boundary before is completed, and what was clocked up to the first is boot.
 use Rattle.std.specs.Prelude.{◌≡◌, ℕ, ◌+◌, ◌-◌, ◌^◌, ◌==◌, if◌then◌else◌, min, List, [], ◌∷◌, ◌++◌, Option, Some, None, codes, replicate, slice_get, slice_set, unwrap_or}
-use Rattle.std.specs.Fmt.{decimal}
-use Rattle.mic_clock.specs.declared.counts.Boundary.{Boundary}
-use Rattle.mic_clock.specs.declared.counts.Counts.{Counts}
-use Rattle.mic_clock.specs.declared.end.End.{End}
-use Rattle.mic_clock.specs.Prelude.{completes}
-use Rattle.mic_watched.specs.declared.cycle.Cycle.{Cycle}
-use Rattle.mic_watched.specs.Prelude.{kept_of}
+use Rattle.cli_watchers.specs.Common.{decimal, Boundary, Counts, End, completes, Cycle, kept_of}
 use Rattle.cli_watchers.specs.declared.profiler.Profiler.{Profiler}
 use Rattle.cli_watchers.specs.declared.profiler.RowCount.{RowCount}
 use Rattle.cli_watchers.specs.Rows.{other, row_name}

@@ -1,11 +1,7 @@
 -- The rows of a profile: one for each instruction, in the table's order, and one for what is none.
 use Prim.Native.String.{String as Literal}
 use Rattle.std.specs.Prelude.{◌≡◌, ℕ, List, [], ◌∷◌, Option, Some, None, codes, length, map, slice_get, unwrap_or}
-use Rattle.std.specs.List.{position}
-use Rattle.std.specs.Str.{bytes_eq}
-use Rattle.ijvm_image.specs.Prelude.{ImageView}
-use Rattle.ijvm_instr.specs.declared.instr.Instr.{Instr}
-use Rattle.ijvm_instr.specs.Prelude.{mnemonic_of}
+use Rattle.cli_watchers.specs.Common.{position, bytes_eq, ImageView, Instr, mnemonic_of}
 use Rattle.cli_watchers.specs.Naming.{IsReached}
 
 -- the row of what is no reached instruction

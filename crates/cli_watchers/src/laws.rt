@@ -1,9 +1,7 @@
 //! A profile, and the counts of a cache, in the words of the run.
 
 ghost use Rattle.std.specs.Prelude.{ℕ, List};
-ghost use Rattle.mic_words.specs.declared.machine.Machine.{Machine};
-ghost use Rattle.mic_clock.specs.declared.end.End.{End};
-ghost use Rattle.mic_watched.specs.declared.cycle.Cycle.{Cycle};
+ghost use Rattle.cli_watchers.specs.Common.{Machine, End, Cycle};
 ghost use Rattle.cli_watchers.specs.Counting.{CountsItsOwn, HasAllCycles, HasItsBoot, HasItsCounts};
 
 use mem_cache::counts_are_those_of_the_accesses;

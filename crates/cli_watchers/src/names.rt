@@ -1,8 +1,7 @@
 //! A word of a placed microprogram by its label and its text, and an instruction of an image by its text.
 
 ghost use Rattle.std.specs.Prelude.{◌≡◌, ◌≤◌, ◌<◌, ◌+◌, ◌++◌, codes, length};
-ghost use Rattle.mal_parser.specs.Prelude.{parts_text};
-ghost use Rattle.store_placement.specs.Prelude.{Places, demands_of};
+ghost use Rattle.cli_watchers.specs.Common.{parts_text, Places, demands_of};
 ghost use Rattle.cli_watchers.specs.Naming.{AddsWord, IsInstruction, IsReached, default_text, label_text, labelled_text};
 
 use ijvm_instr::{Instr, decode_at, print_instr};

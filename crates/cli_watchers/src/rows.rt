@@ -3,8 +3,7 @@
 ghost use Rattle.std.specs.Prelude.{◌≡◌, ◌≤◌, ◌<◌, length, slice_get, IfOk, IfSome};
 ghost use Rattle.std.specs.List.{position};
 ghost use Rattle.std.specs.Str.{bytes_eq};
-ghost use Rattle.ijvm_instr.specs.declared.instr.Instr.{Instr};
-ghost use Rattle.ijvm_instr.specs.Prelude.{mnemonic_of};
+ghost use Rattle.cli_watchers.specs.Common.{Instr, mnemonic_of};
 ghost use Rattle.cli_watchers.specs.Rows.{AreRowsUpTo, IsRowAt, row_name, row_number};
 
 use crate::names::reached_at;

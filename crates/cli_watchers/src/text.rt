@@ -1,8 +1,7 @@
 //! What is printed of a profile.
 
 ghost use Rattle.std.specs.Prelude.{◌≡◌, ◌≤◌, ℕ, length};
-ghost use Rattle.mic_base.specs.Prelude.{HasCause, Puts};
-ghost use Rattle.cli_outside.specs.Prelude.{PutsBehind};
+ghost use Rattle.cli_watchers.specs.Common.{HasCause, Puts, PutsBehind};
 ghost use Rattle.cli_watchers.specs.Profile.{count_line, profile_in, profile_text, row_line, rows_text, tallies_at};
 
 use crate::profiler::{Profiler, RowCount, complete};

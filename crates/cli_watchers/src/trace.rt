@@ -1,8 +1,7 @@
 //! The trace of a run: the lines of each cycle, put to `err` as it is clocked.
 
 ghost use Rattle.std.specs.Prelude.{ℕ};
-ghost use Rattle.mic_base.specs.Prelude.{HasCause};
-ghost use Rattle.store_placement.specs.Prelude.{Places, demands_of};
+ghost use Rattle.cli_watchers.specs.Common.{HasCause, Places, demands_of};
 ghost use Rattle.cli_watchers.specs.Lines.{AreLinesOf, IsBoundaryLine, PutsOneBehind, Traced};
 
 use crate::lines::{cycle_line, state_lines};

@@ -1,15 +1,8 @@
 -- One use of an argument, beside one more entry.
-use Rattle.std.proofs.Common.{◌≡◌, ℕ, suc, ◌∙◌, ap, refl, Bool, true, false, List, [], ◌∷◌, ◌++◌, map, length, Option, Some, None, inl, inr, ◌⊎◌, ◌||◌, arith}
-use Rattle.std.proofs.lemmas.Bool.{lt-ltb}
-use Rattle.std.specs.Prelude.{nat_lt, codes, unwrap_or, option_map}
-use Rattle.std.specs.Str.{bytes_eq}
-use Rattle.std.proofs.lemmas.List.{append-nil}
-use Rattle.clap.specs.Kinds.{Kinds}
+use Rattle.cli_words.proofs.Common.{◌≡◌, ℕ, suc, ◌∙◌, ap, refl, Bool, true, false, List, [], ◌∷◌, ◌++◌, map, length, Option, Some, None, inl, inr, ◌⊎◌, ◌||◌}
+use Rattle.cli_words.proofs.Common.{arith, lt-ltb, nat_lt, codes, unwrap_or, option_map, bytes_eq, append-nil, Kinds, AsWritten, CommandLine, ErrorKind}
 use Rattle.clap.specs.Faults.{settle_fault, use_fault}
 use Rattle.clap.specs.Walk.{Held, Row, Rule, at_row, has_row, settled, used}
-use Rattle.clap.specs.declared.builder.value_parser.Reading.TheVariants.{AsWritten}
-use Rattle.clap.specs.declared.parser.matches.ValueSource.TheVariants.{CommandLine}
-use Rattle.clap.specs.declared.error.kind.ErrorKind.{ErrorKind}
 use Rattle.clap.specs.declared.error.kind.ErrorKind.TheVariants as kind
 use Rattle.cli_words.specs.Prelude.{Entry, Text, add, has}
 use Rattle.cli_words.proofs.Rules.{TakesOne, flag_rule, valued}

@@ -1,10 +1,7 @@
 -- What a command asks for by the matches of a parse is what it asks for by the entries of its words.
-use Rattle.std.proofs.Common.{◌≡◌, ◌∙◌, ◌≤◌, ◌-◌, ap, arith, refl, sym, List, [], ◌∷◌, length, map, Option, Some, None, slice_index_or}
-use Rattle.std.specs.Prelude.{Ok, String, codes, drop, string_bytes, take, unwrap_or}
-use Rattle.std.proofs.lemmas.List.{take_rest}
-use Rattle.clap.specs.Matches.{first_value, found_of}
-use Rattle.clap.specs.declared.parser.matches.ArgMatches.{ArgMatches}
-use Rattle.cli_words.specs.declared.table.CommandName.{CommandName}
+use Rattle.cli_words.proofs.Common.{◌≡◌, ◌∙◌, ◌≤◌, ◌-◌, ap, arith, refl, sym, List, [], ◌∷◌, length, map, Option, Some, None, Ok, String, codes, drop}
+use Rattle.cli_words.proofs.Common.{string_bytes, take, unwrap_or, take_rest, first_value, found_of, ArgMatches, CommandName}
+use Rattle.std.proofs.Common.{slice_index_or}
 use Rattle.cli_words.specs.declared.table.CommandName.TheVariants as command
 use Rattle.cli_words.specs.Prelude.{Entry, Text, reads, text_in, form_for, name_for, HoldsGiven, TakesAs, bytes_of, asked_by, asked_of, is_true, request_of}
 

@@ -1,17 +1,9 @@
 -- What clap does after its walk, and the agreement of its result with the reading of the words.
-use Rattle.std.proofs.Common.{◌≡◌, ℕ, ◌+◌, ◌≤◌, ◌∙◌, ap, refl, Bool, true, false, not, List, [], ◌∷◌, ◌++◌, length, Option, Some, None, inl, inr, ◌⊎◌, ◌||◌, ◌&&◌, IsUtf8}
-use Rattle.std.specs.Prelude.{if◌then◌else◌, codes, fold, option_map}
-use Rattle.std.specs.List.{All, list_all, list_any}
-use Rattle.std.specs.Str.{bytes_eq}
-use Rattle.clap.specs.Kinds.{Kinds, check_kinds, or_else}
-use Rattle.clap.specs.Lexer.{usize_max}
-use Rattle.clap.specs.Simple.{App, matches_of, names_of as names_of_app}
-use Rattle.clap.specs.Takes.{is_given}
+use Rattle.cli_words.proofs.Common.{◌≡◌, ℕ, ◌+◌, ◌≤◌, ◌∙◌, ap, refl, Bool, true, false, not, List, [], ◌∷◌, ◌++◌, length, Option, Some, None, inl, inr, ◌⊎◌}
+use Rattle.cli_words.proofs.Common.{◌||◌, ◌&&◌, IsUtf8, if◌then◌else◌, codes, fold, option_map, All, list_all, list_any, bytes_eq, Kinds, check_kinds, or_else}
+use Rattle.cli_words.proofs.Common.{usize_max, App, matches_of, names_of as names_of_app, is_given, leaf_fault, AsWritten, DefaultValue}
 use Rattle.clap.specs.Faults.{built_fault, check_fault, default_fault, defaults_fault, fault_of, settle_fault, walk_fault}
-use Rattle.clap.proofs.FaultLemmas.{leaf_fault}
 use Rattle.clap.specs.Walk.{Held, Row, Rule, finished, has_row, more_values, nothing_held, settled, walk, walk_from, with_default}
-use Rattle.clap.specs.declared.builder.value_parser.Reading.TheVariants.{AsWritten}
-use Rattle.clap.specs.declared.parser.matches.ValueSource.TheVariants.{DefaultValue}
 use Rattle.clap.specs.declared.error.kind.ErrorKind.TheVariants as kind
 use Rattle.cli_words.specs.Prelude.{Entry, Form, Text, any, has, is_complete, is_in, read, reads}
 use Rattle.cli_words.proofs.Rules.{TakesOne, app_with, by_id_option, by_id_plain, by_long, by_short, built_is, fits, flag_rule, flag_rules, given_rules, next, option_rule, option_rules, plain_rule, valued, own_text, plain_rules, rules_for, shape_with}

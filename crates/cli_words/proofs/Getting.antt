@@ -1,11 +1,8 @@
 -- What the getters of a parse's matches give, by the entries of the words.
-use Rattle.std.proofs.Common.{◌≡◌, ◌∙◌, sym, ap, refl, Bool, true, false, List, [], ◌∷◌, ◌++◌, Option, Some, None, ◌||◌}
-use Rattle.std.specs.Prelude.{codes, unwrap_or}
-use Rattle.std.specs.Str.{bytes_eq}
-use Rattle.clap.specs.Matches.{first_value, found_of}
+use Rattle.cli_words.proofs.Common.{◌≡◌, ◌∙◌, sym, ap, refl, Bool, true, false, List, [], ◌∷◌, ◌++◌, Option, Some, None, ◌||◌, codes, unwrap_or, bytes_eq}
+use Rattle.cli_words.proofs.Common.{first_value, found_of, ArgMatches}
 use Rattle.clap.proofs.WalkLemmas.{first_value-rows}
 use Rattle.clap.specs.Walk.{Row, first_of, has_row, rows_of}
-use Rattle.clap.specs.declared.parser.matches.ArgMatches.{ArgMatches}
 use Rattle.cli_words.specs.Prelude.{Entry, Form, Text, has, is_in, text_in, HoldsGiven}
 use Rattle.cli_words.proofs.Rules.{own_text, same_text}
 use Rattle.cli_words.proofs.Adding.{has_rows, rows}

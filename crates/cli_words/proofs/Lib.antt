@@ -1,3 +1,4 @@
+pub mod Common
 pub mod Rules
 pub mod Looks
 pub mod Adding

@@ -1,10 +1,7 @@
 -- What clap makes of a word of each look.
-use Rattle.std.proofs.Common.{◌≡◌, ℕ, sym, subst, refl, arith, Bool, true, false, List, [], ◌∷◌, Option, Some, None, IsUtf8}
-use Rattle.std.specs.Prelude.{if◌then◌else◌, ◌==◌, slice_get, encode_utf8_all}
-use Rattle.std.specs.Str.{bytes_eq, chars}
+use Rattle.cli_words.proofs.Common.{◌≡◌, ℕ, sym, subst, refl, arith, Bool, true, false, List, [], ◌∷◌, Option, Some, None, IsUtf8, if◌then◌else◌, ◌==◌}
+use Rattle.cli_words.proofs.Common.{slice_get, encode_utf8_all, bytes_eq, chars, eqb-true, long_of, name_and_value, short_of}
 use Rattle.std.proofs.lemmas.Str.{IsCharBoundary-after_ascii, IsUtf8-drop, encodes-chars}
-use Rattle.std.proofs.lemmas.Bool.{eqb-true}
-use Rattle.clap.specs.Lexer.{long_of, name_and_value, short_of}
 use Rattle.cli_words.specs.Prelude.{Look, Text, dashes, long, look, look_after_one, look_after_two, plain, short}
 
 -- clap's tests of a word

@@ -1,7 +1,7 @@
 -- The row that a word names is that of the command that it names.
 use Rattle.std.proofs.Common.{◌≡◌, refl, sym, ap, Bool, true, false, List, [], ◌∷◌, map, Option, find, bytes_eq}
-use Rattle.cli_words.specs.Prelude.{Text, AreTableRows, IsRowOf, named_in, row_for}
 use Rattle.cli_words.specs.declared.table.Row.{Row}
+use Rattle.cli_words.specs.Prelude.{Text, AreTableRows, IsRowOf, named_in, row_for}
 
 abbrev first : Text → List Row → Option Row
 first word rows = find (λ row. bytes_eq row.name.now word) rows

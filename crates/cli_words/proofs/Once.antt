@@ -1,7 +1,6 @@
 -- Each name is given at most once.
-use Rattle.std.proofs.Common.{◌≡◌, Bool, true, false, if◌then◌else◌, List, [], ◌∷◌, ◌++◌, Option, Some, None, refl, sym, subst, append_assoc, append-nil}
-use Rattle.std.specs.Prelude.{option_and_then}
-use Rattle.std.proofs.lemmas.Option.{same_Some}
+use Rattle.cli_words.proofs.Common.{◌≡◌, Bool, true, false, if◌then◌else◌, List, [], ◌∷◌, ◌++◌, Option, Some, None, refl, sym, subst, append_assoc, append-nil}
+use Rattle.cli_words.proofs.Common.{option_and_then, same_Some}
 use Rattle.cli_words.specs.Prelude.{Entry, Form, Look, NextWord, Rest, Text, add, any, dashes, has, is_complete, is_filled, is_in, is_value, long, look, only_plain, option_name, option_value, plain, read, read_any, read_end, read_flag, read_option, read_plain, read_word, reads, short, value, AreNewAfter, IsGiven, IsNew}
 
 -- one more entry

@@ -1,15 +1,10 @@
 -- The arguments of the command that is built of a row, and how clap finds them.
-use Rattle.std.proofs.Common.{◌≡◌, ℕ, ◌+◌, ◌<◌, ◌≤◌, ◌∙◌, sym, ap, refl, arith, Bool, true, false, List, [], ◌∷◌, ◌++◌, length, min, Option, Some, None, inl, inr, ◌⊎◌, append_assoc, ◌&&◌, ne_eqb, eq-eqb}
-use Rattle.std.specs.Prelude.{if◌then◌else◌, codes, ◌==◌}
-use Rattle.std.proofs.lemmas.List.{append-nil}
-use Rattle.std.specs.List.{list_all, list_any}
-use Rattle.std.specs.Str.{bytes_eq}
-use Rattle.std.proofs.lemmas.Slice.Eq.{bytes_eq-Decides}
-use Rattle.clap.specs.Lexer.{usize_max}
+use Rattle.cli_words.proofs.Common.{◌≡◌, ℕ, ◌+◌, ◌<◌, ◌≤◌, ◌∙◌, sym, ap, refl, arith, Bool, true, false, List, [], ◌∷◌, ◌++◌, length, min, Option, Some, None}
+use Rattle.cli_words.proofs.Common.{inl, inr, ◌⊎◌, append_assoc, ◌&&◌, ne_eqb, eq-eqb, if◌then◌else◌, codes, ◌==◌, append-nil, list_all, list_any, bytes_eq}
+use Rattle.cli_words.proofs.Common.{bytes_eq-Decides, usize_max, App, Shape, built, filled_from, is_buildable, is_ready, is_ready_leaf, new_shape, on_top}
+use Rattle.cli_words.proofs.Common.{with_rule, Set, SetTrue}
 use Rattle.clap.specs.Walk.{Rule, arg_by_id, arg_by_index, arg_by_long, arg_by_short, is_early_multiple}
-use Rattle.clap.specs.Simple.{App, Shape, built, filled_from, is_buildable, is_ready, is_ready_leaf, new_shape, on_top, with_rule}
 use Rattle.clap.specs.Faults.{is_free_app, is_simple_and_free}
-use Rattle.clap.specs.declared.builder.action.ArgAction.TheVariants.{Set, SetTrue}
 use Rattle.clap.specs.declared.builder.value_parser.ValueParser.TheVariants as vp
 use Rattle.cli_words.specs.Prelude.{Form, Text, is_in, app_for, bare, rules_in, with_rules}
 use Rattle.cli_words.specs.declared.taking.Kind.TheVariants as kind

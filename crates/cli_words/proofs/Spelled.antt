@@ -1,9 +1,6 @@
 -- What is read of a command line is written there.
-use Rattle.std.proofs.Common.{◌≡◌, ◌∙◌, ℕ, zero, suc, arith, Bool, true, false, if◌then◌else◌, List, [], ◌∷◌, ◌++◌, Option, Some, None, ◌⊎◌, inl, inr, refl, sym, ap, subst, append_assoc, append-nil}
-use Rattle.std.specs.Prelude.{◌==◌, option_and_then}
-use Rattle.std.specs.List.{after_first}
-use Rattle.std.proofs.lemmas.Bool.{eqb-true}
-use Rattle.std.proofs.lemmas.Option.{same_Some}
+use Rattle.cli_words.proofs.Common.{◌≡◌, ◌∙◌, ℕ, zero, suc, arith, Bool, true, false, if◌then◌else◌, List, [], ◌∷◌, ◌++◌, Option, Some, None, ◌⊎◌, inl, inr}
+use Rattle.cli_words.proofs.Common.{refl, sym, ap, subst, append_assoc, append-nil, ◌==◌, option_and_then, after_first, eqb-true, same_Some}
 use Rattle.clap.proofs.CutLemmas.{Lacks, after_first-at, before_first-Lacks, before_first-at, list_any-Lacks, list_any-at}
 use Rattle.cli_words.specs.Prelude.{Entry, Form, Look, NextWord, Rest, Text, add, any, dashes, has, is_complete, is_filled, is_in, is_value, long, look, look_after_one, look_after_two, only_plain, option_name, option_value, plain, read, read_any, read_end, read_flag, read_long, read_option, read_plain, read_word, reads, short, value, Plain, Apart, Joined, Flag, Dashes, ArePlain, IsLine, IsNameOf, IsSpelled, IsSpelledBy, has_equals}
 

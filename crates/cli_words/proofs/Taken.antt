@@ -1,6 +1,5 @@
 -- What is written in a command line is read there.
-use Rattle.std.proofs.Common.{◌≡◌, ◌∙◌, true, false, List, [], ◌∷◌, ◌++◌, Option, Some, None, refl, sym, ap, subst, append_assoc, append-nil}
-use Rattle.std.specs.List.{flat_map}
+use Rattle.cli_words.proofs.Common.{◌≡◌, ◌∙◌, true, false, List, [], ◌∷◌, ◌++◌, Option, Some, None, refl, sym, ap, subst, append_assoc, append-nil, flat_map}
 use Rattle.clap.proofs.CutLemmas.{after_first-at, before_first-at, list_any-at}
 use Rattle.cli_words.specs.Prelude.{Entry, Form, NextWord, Text, add, any, is_in, is_value, long, look, only_plain, plain, read, read_plain, reads, AreNewAfter, IsGiven, IsNew, Piece, Plain, Apart, Joined, Flag, Dashes, ArePlain, IsLine, IsNameOf, IsSpelled, entries, plain_names, written}
 use Rattle.cli_words.proofs.Spelled.{lacks, whole_name}

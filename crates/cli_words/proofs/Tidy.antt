@@ -1,9 +1,5 @@
 -- No row of the table has an empty name, or one name for an option and a flag.
-use Rattle.std.proofs.Common.{◌≡◌, Bool, true, false, List, [], ◌∷◌, refl, subst}
-use Rattle.std.specs.Prelude.{codes}
-use Rattle.std.specs.Str.{bytes_eq}
-use Rattle.std.proofs.lemmas.Slice.Eq.{bytes_eq-Decides}
-use Rattle.cli_words.specs.declared.table.CommandName.{CommandName}
+use Rattle.cli_words.proofs.Common.{◌≡◌, Bool, true, false, List, [], ◌∷◌, refl, subst, codes, bytes_eq, bytes_eq-Decides, CommandName}
 use Rattle.cli_words.specs.declared.table.CommandName.TheVariants as command
 use Rattle.cli_words.specs.Prelude.{Form, Text, is_in, form_for}
 use Rattle.cli_words.proofs.Taken.{IsTidy}

@@ -1,10 +1,6 @@
 -- clap's walk over the words gives what the reading of the words gives.
-use Rattle.std.proofs.Common.{◌≡◌, ℕ, ◌∙◌, sym, ap, ap₂, refl, Bool, true, false, List, [], ◌∷◌, ◌++◌, Option, Some, None, inl, inr, ◌||◌, IsUtf8, arith}
-use Rattle.std.proofs.lemmas.List.Elements.{All-drop, All-get_or}
-use Rattle.std.specs.Prelude.{if◌then◌else◌, fold, option_map}
-use Rattle.std.specs.List.{All}
-use Rattle.std.specs.Str.{bytes_eq}
-use Rattle.clap.specs.Kinds.{Kinds, or_else}
+use Rattle.cli_words.proofs.Common.{◌≡◌, ℕ, ◌∙◌, sym, ap, ap₂, refl, Bool, true, false, List, [], ◌∷◌, ◌++◌, Option, Some, None, inl, inr, ◌||◌, IsUtf8, arith}
+use Rattle.cli_words.proofs.Common.{All-drop, All-get_or, if◌then◌else◌, fold, option_map, All, bytes_eq, Kinds, or_else}
 use Rattle.clap.specs.Faults.{flags_fault, positional_fault, settle_fault, step_fault, turn_fault, use_fault, walk_fault}
 use Rattle.clap.specs.Walk.{Held, Row, Rule, Walk, arg_by_index, arg_by_long, arg_by_short, idle, option, positional_held, pushed, settled, to_positional, used, value, walked}
 use Rattle.clap.specs.declared.error.kind.ErrorKind.TheVariants as kind

@@ -1,6 +1,5 @@
 -- What lines make, one by one, where each says something at its place; lines in two parts.
-use Rattle.std.proofs.Common.{◌≡◌, ℕ, suc, ◌+◌, List, [], ◌∷◌, ◌++◌, length, refl, sym, subst, arith}
-use Rattle.source_text.specs.Prelude.{Makes}
+use Rattle.ijvm_asm.proofs.Common.{◌≡◌, ℕ, suc, ◌+◌, List, [], ◌∷◌, ◌++◌, length, refl, sym, subst, arith, Makes}
 use Rattle.ijvm_asm.specs.Prelude.{Said, Source, parser}
 
 -- lines from line `k` on, each read at its place, lead from the one source to the other

@@ -1,8 +1,5 @@
 -- What an outcome after a test shows of the test.
-use Rattle.std.proofs.Common.{◌≡◌, Bool, true, false, refl, ap, sym, cond}
-use Rattle.std.specs.Prelude.{Result, Ok, Err}
-use Rattle.source_text.specs.Prelude.{FailsBy}
-use Rattle.ijvm_asm.specs.declared.error.AsmError.{AsmError}
+use Rattle.ijvm_asm.proofs.Common.{◌≡◌, Bool, true, false, refl, ap, sym, cond, Result, Ok, Err, FailsBy, AsmError}
 use Rattle.ijvm_asm.specs.Prelude.{is_memory, RefusesBy}
 
 abbrev pub ok : {A : Type 0} → A → Result A AsmError

@@ -1,10 +1,6 @@
 -- The lines of a section of constants make what the section makes.
-use Rattle.std.proofs.Common.{◌≡◌, ℕ, ◌+◌, true, false, List, [], ◌∷◌, ◌++◌, map, Option, Some, None, refl, ap, sym, subst, ◌∙◌}
-use Rattle.std.specs.Prelude.{is_some}
-use Rattle.std.proofs.lemmas.List.{append_assoc, append-nil}
-use Rattle.std.proofs.lemmas.Bool.{or_parts, or_from}
-use Rattle.std.proofs.option.Match.{None-if_not_some}
-use Rattle.ijvm_program.specs.declared.line.Constant.{Constant}
+use Rattle.ijvm_asm.proofs.Common.{◌≡◌, ℕ, ◌+◌, true, false, List, [], ◌∷◌, ◌++◌, map, Option, Some, None, refl, ap, sym, subst, ◌∙◌, is_some, append_assoc}
+use Rattle.ijvm_asm.proofs.Common.{append-nil, or_parts, or_from, None-if_not_some, Constant}
 use Rattle.ijvm_line.specs.declared.place.Place.TheVariants as places
 use Rattle.ijvm_line.specs.declared.place.Mark.TheVariants as marks
 use Rattle.source_text.specs.Places as names

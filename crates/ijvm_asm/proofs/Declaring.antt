@@ -1,7 +1,5 @@
 -- What sections make of the reader's record is what they declare.
-use Rattle.std.proofs.Common.{◌≡◌, ℕ, ◌+◌, true, false, List, [], ◌∷◌, ◌++◌, map, length, Option, Some, None, refl, ap, sym, subst, ◌∙◌}
-use Rattle.std.specs.Prelude.{is_some}
-use Rattle.std.proofs.lemmas.List.{append-nil}
+use Rattle.std.proofs.Common.{◌≡◌, ℕ, ◌+◌, true, false, List, [], ◌∷◌, ◌++◌, map, length, Option, Some, None, refl, ap, sym, subst, ◌∙◌, is_some, append-nil}
 use Rattle.std.proofs.option.Match.{None-if_not_some}
 use Rattle.ijvm_line.specs.declared.place.Place.TheVariants as places
 use Rattle.ijvm_asm.specs.Prelude.{begun, DraftView, Between, Body, CodeItem, Constants, Locals, Main, Method, Section, section_lines, declarations_of, Source, AreLocals, AreNew, code_from, declared, labels_in, lines_in, locals_in, MakesUnit, positions_in, waits_behind, Declarations, defined, SectionAdds, SectionsDeclare}

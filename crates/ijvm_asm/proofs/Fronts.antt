@@ -1,12 +1,9 @@
 -- Lines are the first of some sections exactly where they make something, one by one: what is open can always be ended.
-use Rattle.std.proofs.Common.{◌≡◌, ℕ, ◌+◌, Bool, true, false, List, [], ◌∷◌, ◌++◌, Option, Some, None, length, refl, ap, sym, subst, ◌∙◌}
-use Rattle.std.specs.Prelude.{◌||◌, not, Ok, is_some}
-use Rattle.std.proofs.lemmas.Bool.{or_from, not_from_true}
+use Rattle.ijvm_asm.proofs.Common.{◌≡◌, ℕ, ◌+◌, Bool, true, false, List, [], ◌∷◌, ◌++◌, Option, Some, None, length, refl, ap, sym, subst, ◌∙◌, ◌||◌, not, Ok}
+use Rattle.ijvm_asm.proofs.Common.{is_some, or_from, not_from_true, Place, Instruction}
 use Rattle.ijvm_instr.specs.declared.instr.Instr.TheVariants as instrs
-use Rattle.ijvm_line.specs.declared.place.Place.{Place}
 use Rattle.ijvm_line.specs.declared.place.Place.TheVariants as places
 use Rattle.ijvm_line.specs.declared.place.Mark.TheVariants as marks
-use Rattle.ijvm_line.specs.declared.instruction.Instruction.{Instruction}
 use Rattle.ijvm_line.specs.declared.instruction.Instruction.TheVariants as instructions
 use Rattle.ijvm_asm.specs.declared.error.AsmError.TheVariants as errors
 use Rattle.ijvm_asm.specs.Prelude.{BlankAt, Codes, Dotted, place_of, Said, lines_of, Section, declarations_of, empty, Source, add_instruction, add_line, IsFront, StandsAt}

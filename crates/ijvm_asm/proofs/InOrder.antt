@@ -1,7 +1,5 @@
 -- The lines of sections make what the sections make, one after the other.
-use Rattle.std.proofs.Common.{◌≡◌, ℕ, ◌+◌, List, [], ◌∷◌, ◌++◌, map, replicate, length, Option, Some, None, refl, ap, sym, subst, ◌∙◌}
-use Rattle.std.proofs.lemmas.List.{append_assoc}
-use Rattle.ijvm_line.specs.declared.place.Mark.{Mark}
+use Rattle.ijvm_asm.proofs.Common.{◌≡◌, ℕ, ◌+◌, List, [], ◌∷◌, ◌++◌, map, replicate, length, Option, Some, None, refl, ap, sym, subst, ◌∙◌, append_assoc, Mark}
 use Rattle.ijvm_line.specs.declared.place.Mark.TheVariants as marks
 use Rattle.ijvm_line.specs.declared.place.Place.TheVariants as places
 use Rattle.ijvm_asm.specs.Prelude.{BlankAt, Dotted, Heads, Said, Between, Body, body_lines, code_line, constant_line, Constants, lines_of, local_line, Locals, locals_lines, Main, Method, Section, section_lines, Source}

@@ -1,6 +1,5 @@
 -- What the lines of a unit keep of the reader's record, and of its unit.
-use Rattle.std.proofs.Common.{◌≡◌, ℕ, Bool, List, ◌++◌, Option, Some, None, refl, ap, sym, ◌∙◌}
-use Rattle.ijvm_line.specs.declared.place.Place.{Place}
+use Rattle.ijvm_asm.proofs.Common.{◌≡◌, ℕ, Bool, List, ◌++◌, Option, Some, None, refl, ap, sym, ◌∙◌, Place}
 use Rattle.ijvm_asm.specs.Prelude.{Body, Locals, DraftView, Source, code_from, lines_in}
 use Rattle.ijvm_asm.proofs.Made.{MakesBody, OpensLocals}
 

@@ -1,11 +1,6 @@
 -- Where every name is declared, the look-up finds each line and each unit.
-use Rattle.std.proofs.Common.{◌≡◌, ℕ, List, [], ◌∷◌, Option, Some, None, refl, sym, ap, ◌∙◌}
-use Rattle.std.specs.Prelude.{IsSome, option_map, option_and_then, nat_le, Bool, true, false}
-use Rattle.std.proofs.Common.{cond}
-use Rattle.ijvm_program.specs.declared.line.CodeLine.{CodeLine}
-use Rattle.ijvm_program.specs.declared.line.Operation.{Operation}
-use Rattle.ijvm_program.specs.Prelude.{UnitView}
-use Rattle.ijvm_asm.specs.declared.draft.DraftLine.{DraftLine}
+use Rattle.ijvm_asm.proofs.Common.{◌≡◌, ℕ, List, [], ◌∷◌, Option, Some, None, refl, sym, ap, ◌∙◌, IsSome, option_map, option_and_then, nat_le, Bool, true}
+use Rattle.ijvm_asm.proofs.Common.{false, cond, CodeLine, Operation, UnitView, DraftLine}
 use Rattle.ijvm_asm.specs.Prelude.{DraftView, Source, lines_from, lower, operation_of, or_line, unit_of, unit_with, units_from, unknown, unknown_lines, unknown_main, unknown_units}
 
 and_then_some : {A B : Type 0} (f : A → Option B) (o : Option A) → IsSome (option_and_then f o) → IsSome o

@@ -1,3 +1,4 @@
+pub mod Common
 pub mod Conditions
 pub mod Building
 pub mod Outcome

@@ -1,7 +1,5 @@
 -- What sections make of the reader's record, one after the other: the lines of a unit, then the sections that hold them.
-use Rattle.std.specs.Prelude.{◌≡◌, ℕ, ◌+◌, ◌≤◌, Bool, true, false, List, [], ◌∷◌, ◌++◌, map, length, Option, Some, None}
-use Rattle.ijvm_program.specs.Prelude.{most_names}
-use Rattle.ijvm_program.specs.declared.line.Constant.{Constant}
+use Rattle.ijvm_asm.proofs.Common.{◌≡◌, ℕ, ◌+◌, ◌≤◌, Bool, true, false, List, [], ◌∷◌, ◌++◌, map, length, Option, Some, None, most_names, Constant}
 use Rattle.ijvm_line.specs.declared.place.Place.TheVariants as places
 use Rattle.source_text.specs.Places as names
 use Rattle.ijvm_asm.specs.Prelude.{begun, Between, Body, CodeItem, Constants, Locals, Main, Method, Section, section_lines, Source, AreLocals, AreNew, code_from, declared, labels_in, lines_in, positions_in, waits_behind, AreConstants, defined}

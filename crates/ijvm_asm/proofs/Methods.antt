@@ -1,10 +1,6 @@
 -- The lines of a method make what the method says.
-use Rattle.std.proofs.Common.{◌≡◌, ℕ, ◌+◌, ◌≤◌, true, List, [], ◌∷◌, ◌++◌, map, length, Option, Some, None, refl, ap, sym, subst, ◌∙◌, cond}
-use Rattle.std.specs.Prelude.{◌||◌, not, Ok, is_some, nat_lt}
-use Rattle.std.proofs.lemmas.List.{append_assoc, append-nil}
-use Rattle.std.proofs.lemmas.Bool.{or_parts, or_from, le-ltb, ltb-false}
-use Rattle.std.proofs.option.Match.{None-if_not_some}
-use Rattle.ijvm_program.specs.Prelude.{most_names}
+use Rattle.ijvm_asm.proofs.Common.{◌≡◌, ℕ, ◌+◌, ◌≤◌, true, List, [], ◌∷◌, ◌++◌, map, length, Option, Some, None, refl, ap, sym, subst, ◌∙◌, cond, ◌||◌, not, Ok}
+use Rattle.ijvm_asm.proofs.Common.{is_some, nat_lt, append_assoc, append-nil, or_parts, or_from, le-ltb, ltb-false, None-if_not_some, most_names}
 use Rattle.ijvm_line.specs.declared.place.Mark.TheVariants as marks
 use Rattle.ijvm_line.specs.declared.place.Place.TheVariants as places
 use Rattle.source_text.specs.Places as names

@@ -1,10 +1,7 @@
 -- The line that began the innermost open section is the first of those that are open.
-use Rattle.std.proofs.Common.{◌≡◌, ℕ, ◌+◌, true, false, List, [], ◌∷◌, ◌++◌, Some, length, refl, ap, sym, ◌∙◌}
-use Rattle.std.specs.Prelude.{◌||◌, not, Ok, is_some, nat_le}
-use Rattle.ijvm_program.specs.Prelude.{most_names}
-use Rattle.ijvm_line.specs.declared.place.Place.{Place}
+use Rattle.ijvm_asm.proofs.Common.{◌≡◌, ℕ, ◌+◌, true, false, List, [], ◌∷◌, ◌++◌, Some, length, refl, ap, sym, ◌∙◌, ◌||◌, not, Ok, is_some, nat_le, most_names}
+use Rattle.ijvm_asm.proofs.Common.{Place, Mark}
 use Rattle.ijvm_line.specs.declared.place.Place.TheVariants as places
-use Rattle.ijvm_line.specs.declared.place.Mark.{Mark}
 use Rattle.ijvm_line.specs.declared.place.Mark.TheVariants as marks
 use Rattle.source_text.specs.Places as names
 use Rattle.ijvm_asm.specs.declared.error.AsmError.TheVariants as errors

@@ -1,10 +1,7 @@
 -- A source is read as what it spells: each line by itself, one line after the other, and all together.
-use Rattle.std.proofs.Common.{◌≡◌, ℕ, List, refl, ap, sym, subst, ◌∙◌, false}
-use Rattle.std.specs.Prelude.{Result, Ok, Err, IfOk, IfErr}
-use Rattle.source_text.specs.Prelude.{contents, Agrees, IsReadAsSpelled, Leads}
-use Rattle.ijvm_program.specs.Prelude.{ProgramView}
+use Rattle.ijvm_asm.proofs.Common.{◌≡◌, ℕ, List, refl, ap, sym, subst, ◌∙◌, false, Result, Ok, Err, IfOk, IfErr, contents, Agrees, IsReadAsSpelled, Leads}
+use Rattle.ijvm_asm.proofs.Common.{ProgramView, AsmError}
 use Rattle.ijvm_line.specs.Lines as lines
-use Rattle.ijvm_asm.specs.declared.error.AsmError.{AsmError}
 use Rattle.ijvm_asm.specs.declared.error.AsmError.TheVariants as errors
 use Rattle.ijvm_asm.specs.Prelude.{is_memory, RefusesBy, place_of, Said, declarations_of, empty, Source, Declarations, IsLowest, IsProgramOf, NamesUnknown, AreRefused, grammar, IsRefused, SpellsProgram, whole_program, parser, ReadsLines, step}
 use Rattle.ijvm_asm.proofs.Building.{Build}

@@ -1,8 +1,5 @@
 -- What a text spells is a program.
-use Rattle.std.proofs.Common.{◌≡◌, List, [], Some, None}
-use Rattle.source_text.specs.Prelude.{IsReadAsSpelled}
-use Rattle.ijvm_program.specs.declared.line.Constant.{Constant}
-use Rattle.ijvm_program.specs.Prelude.{UnitView, IsProgram, ProgramView}
+use Rattle.ijvm_asm.proofs.Common.{◌≡◌, List, [], Some, None, IsReadAsSpelled, Constant, UnitView, IsProgram, ProgramView}
 use Rattle.ijvm_line.specs.declared.place.Place.TheVariants as places
 use Rattle.ijvm_asm.specs.Prelude.{DraftView, declarations_of, empty, Source, constants_of, IsProgramOf, missing, unit_of, units_from, IsRead, parser, grammar}
 use Rattle.ijvm_asm.proofs.Resolved.{is_program}

@@ -1,13 +1,9 @@
 -- A line is refused exactly where it does not fit after the lines before it, for the reason that it has.
-use Rattle.std.proofs.Common.{◌≡◌, ℕ, ◌+◌, Bool, true, false, List, [], ◌∷◌, ◌++◌, Option, Some, None, length, refl, ap, sym, subst, ◌∙◌, inl, inr, cond}
-use Rattle.std.specs.Prelude.{◌||◌, not, Result, Ok, Err, is_some, IsSome, nat_le, nat_lt}
-use Rattle.ijvm_program.specs.Prelude.{most_names}
-use Rattle.ijvm_line.specs.declared.place.Mark.{Mark}
+use Rattle.ijvm_asm.proofs.Common.{◌≡◌, ℕ, ◌+◌, Bool, true, false, List, [], ◌∷◌, ◌++◌, Option, Some, None, length, refl, ap, sym, subst, ◌∙◌, inl, inr, cond}
+use Rattle.ijvm_asm.proofs.Common.{◌||◌, not, Result, Ok, Err, is_some, IsSome, nat_le, nat_lt, most_names, Mark, Instruction, AsmError}
 use Rattle.ijvm_line.specs.declared.place.Mark.TheVariants as marks
 use Rattle.ijvm_line.specs.declared.place.Place.TheVariants as places
-use Rattle.ijvm_line.specs.declared.instruction.Instruction.{Instruction}
 use Rattle.source_text.specs.Places as names
-use Rattle.ijvm_asm.specs.declared.error.AsmError.{AsmError}
 use Rattle.ijvm_asm.specs.declared.error.AsmError.TheVariants as errors
 use Rattle.ijvm_asm.specs.Prelude.{BlankAt, Codes, Declares, Defines, Dotted, Heads, place_of, Said, DraftView, empty, Source, add_line, add_mark, gather, is_declared, method_by, with_unit, IsMisfit, IsReason, names_behind, open_names}
 use Rattle.ijvm_asm.proofs.Building.{Build}

@@ -1,19 +1,9 @@
 -- The program that a sound source is keeps what holds of each program.
-use Rattle.std.proofs.Common.{◌≡◌, ℕ, suc, ◌<◌, List, [], ◌∷◌, map, take, drop, length, Option, Some, None, refl, ap, sym, subst, ◌∙◌, arith, length-append}
-use Rattle.std.specs.Prelude.{All, IsSome, IsSomeAnd}
-use Rattle.std.specs.List.{slice_get, zip}
-use Rattle.std.proofs.lemmas.List.{take-append-drop}
-use Rattle.std.proofs.lemmas.List.Elements.{All-cons, All-nil}
+use Rattle.ijvm_asm.proofs.Common.{◌≡◌, ℕ, suc, ◌<◌, List, [], ◌∷◌, map, take, drop, length, Option, Some, None, refl, ap, sym, subst, ◌∙◌, arith}
+use Rattle.ijvm_asm.proofs.Common.{length-append, All, IsSome, IsSomeAnd, slice_get, zip, take-append-drop, All-cons, All-nil, place_below, CodeLine, Constant}
+use Rattle.ijvm_asm.proofs.Common.{Label, Operation, IsProgram, IsUnit, NamesPosition, ProgramView, UnitView, Instruction, DraftLine}
 use Rattle.std.proofs.lemmas.Option.{get_or_from_slice_get, slice_get_within}
-use Rattle.source_text.specs.Prelude.{place_below}
-use Rattle.ijvm_program.specs.declared.line.CodeLine.{CodeLine}
-use Rattle.ijvm_program.specs.declared.line.Constant.{Constant}
-use Rattle.ijvm_program.specs.declared.line.Label.{Label}
-use Rattle.ijvm_program.specs.declared.line.Operation.{Operation}
-use Rattle.ijvm_program.specs.Prelude.{IsProgram, IsUnit, NamesPosition, ProgramView, UnitView}
-use Rattle.ijvm_line.specs.declared.instruction.Instruction.{Instruction}
 use Rattle.ijvm_line.specs.declared.instruction.Instruction.TheVariants as instructions
-use Rattle.ijvm_asm.specs.declared.draft.DraftLine.{DraftLine}
 use Rattle.ijvm_asm.specs.Prelude.{DraftView, declarations_of, Source, IsLineOf, IsProgramOf, IsUnitOf, Pairwise, StandsFor}
 use Rattle.ijvm_asm.proofs.Sound.{Drafted, IsMain, IsMethod, Sound}
 

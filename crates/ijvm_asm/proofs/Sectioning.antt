@@ -1,15 +1,9 @@
 -- What lines make is what their sections make: lines that end outside of all sections are the lines of sections.
-use Rattle.std.proofs.Common.{◌≡◌, ℕ, zero, suc, ◌+◌, Bool, true, false, List, [], ◌∷◌, ◌++◌, map, Option, Some, None, length, refl, ap, sym, subst, ◌∙◌, cond}
-use Rattle.std.specs.Prelude.{◌||◌, not, Ok, Err, is_some, nat_le, nat_lt}
-use Rattle.std.proofs.lemmas.Bool.{or_parts, not-false}
-use Rattle.ijvm_program.specs.declared.line.Constant.{Constant}
-use Rattle.ijvm_line.specs.declared.place.Place.{Place}
+use Rattle.ijvm_asm.proofs.Common.{◌≡◌, ℕ, zero, suc, ◌+◌, Bool, true, false, List, [], ◌∷◌, ◌++◌, map, Option, Some, None, length, refl, ap, sym, subst, ◌∙◌}
+use Rattle.ijvm_asm.proofs.Common.{cond, ◌||◌, not, Ok, Err, is_some, nat_le, nat_lt, or_parts, not-false, Constant, Place, Mark, Instruction, AsmError}
 use Rattle.ijvm_line.specs.declared.place.Place.TheVariants as places
-use Rattle.ijvm_line.specs.declared.place.Mark.{Mark}
 use Rattle.ijvm_line.specs.declared.place.Mark.TheVariants as marks
-use Rattle.ijvm_line.specs.declared.instruction.Instruction.{Instruction}
 use Rattle.source_text.specs.Places as names
-use Rattle.ijvm_asm.specs.declared.error.AsmError.{AsmError}
 use Rattle.ijvm_asm.specs.declared.error.AsmError.TheVariants as errors
 use Rattle.ijvm_asm.specs.Prelude.{BlankAt, Codes, Declares, Defines, Dotted, Heads, place_of, Said, Between, Body, body_lines, code_line, CodeItem, constant_line, Constants, lines_of, local_line, Locals, locals_lines, Main, Method, Section, begun, DraftView, Source, add_code, add_constant, add_instruction, add_line, add_method, begin_constants, begin_locals, begin_main, end_main, end_method, gather, is_declared, method_by, on_local, with_unit}
 use Rattle.ijvm_asm.proofs.Building.{Build}

@@ -1,15 +1,9 @@
 -- What tokens say at the place where they stand, and which lines are those of sections.
-use Rattle.std.proofs.Common.{◌≡◌, ℕ, ◌+◌, List, [], ◌∷◌, Some, None, length, refl, ap, sym, subst, ◌∙◌}
-use Rattle.std.specs.Prelude.{Result, Ok, Err, ⊤}
-use Rattle.ijvm_tokens.specs.declared.token.Token.{Token}
-use Rattle.ijvm_line.specs.declared.place.Place.{Place}
+use Rattle.ijvm_asm.proofs.Common.{◌≡◌, ℕ, ◌+◌, List, [], ◌∷◌, Some, None, length, refl, ap, sym, subst, ◌∙◌, Result, Ok, Err, ⊤, Token, Place, Form, Content}
+use Rattle.ijvm_asm.proofs.Common.{LineFault, IsForm, parameters, mark_place, instruction_of, made, word, line_from}
 use Rattle.ijvm_line.specs.declared.place.Place.TheVariants as places
-use Rattle.ijvm_line.specs.declared.form.Form.{Form}
 use Rattle.ijvm_line.specs.declared.form.Form.TheVariants as forms
-use Rattle.ijvm_line.specs.declared.content.Content.{Content}
 use Rattle.ijvm_line.specs.declared.content.Content.TheVariants as contents
-use Rattle.ijvm_line.specs.declared.line.LineFault.{LineFault}
-use Rattle.ijvm_line.specs.Prelude.{IsForm, parameters, mark_place, instruction_of, made, word, line_from}
 use Rattle.ijvm_line.specs.Lines as lines
 use Rattle.ijvm_asm.specs.Prelude.{BlankAt, Heads, line_meant, Lists, place_of, Said, said_at, Says, lines_of, Section, section_lines, declarations_of, empty, Source, Declarations, IsSource, ReadsLines, said_next}
 use Rattle.ijvm_asm.proofs.Building.{Build}

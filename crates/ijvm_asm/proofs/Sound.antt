@@ -1,10 +1,7 @@
 -- What sections make is sound: names and values go together, labels stand before instructions, and units are few enough.
-use Rattle.std.proofs.Common.{◌≡◌, ℕ, ◌+◌, ◌<◌, ◌≤◌, Bool, true, false, List, [], ◌∷◌, ◌++◌, map, length, Option, Some, None, refl, ap, sym, subst, ◌∙◌, arith, length-append}
-use Rattle.std.specs.Prelude.{◌||◌, All, is_some, IsSome, ⊤}
+use Rattle.ijvm_asm.proofs.Common.{◌≡◌, ℕ, ◌+◌, ◌<◌, ◌≤◌, Bool, true, false, List, [], ◌∷◌, ◌++◌, map, length, Option, Some, None, refl, ap, sym, subst, ◌∙◌}
+use Rattle.ijvm_asm.proofs.Common.{arith, length-append, ◌||◌, All, is_some, IsSome, ⊤, All-append, All-cons, All-nil, most_names, Instruction}
 use Rattle.std.proofs.lemmas.List.{append_assoc, length-map, append-nil}
-use Rattle.std.proofs.lemmas.List.Elements.{All-append, All-cons, All-nil}
-use Rattle.ijvm_program.specs.Prelude.{most_names}
-use Rattle.ijvm_line.specs.declared.instruction.Instruction.{Instruction}
 use Rattle.ijvm_asm.specs.Prelude.{Between, Body, CodeItem, Constants, Locals, Main, Method, Section, section_lines, DraftView, empty, Source, AreLocals, positions_in, behind_instruction, code_from, declared, lines_in, waits, waits_behind, with_position, with_instruction, defined}
 use Rattle.ijvm_asm.proofs.Made.{Makes, MakesBody, OpensLocals, SectionsMake}
 use Rattle.ijvm_asm.proofs.Kept.{body_keeps, body_lines_are, opens_unit}

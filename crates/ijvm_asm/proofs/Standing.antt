@@ -1,18 +1,9 @@
 -- What the look-up finds is what instructions, lines and units stand for, and nothing else.
-use Rattle.std.proofs.Common.{◌≡◌, ℕ, ◌+◌, List, [], ◌∷◌, ◌++◌, Option, Some, None, refl, ap, sym, subst, ◌∙◌, take, drop}
-use Rattle.std.specs.Prelude.{option_map, option_and_then}
-use Rattle.std.specs.List.{slice_get}
-use Rattle.std.proofs.lemmas.List.{append_assoc, append-nil}
-use Rattle.source_text.specs.Prelude.{bound, place_of_name}
-use Rattle.ijvm_program.specs.declared.line.CodeLine.{CodeLine}
-use Rattle.ijvm_program.specs.declared.line.Label.{Label}
-use Rattle.ijvm_program.specs.declared.line.Operation.{Operation}
+use Rattle.ijvm_asm.proofs.Common.{◌≡◌, ℕ, ◌+◌, List, [], ◌∷◌, ◌++◌, Option, Some, None, refl, ap, sym, subst, ◌∙◌, take, drop, option_map, option_and_then}
+use Rattle.ijvm_asm.proofs.Common.{slice_get, append_assoc, append-nil, bound, place_of_name, CodeLine, Label, Operation, UnitView, Instruction, access_instr}
+use Rattle.ijvm_asm.proofs.Common.{increment_instr, DraftLine}
 use Rattle.ijvm_program.specs.declared.line.Operation.TheVariants as operations
-use Rattle.ijvm_program.specs.Prelude.{UnitView}
-use Rattle.ijvm_line.specs.declared.instruction.Instruction.{Instruction}
 use Rattle.ijvm_line.specs.declared.instruction.Instruction.TheVariants as instructions
-use Rattle.ijvm_line.specs.Prelude.{access_instr, increment_instr}
-use Rattle.ijvm_asm.specs.declared.draft.DraftLine.{DraftLine}
 use Rattle.ijvm_asm.specs.Prelude.{DraftView, first_index, IsLineOf, IsLocal, IsUnitOf, labels_of, Pairwise, StandsFor, index_of, label_of, lines_from, operation_of, unit_of, unit_with, units_from}
 
 mapped : {A B : Type 0} (f : A → B) (o : Option A) (y : B) → option_map f o ≡ Some y → (x : A) × (o ≡ Some x) × (y ≡ f x)

@@ -1,16 +1,10 @@
 -- The lines of a unit make what its names, labels and instructions make.
-use Rattle.std.proofs.Common.{◌≡◌, ℕ, ◌+◌, Bool, true, false, List, [], ◌∷◌, ◌++◌, map, length, Option, Some, None, refl, ap, sym, subst, ◌∙◌, cond}
-use Rattle.std.specs.Prelude.{◌||◌, Ok, Err, is_some, nat_le, ⊤}
-use Rattle.std.proofs.lemmas.List.{append_assoc, length-append, append-nil}
-use Rattle.std.proofs.option.Match.{None-if_not_some}
-use Rattle.std.proofs.lemmas.Bool.{leb-false, lt-leb}
-use Rattle.ijvm_program.specs.Prelude.{most_names}
+use Rattle.ijvm_asm.proofs.Common.{◌≡◌, ℕ, ◌+◌, Bool, true, false, List, [], ◌∷◌, ◌++◌, map, length, Option, Some, None, refl, ap, sym, subst, ◌∙◌, cond, ◌||◌}
+use Rattle.ijvm_asm.proofs.Common.{Ok, Err, is_some, nat_le, ⊤, append_assoc, length-append, append-nil, None-if_not_some, leb-false, lt-leb, most_names}
+use Rattle.ijvm_asm.proofs.Common.{Instruction, DraftLine, AsmError}
 use Rattle.ijvm_line.specs.declared.place.Place.TheVariants as places
 use Rattle.ijvm_line.specs.declared.place.Mark.TheVariants as marks
-use Rattle.ijvm_line.specs.declared.instruction.Instruction.{Instruction}
 use Rattle.source_text.specs.Places as names
-use Rattle.ijvm_asm.specs.declared.draft.DraftLine.{DraftLine}
-use Rattle.ijvm_asm.specs.declared.error.AsmError.{AsmError}
 use Rattle.ijvm_asm.specs.declared.error.AsmError.TheVariants as errors
 use Rattle.ijvm_asm.specs.Prelude.{Dotted, Said, code_line, CodeItem, local_line, DraftView, Source, AreNew, positions_in, behind_instruction, declared, labels_in, lines_in, waits, waits_behind, with_position, with_instruction, with_label, add_code, add_instruction, with_unit}
 use Rattle.ijvm_asm.proofs.Made.{MakesCode, MakesLocals, may_declare_behind}

@@ -1,9 +1,6 @@
 -- The look-up finds the lowest line that names what is not declared.
-use Rattle.std.proofs.Common.{◌≡◌, ℕ, ◌<◌, ◌≤◌, Bool, true, false, List, [], ◌∷◌, Option, Some, None, refl, ap, subst, ◌∙◌, inl, inr, cond, arith}
-use Rattle.std.specs.Prelude.{◌⊎◌, nat_le}
-use Rattle.std.proofs.lemmas.Bool.{leb-false, leb-true}
-use Rattle.ijvm_program.specs.declared.line.Operation.{Operation}
-use Rattle.ijvm_asm.specs.declared.draft.DraftLine.{DraftLine}
+use Rattle.ijvm_asm.proofs.Common.{◌≡◌, ℕ, ◌<◌, ◌≤◌, Bool, true, false, List, [], ◌∷◌, Option, Some, None, refl, ap, subst, ◌∙◌, inl, inr, cond, arith, ◌⊎◌}
+use Rattle.ijvm_asm.proofs.Common.{nat_le, leb-false, leb-true, Operation, DraftLine}
 use Rattle.ijvm_asm.specs.Prelude.{DraftView, declarations_of, Source, all_units, IsLowest, IsUnknownAt, IsUnknownIn, IsUnknownLine, NamesNone, NamesUnknown, lower, operation_of, or_line, unknown, unknown_lines, unknown_main, unknown_units}
 use Rattle.ijvm_asm.proofs.Standing.{operation_again, operation_is}
 

@@ -1,12 +1,7 @@
 -- The whole source is read as the program that it is, or as its late refusal.
-use Rattle.std.proofs.Common.{◌≡◌, ℕ, List, [], ◌∷◌, Option, Some, None, refl, ap, sym, subst, ◌∙◌, inl, inr}
-use Rattle.std.specs.Prelude.{Ok, Err, IsSome, IsSomeAnd}
-use Rattle.ijvm_program.specs.declared.line.CodeLine.{CodeLine}
-use Rattle.ijvm_program.specs.Prelude.{UnitView, ProgramView}
-use Rattle.ijvm_line.specs.declared.place.Place.{Place}
+use Rattle.ijvm_asm.proofs.Common.{◌≡◌, ℕ, List, [], ◌∷◌, Option, Some, None, refl, ap, sym, subst, ◌∙◌, inl, inr, Ok, Err, IsSome, IsSomeAnd, CodeLine}
+use Rattle.ijvm_asm.proofs.Common.{UnitView, ProgramView, Place, DraftLine, AsmError}
 use Rattle.ijvm_line.specs.declared.place.Place.TheVariants as places
-use Rattle.ijvm_asm.specs.declared.draft.DraftLine.{DraftLine}
-use Rattle.ijvm_asm.specs.declared.error.AsmError.{AsmError}
 use Rattle.ijvm_asm.specs.declared.error.AsmError.TheVariants as errors
 use Rattle.ijvm_asm.specs.Prelude.{DraftView, RefusesBy, declarations_of, Source, all_units, constants_of, IsLineOf, IsLowest, IsProgramOf, IsUnitOf, IsUnknownAt, IsUnknownIn, NamesUnknown, Pairwise, by_main, by_missing, by_unknown, missing, missing_at, or_no_main, whole_program, program_with, unit_of, units_from, unknown}
 use Rattle.ijvm_asm.proofs.Known.{main_known, units_known}

@@ -1,19 +1,12 @@
 -- What the reader's record becomes by a line, or its refusal. Computes, line by line, what sections declare (`SectionsDeclare`), and which line
 -- is refused.
 use Rattle.std.specs.Prelude.{◌≡◌, ◌↔◌, ℕ, ◌||◌, Bool, true, false, not, List, [], ◌∷◌, ◌++◌, Option, Some, None, Result, Ok, Err, if◌then◌else◌, is_some, length, nat_le, nat_lt}
-use Rattle.source_text.specs.Prelude.{contents, add_said, Parser, Leads, Step, place_of_name}
+use Rattle.ijvm_asm.specs.Common.{contents, add_said, Parser, Leads, Step, place_of_name, most_names, ProgramView, Token, read, Mark, Content, LineFault}
+use Rattle.ijvm_asm.specs.Common.{Instruction, line_from, LinesReadAsSpelled, LinesRefusedAsFaulty, parameters, made}
 use Rattle.source_text.specs.Parsing as parsing
-use Rattle.ijvm_program.specs.Prelude.{most_names, ProgramView}
-use Rattle.ijvm_tokens.specs.declared.token.Token.{Token}
-use Rattle.ijvm_tokens.specs.Prelude.{read}
 use Rattle.ijvm_tokens.specs.Tokens as tokens
 use Rattle.ijvm_line.specs.declared.place.Place.TheVariants as places
-use Rattle.ijvm_line.specs.declared.place.Mark.{Mark}
 use Rattle.ijvm_line.specs.declared.place.Mark.TheVariants as marks
-use Rattle.ijvm_line.specs.declared.content.Content.{Content}
-use Rattle.ijvm_line.specs.declared.line.LineFault.{LineFault}
-use Rattle.ijvm_line.specs.declared.instruction.Instruction.{Instruction}
-use Rattle.ijvm_line.specs.Prelude.{line_from, LinesReadAsSpelled, LinesRefusedAsFaulty, parameters, made}
 use Rattle.ijvm_asm.specs.declared.error.AsmError.{AsmError}
 use Rattle.ijvm_asm.specs.declared.error.AsmError.TheVariants as errors
 use Rattle.ijvm_asm.specs.Drafts.{begun, DraftView}

@@ -1,3 +1,4 @@
+pub mod Common
 pub mod Said
 pub mod Sections
 pub mod Drafts

@@ -1,7 +1,6 @@
 -- What sections declare, one after the other: no name comes twice among those that it must differ from.
 use Rattle.std.specs.Prelude.{◌≡◌, ℕ, ◌+◌, ◌≤◌, Bool, true, false, List, [], ◌∷◌, ◌++◌, map, length, Option, Some, None, ⊤}
-use Rattle.ijvm_program.specs.Prelude.{most_names}
-use Rattle.ijvm_program.specs.declared.line.Constant.{Constant}
+use Rattle.ijvm_asm.specs.Common.{most_names, Constant}
 use Rattle.source_text.specs.Places as names
 use Rattle.ijvm_asm.specs.Sections.{Between, Body, Constants, Main, Method, Section, section_lines}
 use Rattle.ijvm_asm.specs.Drafts.{DraftView}

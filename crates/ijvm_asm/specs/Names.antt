@@ -1,16 +1,9 @@
 -- How names stand for positions: what an instruction of a unit stands for, given the constants and the methods, and which program a source is.
 use Rattle.std.specs.Prelude.{◌≡◌, ◌⊎◌, ◌≤◌, ℕ, ◌+◌, List, [], ◌∷◌, Option, Some, None, is_some, if◌then◌else◌, IsSomeAnd, map, take, drop, ⊤}
-use Rattle.std.specs.List.{slice_get, zip}
+use Rattle.ijvm_asm.specs.Common.{slice_get, zip, Constant, Label, Operation, ProgramView, UnitView, Instruction, access_instr, increment_instr, place_of_name}
 use Rattle.ijvm_program.specs.declared.line.CodeLine.{CodeLine}
-use Rattle.ijvm_program.specs.declared.line.Constant.{Constant}
-use Rattle.ijvm_program.specs.declared.line.Label.{Label}
-use Rattle.ijvm_program.specs.declared.line.Operation.{Operation}
 use Rattle.ijvm_program.specs.declared.line.Operation.TheVariants as operations
-use Rattle.ijvm_program.specs.Prelude.{ProgramView, UnitView}
-use Rattle.ijvm_line.specs.declared.instruction.Instruction.{Instruction}
 use Rattle.ijvm_line.specs.declared.instruction.Instruction.TheVariants as instructions
-use Rattle.ijvm_line.specs.Prelude.{access_instr, increment_instr}
-use Rattle.source_text.specs.Prelude.{place_of_name}
 use Rattle.ijvm_asm.specs.declared.draft.DraftLine.{DraftLine}
 use Rattle.ijvm_asm.specs.Drafts.{DraftView}
 use Rattle.ijvm_asm.specs.Making.{Declarations}

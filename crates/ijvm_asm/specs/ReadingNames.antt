@@ -1,18 +1,11 @@
 -- How the reader looks names up: what an instruction stands for, the lowest line that names what is not declared, and the whole program.
 -- Computes the rules of `Names`.
 use Rattle.std.specs.Prelude.{ℕ, ◌+◌, List, [], ◌∷◌, ◌++◌, Option, Some, None, Result, Ok, Err, if◌then◌else◌, nat_le, take, drop, option_map, option_and_then}
-use Rattle.std.specs.List.{slice_get}
+use Rattle.ijvm_asm.specs.Common.{slice_get, Constant, Operation, UnitView, ProgramView, Place, Instruction, access_instr, increment_instr, place_of_name}
 use Rattle.ijvm_program.specs.declared.line.CodeLine.{CodeLine}
-use Rattle.ijvm_program.specs.declared.line.Constant.{Constant}
-use Rattle.ijvm_program.specs.declared.line.Operation.{Operation}
 use Rattle.ijvm_program.specs.declared.line.Operation.TheVariants as operations
-use Rattle.ijvm_program.specs.Prelude.{UnitView, ProgramView}
-use Rattle.ijvm_line.specs.declared.place.Place.{Place}
 use Rattle.ijvm_line.specs.declared.place.Place.TheVariants as places
-use Rattle.ijvm_line.specs.declared.instruction.Instruction.{Instruction}
 use Rattle.ijvm_line.specs.declared.instruction.Instruction.TheVariants as instructions
-use Rattle.ijvm_line.specs.Prelude.{access_instr, increment_instr}
-use Rattle.source_text.specs.Prelude.{place_of_name}
 use Rattle.ijvm_asm.specs.declared.draft.DraftLine.{DraftLine}
 use Rattle.ijvm_asm.specs.declared.error.AsmError.{AsmError}
 use Rattle.ijvm_asm.specs.declared.error.AsmError.TheVariants as errors

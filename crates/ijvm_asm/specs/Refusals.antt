@@ -1,10 +1,7 @@
 -- Why a line is refused after others: they are the first lines of some sections, and with this line they are not.
 use Rattle.std.specs.Prelude.{◌≡◌, ◌⊎◌, ℕ, ◌+◌, List, [], ◌∷◌, ◌++◌, None, IsSome}
-use Rattle.source_text.specs.Prelude.{LineRefusals}
-use Rattle.ijvm_tokens.specs.declared.token.Token.{Token}
-use Rattle.ijvm_line.specs.declared.place.Place.{Place}
+use Rattle.ijvm_asm.specs.Common.{LineRefusals, Token, Place, LineFault}
 use Rattle.ijvm_line.specs.declared.place.Mark.TheVariants as marks
-use Rattle.ijvm_line.specs.declared.line.LineFault.{LineFault}
 use Rattle.ijvm_line.specs.declared.line.LineFault.TheVariants as faults
 use Rattle.ijvm_line.specs.Lines as lines
 use Rattle.source_text.specs.Places as names

@@ -1,14 +1,9 @@
 -- What a line of a source says, by its tokens.
 use Rattle.std.specs.Prelude.{◌≡◌, ℕ, List, Option, ⊤}
-use Rattle.ijvm_tokens.specs.declared.token.Token.{Token}
-use Rattle.ijvm_line.specs.declared.place.Place.{Place}
+use Rattle.ijvm_asm.specs.Common.{Token, Place, Mark, Content, Instruction, parameters, mark_place}
 use Rattle.ijvm_line.specs.declared.place.Place.TheVariants as places
-use Rattle.ijvm_line.specs.declared.place.Mark.{Mark}
-use Rattle.ijvm_line.specs.declared.content.Content.{Content}
 use Rattle.ijvm_line.specs.declared.content.Content.TheVariants as contents
-use Rattle.ijvm_line.specs.declared.instruction.Instruction.{Instruction}
 use Rattle.ijvm_line.specs.Lines as lines
-use Rattle.ijvm_line.specs.Prelude.{parameters, mark_place}
 
 pub data Said : Type 0 where
   -- nothing, at this place

@@ -1,10 +1,9 @@
 -- The sections of a source, and their lines: a section is its begin line, its lines and its end line, and blank lines may
 -- stand anywhere.
 use Rattle.std.specs.Prelude.{ℕ, List, [], ◌∷◌, ◌++◌, map, replicate, Option, Some, None}
-use Rattle.ijvm_program.specs.declared.line.Constant.{Constant}
+use Rattle.ijvm_asm.specs.Common.{Constant, Instruction}
 use Rattle.ijvm_line.specs.declared.place.Place.TheVariants as places
 use Rattle.ijvm_line.specs.declared.place.Mark.TheVariants as marks
-use Rattle.ijvm_line.specs.declared.instruction.Instruction.{Instruction}
 use Rattle.ijvm_asm.specs.Said.{BlankAt, Codes, Declares, Defines, Dotted, Heads, Said}
 
 -- a label, an instruction, or both

@@ -1,11 +1,7 @@
 -- Which program a text spells, and which refusal it has.
 use Rattle.std.specs.Prelude.{◌≡◌, ℕ, List, None}
 use Rattle.source_text.specs.Text as text
-use Rattle.source_text.specs.Prelude.{Grammar}
-use Rattle.ijvm_program.specs.Prelude.{ProgramView}
-use Rattle.ijvm_tokens.specs.declared.token.Token.{Token}
-use Rattle.ijvm_tokens.specs.Prelude.{ijvm}
-use Rattle.ijvm_line.specs.declared.line.LineFault.{LineFault}
+use Rattle.ijvm_asm.specs.Common.{Grammar, ProgramView, Token, ijvm, LineFault}
 use Rattle.ijvm_asm.specs.declared.error.AsmError.{AsmError}
 use Rattle.ijvm_asm.specs.declared.error.AsmError.TheVariants as errors
 use Rattle.ijvm_asm.specs.Said.{Said, Says}

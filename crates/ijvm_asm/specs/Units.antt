@@ -1,8 +1,7 @@
 -- The unit that a body makes: its locals stand after its parameters, and its labels and instructions in order.
 use Rattle.std.specs.Prelude.{◌≡◌, ℕ, ◌+◌, ◌<◌, ◌||◌, Bool, false, List, [], ◌∷◌, ◌++◌, map, length, Option, Some, None, is_some, ⊤}
-use Rattle.ijvm_program.specs.Prelude.{most_names}
+use Rattle.ijvm_asm.specs.Common.{most_names, Instruction}
 use Rattle.ijvm_line.specs.declared.place.Mark.TheVariants as marks
-use Rattle.ijvm_line.specs.declared.instruction.Instruction.{Instruction}
 use Rattle.source_text.specs.Places as names
 use Rattle.ijvm_asm.specs.declared.draft.DraftLine.{DraftLine}
 use Rattle.ijvm_asm.specs.Drafts.{DraftView}

@@ -1,8 +1,7 @@
 //! Main or a method, as its lines so far make it.
 
 ghost use Rattle.std.specs.Prelude.{◌≡◌, ◌≤◌, length, Ok, Err, OnOk, IfErr};
-ghost use Rattle.source_text.specs.Prelude.{FailsBy, StaysBy};
-ghost use Rattle.ijvm_program.specs.Prelude.{most_names};
+ghost use Rattle.ijvm_asm.specs.Common.{FailsBy, StaysBy, most_names};
 ghost use Rattle.ijvm_asm.specs.declared.error.AsmError.{AsmError};
 ghost use Rattle.ijvm_asm.specs.Drafts.{begun, is_memory};
 

@@ -1,18 +1,10 @@
 -- A line is read as the form that its tokens have at its place.
-use Rattle.std.proofs.Common.{◌≡◌, ℕ, List, [], ◌∷◌, true, Option, Some, None, refl, ap, subst, ◌∙◌, inl, inr}
-use Rattle.std.specs.Prelude.{◌&&◌, option_map}
-use Rattle.std.proofs.lemmas.Bool.{and_parts}
-use Rattle.source_text.specs.Prelude.{chosen, mapped}
-use Rattle.ijvm_tokens.specs.declared.sign.Sign.{Sign}
+use Rattle.ijvm_line.proofs.Common.{◌≡◌, ℕ, List, [], ◌∷◌, true, Option, Some, None, refl, ap, subst, ◌∙◌, inl, inr, ◌&&◌, option_map, and_parts, chosen}
+use Rattle.ijvm_line.proofs.Common.{mapped, Sign, Token, Place, Mark, Statement, Form}
 use Rattle.ijvm_tokens.specs.declared.sign.Sign.TheVariants as signs
-use Rattle.ijvm_tokens.specs.declared.token.Token.{Token}
 use Rattle.ijvm_tokens.specs.declared.token.Token.TheVariants as tokens
-use Rattle.ijvm_line.specs.declared.place.Place.{Place}
 use Rattle.ijvm_line.specs.declared.place.Place.TheVariants as places
-use Rattle.ijvm_line.specs.declared.place.Mark.{Mark}
 use Rattle.ijvm_line.specs.declared.place.Mark.TheVariants as marks
-use Rattle.ijvm_line.specs.declared.statement.Statement.{Statement}
-use Rattle.ijvm_line.specs.declared.form.Form.{Form}
 use Rattle.ijvm_line.specs.declared.form.Form.TheVariants as forms
 use Rattle.ijvm_line.specs.Prelude.{method_tokens, code, constant_of, form_of, is_list, is_open, labelled, local_of, mark_at, mark_of, method_of, named, signed, statement_of, unlabelled, with_label, mark_place, mark_sign, IsCode, IsForm}
 use Rattle.ijvm_line.proofs.Listing.{list_again, list_is}

@@ -1,11 +1,5 @@
 -- A line is read as what it spells at its place, and refused by the first refusal that it has.
-use Rattle.std.proofs.Common.{◌≡◌, List, Option, Some, None, refl, ap, subst, ◌∙◌}
-use Rattle.std.specs.Prelude.{Result, Ok, Err}
-use Rattle.ijvm_tokens.specs.declared.token.Token.{Token}
-use Rattle.ijvm_line.specs.declared.place.Place.{Place}
-use Rattle.ijvm_line.specs.declared.form.Form.{Form}
-use Rattle.ijvm_line.specs.declared.content.Content.{Content}
-use Rattle.ijvm_line.specs.declared.line.LineFault.{LineFault}
+use Rattle.ijvm_line.proofs.Common.{◌≡◌, List, Option, Some, None, refl, ap, subst, ◌∙◌, Result, Ok, Err, Token, Place, Form, Content, LineFault}
 use Rattle.ijvm_line.specs.declared.line.LineFault.TheVariants as faults
 use Rattle.ijvm_line.specs.Prelude.{IsForm, form_of, line_from, said_by, IsRefused, content_of, SpellsLine}
 use Rattle.ijvm_line.proofs.Forming.{form_again, form_is}

@@ -1,8 +1,6 @@
 -- The list of a method's parameters is read as what it spells.
-use Rattle.std.proofs.Common.{◌≡◌, ℕ, List, [], ◌∷◌, true, refl, ap}
-use Rattle.std.specs.List.{filter_map}
+use Rattle.ijvm_line.proofs.Common.{◌≡◌, ℕ, List, [], ◌∷◌, true, refl, ap, filter_map, Token}
 use Rattle.ijvm_tokens.specs.declared.sign.Sign.TheVariants as signs
-use Rattle.ijvm_tokens.specs.declared.token.Token.{Token}
 use Rattle.ijvm_tokens.specs.declared.token.Token.TheVariants as tokens
 use Rattle.ijvm_line.specs.Prelude.{list_tokens, method_tokens, more_tokens, name_of, parameters, is_close, is_list, is_more}
 

@@ -1,15 +1,8 @@
 -- A text is read as the word that it spells, in letters of any case.
-use Rattle.std.proofs.Common.{◌≡◌, ℕ, List, Option, Some, Bool, true, false, refl, sym, ap, ◌∙◌, inl, inr, codes, if◌then◌else◌}
-use Rattle.std.specs.Prelude.{find, option_and_then}
-use Rattle.std.specs.Str.{bytes_eq, str_eq_ignore_ascii_case, str_to_ascii_lowercase}
-use Rattle.std.proofs.lemmas.Slice.Eq.{bytes_eq-Decides}
-use Rattle.std.proofs.lemmas.Option.{option_and_then_some}
-use Rattle.source_text.specs.Prelude.{chosen, find_passes}
-use Rattle.ijvm_instr.specs.declared.instr.Instr.{Instr}
+use Rattle.ijvm_line.proofs.Common.{◌≡◌, ℕ, List, Option, Some, Bool, true, false, refl, sym, ap, ◌∙◌, inl, inr, codes, if◌then◌else◌, find, option_and_then}
+use Rattle.ijvm_line.proofs.Common.{bytes_eq, str_eq_ignore_ascii_case, str_to_ascii_lowercase, bytes_eq-Decides, option_and_then_some, chosen, find_passes}
+use Rattle.ijvm_line.proofs.Common.{Instr, INSTRUCTIONS, mnemonic_of, Kind}
 use Rattle.ijvm_instr.specs.declared.instr.Instr.TheVariants as instrs
-use Rattle.ijvm_instr.specs.declared.instr.TheConstants.{INSTRUCTIONS}
-use Rattle.ijvm_instr.specs.Prelude.{mnemonic_of}
-use Rattle.ijvm_line.specs.declared.mnemonic.Kind.{Kind}
 use Rattle.ijvm_line.specs.declared.mnemonic.Kind.TheVariants as kinds
 use Rattle.ijvm_line.specs.Prelude.{find_kind, IsOfKind, IsSpelled, kind_of, spelled_in}
 

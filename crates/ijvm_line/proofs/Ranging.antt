@@ -1,12 +1,8 @@
 -- A number is never refused as a bad line.
-use Rattle.std.proofs.Common.{◌≡◌, ℕ, ℤ, Bool, Option, Some, None, ap}
-use Rattle.std.specs.Prelude.{Result, Ok, Err}
+use Rattle.ijvm_line.proofs.Common.{◌≡◌, ℕ, ℤ, Bool, Option, Some, None, ap, Result, Ok, Err, Statement, Form, LineFault}
 use Rattle.ijvm_line.specs.declared.statement.Operand.TheVariants as operands
-use Rattle.ijvm_line.specs.declared.statement.Statement.{Statement}
 use Rattle.ijvm_line.specs.declared.statement.Statement.TheVariants as statements
-use Rattle.ijvm_line.specs.declared.form.Form.{Form}
 use Rattle.ijvm_line.specs.declared.form.Form.TheVariants as forms
-use Rattle.ijvm_line.specs.declared.line.LineFault.{LineFault}
 use Rattle.ijvm_line.specs.declared.line.LineFault.TheVariants as faults
 use Rattle.ijvm_line.specs.Prelude.{addend, byte, in_range, increment_by, index, instruction_of, made, number, word, content_of}
 

@@ -1,19 +1,11 @@
 -- An instruction is read as what its tokens spell.
-use Rattle.std.proofs.Common.{◌≡◌, ℕ, ℤ, Bool, List, [], ◌∷◌, true, false, Option, Some, None, refl, ap, subst, ◌∙◌}
-use Rattle.std.specs.Prelude.{option_map, option_and_then}
-use Rattle.std.proofs.lemmas.Option.{option_and_then_some}
-use Rattle.source_text.specs.Prelude.{mapped}
-use Rattle.ijvm_tokens.specs.declared.sign.Sign.{Sign}
-use Rattle.ijvm_tokens.specs.declared.token.Token.{Token}
+use Rattle.ijvm_line.proofs.Common.{◌≡◌, ℕ, ℤ, Bool, List, [], ◌∷◌, true, false, Option, Some, None, refl, ap, subst, ◌∙◌, option_map, option_and_then}
+use Rattle.ijvm_line.proofs.Common.{option_and_then_some, mapped, Sign, Token, Kind, Operand, Statement, increment}
 use Rattle.ijvm_tokens.specs.declared.token.Token.TheVariants as tokens
-use Rattle.ijvm_line.specs.declared.mnemonic.Kind.{Kind}
 use Rattle.ijvm_line.specs.declared.mnemonic.Kind.TheVariants as kinds
-use Rattle.ijvm_line.specs.declared.statement.Operand.{Operand}
 use Rattle.ijvm_line.specs.declared.statement.Operand.TheVariants as operands
-use Rattle.ijvm_line.specs.declared.statement.Statement.{Statement}
 use Rattle.ijvm_line.specs.declared.statement.Statement.TheVariants as statements
 use Rattle.ijvm_line.specs.Prelude.{find_kind, Begins, IsStatement, operand_token, operand_of, statement_by, statement_of, wide, wide_by}
-use Rattle.ijvm_line.specs.Reading.{increment}
 use Rattle.ijvm_line.proofs.Naming.{kind_again, kind_is}
 
 operand_is : (ts : List Token) (o : Operand) → operand_of ts ≡ Some o → ts ≡ operand_token o ∷ []

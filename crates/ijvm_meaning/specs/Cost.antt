@@ -1,15 +1,7 @@
 -- What an instruction costs: the columns of the table, in cycles.
 use Rattle.std.specs.Prelude.{ℕ, ◌%◌, Bool, false, if◌then◌else◌, ◌==◌, List, [], ◌∷◌, slice_index, Option, Some, None}
-use Rattle.mic_words.specs.Prelude.{is_negative}
-use Rattle.mic_words.specs.declared.machine.Machine.{Machine}
-use Rattle.mic_words.specs.declared.machine.Machine.TheVariants.{Mic1, Mic2}
-use Rattle.ijvm_instr.specs.declared.instr.Instr.{Instr}
-use Rattle.ijvm_instr.specs.declared.row.Row.{Row}
-use Rattle.ijvm_instr.specs.declared.row.Cost.{Cost}
-use Rattle.ijvm_instr.specs.declared.row.Cost.TheVariants.{Always, IfTaken, ByEntry}
+use Rattle.ijvm_meaning.specs.Common.{is_negative, Machine, Mic1, Mic2, Instr, Row, Cost, Always, IfTaken, ByEntry, row_of, instr_at, ImageView}
 use Rattle.ijvm_instr.specs.declared.instr.Instr.TheVariants.{Ifeq, Iflt, IfIcmpeq, Invokevirtual}
-use Rattle.ijvm_instr.specs.Prelude.{row_of, instr_at}
-use Rattle.ijvm_image.specs.Prelude.{ImageView}
 use Rattle.ijvm_meaning.specs.Frames.{State}
 
 -- What a machine with its microprogram spends, in cycles.

@@ -1,3 +1,4 @@
+pub mod Common
 pub mod Frames
 pub mod Step
 pub mod Cost

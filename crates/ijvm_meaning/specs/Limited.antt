@@ -1,13 +1,8 @@
 -- A step that meets the stack's end leaves the frames as they are, and what was given.
 use Rattle.std.proofs.Common.{◌≡◌, ℕ, zero, suc, ◌+◌, ◌==◌, Bool, true, false, nat_lt, nat_le, if◌then◌else◌, List, [], ◌∷◌, length, Option, Some, None, ℤ, refl, subst}
 use Rattle.std.specs.Prelude.{slice_get, bit_and, bit_or}
-use Rattle.mic_words.specs.Prelude.{plus, minus, is_negative}
-use Rattle.console_port.specs.Prelude.{next_byte}
-use Rattle.ijvm_instr.specs.declared.instr.Instr.{Instr}
+use Rattle.ijvm_meaning.specs.Common.{plus, minus, is_negative, next_byte, Instr, instr_at, word_of, Method, ImageView, method_at}
 use Rattle.ijvm_instr.specs.declared.instr.Instr.TheVariants.{Bipush, LdcW, Iload, Istore, Pop, Dup, Swap, Iadd, Isub, Iand, Iinc, Ifeq, Iflt, IfIcmpeq, Ireturn, Ior, Invokevirtual, WideIload, WideIstore, WideIinc, In, Out}
-use Rattle.ijvm_instr.specs.Prelude.{instr_at, word_of}
-use Rattle.ijvm_image.specs.declared.method.Method.{Method}
-use Rattle.ijvm_image.specs.Prelude.{ImageView, method_at}
 use Rattle.ijvm_meaning.specs.Frames.{Frame, State, base, frames_of}
 use Rattle.ijvm_meaning.specs.Step.{StepOutcome, Goes, Limits, Stuck, moved, limited, pushed_constant, loaded, stored, with_local, is_own, increased, popped, doubled, swapped, combined, branched, compared, returned, in_method, entered, called_at, taken, given_out, step, step_if_any, step_outcome}
 use Rattle.ijvm_meaning.specs.Safe.{SameFrames}

@@ -1,12 +1,7 @@
 -- What one instruction does to frames. Sums are modulo 2^32.
 use Rattle.std.specs.Prelude.{ℕ, zero, suc, ◌+◌, ◌%◌, Bool, true, false, if◌then◌else◌, nat_lt, nat_le, ◌==◌, List, [], ◌∷◌, ◌++◌, length, take, drop, replicate, slice_get, slice_set, Option, Some, None, ℤ, bit_and, bit_or}
-use Rattle.mic_words.specs.Prelude.{plus, minus, is_negative}
-use Rattle.console_port.specs.Prelude.{next_byte}
-use Rattle.ijvm_instr.specs.declared.instr.Instr.{Instr}
+use Rattle.ijvm_meaning.specs.Common.{plus, minus, is_negative, next_byte, Instr, Method, word_of, target, instr_at, ImageView, method_at}
 use Rattle.ijvm_instr.specs.declared.instr.Instr.TheVariants.{Nop, Bipush, LdcW, Iload, Istore, Pop, Dup, Swap, Iadd, Isub, Iand, Iinc, Ifeq, Iflt, IfIcmpeq, Goto, Ireturn, Ior, Invokevirtual, WideIload, WideIstore, WideIinc, In, Out, Err, Halt}
-use Rattle.ijvm_image.specs.declared.method.Method.{Method}
-use Rattle.ijvm_instr.specs.Prelude.{word_of, target, instr_at}
-use Rattle.ijvm_image.specs.Prelude.{ImageView, method_at}
 use Rattle.ijvm_meaning.specs.Frames.{Frame, State, frames_of, base}
 
 pub data StepOutcome : Type 0 where

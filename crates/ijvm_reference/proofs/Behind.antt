@@ -1,15 +1,10 @@
 -- What was given before is no part of a run: with more bytes given before it, it is the same run with these bytes in front.
-use Rattle.std.proofs.Common.{◌≡◌, ℕ, zero, suc, ◌+◌, ◌%◌, ◌==◌, Bool, true, false, nat_lt, nat_le, if◌then◌else◌, List, [], ◌∷◌, ◌++◌, append_assoc, length, Option, Some, None, ℤ, refl, sym, ap, subst, ◌∙◌}
-use Rattle.std.specs.Prelude.{slice_get, bit_and, bit_or}
-use Rattle.std.specs.Option.{option_map}
+use Rattle.ijvm_reference.proofs.Common.{◌≡◌, ℕ, zero, suc, ◌+◌, ◌%◌, ◌==◌, Bool, true, false, nat_lt, nat_le, if◌then◌else◌, List, [], ◌∷◌, ◌++◌, append_assoc}
+use Rattle.ijvm_reference.proofs.Common.{length, Option, Some, None, ℤ, refl, sym, ap, subst, ◌∙◌, slice_get, bit_and, bit_or, option_map, ConsoleView}
+use Rattle.ijvm_reference.proofs.Common.{next_byte, Instr, Bipush, LdcW, Iload, Istore, Pop, Dup, Swap, Iadd, Isub, Iand, Iinc, Ifeq, Iflt, IfIcmpeq, Ireturn}
+use Rattle.ijvm_reference.proofs.Common.{Ior, Invokevirtual, WideIload, WideIstore, WideIinc, In, Out, Method, instr_at, word_of, ImageView, method_at}
 use Rattle.mic_words.specs.Prelude.{plus, minus, is_negative}
-use Rattle.console_port.specs.Prelude.{ConsoleView, next_byte}
-use Rattle.ijvm_instr.specs.declared.instr.Instr.{Instr}
-use Rattle.ijvm_instr.specs.declared.instr.Instr.TheVariants.{Bipush, LdcW, Iload, Istore, Pop, Dup, Swap, Iadd, Isub, Iand, Iinc, Ifeq, Iflt, IfIcmpeq, Ireturn, Ior, Invokevirtual, WideIload, WideIstore, WideIinc, In, Out}
-use Rattle.ijvm_image.specs.declared.method.Method.{Method}
 use Rattle.ijvm_meaning.specs.declared.run.RunEnd.TheVariants as ends
-use Rattle.ijvm_instr.specs.Prelude.{instr_at, word_of}
-use Rattle.ijvm_image.specs.Prelude.{ImageView, method_at}
 use Rattle.ijvm_meaning.specs.Prelude.{Frame, State, base, frames_of, StepOutcome, Goes, Halts, Errs, Limits, Stuck, moved, limited, pushed, pushed_constant, loaded, stored, with_local, is_own, increased, popped, doubled, swapped, combined, branched, compared, returned, in_method, entered, called_at, taken, given_out, step, step_if_any, step_outcome, Timing, cost_at, TimedImage, Point, Finish, point_after, after_outcome, after_test, finish_from, EndsBy}
 use Rattle.ijvm_reference.specs.Prelude.{GoesOn, Reaches, Begins, Onward}
 

@@ -1,9 +1,6 @@
 -- The outcome of a call.
-use Rattle.std.proofs.Common.{◌≡◌, ◌<◌, ◌≤◌, ℕ, suc, ◌+◌, ◌-◌, nat_le, nat_lt, List, ◌∷◌, length, take, drop, replicate, Option, Some, None, ap, ◌∙◌, arith}
-use Rattle.std.proofs.lemmas.Bool.Decides.{nat_tests}
-use Rattle.std.proofs.lemmas.List.{length-drop, length-take-le, length-replicate}
-use Rattle.std.proofs.lemmas.Bool.{cond-true, cond-false}
-use Rattle.ijvm_image.specs.declared.method.Method.{Method}
+use Rattle.ijvm_reference.proofs.Common.{◌≡◌, ◌<◌, ◌≤◌, ℕ, suc, ◌+◌, ◌-◌, nat_le, nat_lt, List, ◌∷◌, length, take, drop, replicate, Option, Some, None, ap, ◌∙◌}
+use Rattle.ijvm_reference.proofs.Common.{arith, nat_tests, length-drop, length-take-le, length-replicate, cond-true, cond-false, Method}
 use Rattle.ijvm_meaning.specs.Prelude.{Frame, State, base, frames_of, Goes, Limits, Stuck, called, onto, limited, in_method, entered, called_at}
 use Rattle.ijvm_reference.specs.Prelude.{MachineView, state_of, in_call}
 use Rattle.ijvm_reference.proofs.Placed.{length-onto}

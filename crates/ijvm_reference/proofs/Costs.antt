@@ -1,17 +1,8 @@
 -- Costs: a constant that is not there reads as 0, and each cost has its bounds, by the table's rows.
-use Rattle.std.proofs.Common.{◌≡◌, ◌≤◌, ◌==◌, ◌%◌, ◌&&◌, nat_le, ℕ, zero, suc, Bool, true, false, if◌then◌else◌, List, [], ◌∷◌, Option, Some, None, refl, arith}
-use Rattle.std.proofs.lemmas.Bool.Decides.{nat_tests}
-use Rattle.std.specs.Prelude.{slice_get, slice_index}
-use Rattle.std.proofs.lemmas.Bool.{and_parts}
-use Rattle.mic_words.specs.declared.machine.Machine.{Machine}
-use Rattle.mic_words.specs.declared.machine.Machine.TheVariants.{Mic1, Mic2}
-use Rattle.ijvm_instr.specs.declared.instr.Instr.{Instr}
-use Rattle.ijvm_instr.specs.declared.instr.Instr.TheVariants.{Nop, Err, Halt}
-use Rattle.ijvm_instr.specs.declared.row.Cost.{Cost}
-use Rattle.ijvm_instr.specs.declared.row.Cost.TheVariants.{Always, IfTaken, ByEntry}
-use Rattle.ijvm_instr.specs.declared.row.Row.{Row}
-use Rattle.ijvm_instr.specs.Prelude.{row_of, instr_at}
-use Rattle.ijvm_image.specs.Prelude.{ImageView}
+use Rattle.ijvm_reference.proofs.Common.{◌≡◌, ◌≤◌, ◌==◌, ◌%◌, ◌&&◌, nat_le, ℕ, zero, suc, Bool, true, false, if◌then◌else◌, List, [], ◌∷◌, Option, Some, None}
+use Rattle.ijvm_reference.proofs.Common.{refl, arith, nat_tests, slice_get, slice_index, and_parts, Machine, Mic1, Mic2, Instr, Nop, Halt, Cost, Always}
+use Rattle.ijvm_reference.proofs.Common.{IfTaken, ByEntry, Row, row_of, instr_at, ImageView}
+use Rattle.ijvm_instr.specs.declared.instr.Instr.TheVariants.{Err}
 use Rattle.ijvm_meaning.specs.Prelude.{State, Goes, step, step_if_any, step_outcome, timing_of, column, cycles_of, is_taken, entry_of, cost_at, next_cost}
 
 pub index-none : (xs : List ℕ) (i : ℕ) → slice_get xs i ≡ None → slice_index xs i ≡ 0

@@ -1,10 +1,7 @@
 -- What the console keeps, from what its own calls promise.
-use Rattle.std.proofs.Common.{◌≡◌, ◌≢◌, ◌<◌, ◌≤◌, ℕ, Bool, true, false, nat_lt, List, [], ◌∷◌, ◌++◌, length, length-append, Option, Some, IfSome, inl, inr, refl, sym, ap, subst, ◌∙◌, arith}
-use Rattle.std.proofs.lemmas.Bool.Decides.{nat_tests}
-use Rattle.console_port.specs.Prelude.{ConsoleView, Untaken, Asks, TellsLeft}
-use Rattle.ijvm_instr.specs.declared.instr.Instr.{Instr}
-use Rattle.ijvm_instr.specs.declared.instr.Instr.TheVariants.{In, Out}
-use Rattle.ijvm_reference.specs.declared.frames.StepError.{StepError}
+use Rattle.ijvm_reference.proofs.Common.{◌≡◌, ◌≢◌, ◌<◌, ◌≤◌, ℕ, Bool, true, false, nat_lt, List, [], ◌∷◌, ◌++◌, length, length-append, Option, Some, IfSome}
+use Rattle.ijvm_reference.proofs.Common.{inl, inr, refl, sym, ap, subst, ◌∙◌, arith, nat_tests, ConsoleView, Untaken, Asks, TellsLeft, Instr, In, Out}
+use Rattle.ijvm_reference.proofs.Common.{StepError}
 use Rattle.ijvm_reference.specs.declared.frames.StepError.TheVariants as errors
 use Rattle.ijvm_reference.specs.Prelude.{IsMetBy, is_empty, ReadsIn, WritesOut, Keeps, HasRead, HasKept}
 

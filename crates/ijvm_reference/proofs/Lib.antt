@@ -1,3 +1,4 @@
+pub mod Common
 pub mod Stacks
 pub mod Placed
 pub mod Calls

@@ -1,6 +1,7 @@
 -- Frames keep their places.
-use Rattle.std.proofs.Common.{◌≡◌, ◌≤◌, ◌<◌, ◌^◌, ◌++◌, reverse, ℕ, ◌+◌, ◌-◌, take, drop, replicate, Bool, true, false, List, [], ◌∷◌, length, Option, Some, None, slice_set, sym, ap, ◌∙◌, subst, arith}
-use Rattle.std.proofs.lemmas.List.{reverse-append, length-set, length-drop, length-take-le, length-replicate}
+use Rattle.std.proofs.Common.{◌≡◌, ◌≤◌, ◌<◌, ◌^◌, ◌++◌, reverse, ℕ, ◌+◌, ◌-◌, take, drop, replicate, Bool, true, false, List, [], ◌∷◌, length, Option, Some}
+use Rattle.std.proofs.Common.{None, slice_set, sym, ap, ◌∙◌, subst, arith, length-set, length-drop, length-take-le}
+use Rattle.std.proofs.lemmas.List.{reverse-append, length-replicate}
 use Rattle.ijvm_meaning.specs.Prelude.{Frame, base, kept_words, called, onto}
 use Rattle.ijvm_reference.specs.Prelude.{ArePlaced, Pops, Stores, Swaps}
 

@@ -1,21 +1,12 @@
 -- A turn of a run, from the step of its frames.
-use Rattle.std.proofs.Common.{◌≡◌, ◌<◌, ◌≤◌, ℕ, zero, suc, ◌+◌, Bool, true, List, [], ◌++◌, take, drop, append_assoc, Option, Some, None, IfNone, IfSome, Result, Ok, Err, refl, sym, ap, ap₂, subst, ◌∙◌, arith}
-use Rattle.std.specs.declared.alloc.AllocError.{AllocError}
-use Rattle.std.proofs.lemmas.List.{take-append-drop}
-use Rattle.std.proofs.lemmas.Bool.{lt-leb, le-leb}
-use Rattle.mic_words.specs.declared.machine.Machine.{Machine}
-use Rattle.console_port.specs.Prelude.{ConsoleView, Untaken, Given, IsLost, TellsLeft, SinkGoesOn, SourceGoesOn}
-use Rattle.ijvm_reference.specs.declared.frames.StepEnd.{StepEnd}
+use Rattle.ijvm_reference.proofs.Common.{◌≡◌, ◌<◌, ◌≤◌, ℕ, zero, suc, ◌+◌, Bool, true, List, [], ◌++◌, take, drop, append_assoc, Option, Some, None, IfNone}
+use Rattle.ijvm_reference.proofs.Common.{IfSome, Result, Ok, Err, refl, sym, ap, ap₂, subst, ◌∙◌, arith, AllocError, take-append-drop, lt-leb, le-leb, Machine}
+use Rattle.ijvm_reference.proofs.Common.{ConsoleView, Untaken, Given, IsLost, TellsLeft, SinkGoesOn, SourceGoesOn, StepEnd, StepError, RunEnd, PlainEnd}
+use Rattle.ijvm_reference.proofs.Common.{instr_at, Counts, ImageView}
 use Rattle.ijvm_reference.specs.declared.frames.StepEnd.TheVariants as steps
-use Rattle.ijvm_reference.specs.declared.frames.StepError.{StepError}
 use Rattle.ijvm_reference.specs.declared.frames.StepError.TheVariants as errors
-use Rattle.ijvm_meaning.specs.declared.run.RunEnd.{RunEnd}
 use Rattle.ijvm_meaning.specs.declared.run.RunEnd.TheVariants as defined
-use Rattle.ijvm_reference.specs.declared.plain.PlainEnd.{PlainEnd}
 use Rattle.ijvm_reference.specs.declared.plain.PlainEnd.TheVariants as ends
-use Rattle.ijvm_instr.specs.Prelude.{instr_at}
-use Rattle.ijvm_reference.specs.declared.plain.Counts.{Counts}
-use Rattle.ijvm_image.specs.Prelude.{ImageView}
 use Rattle.ijvm_meaning.specs.Prelude.{State, StepOutcome, Goes, Halts, Errs, Limits, step_outcome, limits-same, same_frames, timing_of, next_cost, TimedImage, Point, Finish, point_after, completed, stopped, after_outcome, after_test, finish_from, EndsBy, Passes, Start, More}
 use Rattle.ijvm_reference.specs.Prelude.{MachineView, KeepsProgram, state_of, IsLedOn, Does, IsCutOff, IsMetBy, HasKept, program_of, point_at, RunEndsWith, EndsIn, IsAllBut, IsAtBoundary, IsCut, ComesFurther, StoppedBy, IsShown, ShownBy, LedTo, TurnsTo, GoesOn, counts_after, stop_by, Reaches, Begins, Onward, cut_by}
 use Rattle.ijvm_reference.proofs.Costs.{next_cost-least}

@@ -1,9 +1,7 @@
 -- A run that never gets stuck goes on so after each step.
-use Rattle.std.proofs.Common.{◌≡◌, ℕ, List, [], ◌++◌, Bool, true, false, Option, Some, None, IsSome, refl, sym, subst, ◌∙◌}
-use Rattle.console_port.specs.Prelude.{ConsoleView, Untaken, Given}
-use Rattle.ijvm_reference.specs.declared.frames.StepEnd.{StepEnd}
+use Rattle.ijvm_reference.proofs.Common.{◌≡◌, ℕ, List, [], ◌++◌, Bool, true, false, Option, Some, None, IsSome, refl, sym, subst, ◌∙◌, ConsoleView, Untaken}
+use Rattle.ijvm_reference.proofs.Common.{Given, StepEnd, ImageView}
 use Rattle.ijvm_reference.specs.declared.frames.StepEnd.TheVariants as ends
-use Rattle.ijvm_image.specs.Prelude.{ImageView}
 use Rattle.ijvm_meaning.specs.Prelude.{State, Goes, step_outcome, limits-same, SameFrames, ComesTo, Here, On, NeverStuck}
 use Rattle.ijvm_reference.specs.Prelude.{MachineView, KeepsProgram, state_of, IsLedOn, Does, Turns}
 

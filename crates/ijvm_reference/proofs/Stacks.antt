@@ -1,6 +1,7 @@
 -- A stack kept in a list whose end is the top.
-use Rattle.std.proofs.Common.{◌≡◌, ◌==◌, false, ◌<◌, ◌≤◌, ℕ, suc, ◌+◌, ◌-◌, List, [], ◌∷◌, ◌++◌, length, take, drop, reverse, replicate, map, append_assoc, slice_index, slice_set, Option, Some, None, refl, ap, sym, ◌∙◌, arith}
-use Rattle.std.proofs.lemmas.List.{set_split, reverse-append, reverse-reverse, length-reverse, length-drop, length-take-le, take-append-drop, drop_more, take_more, drop_all, map-append}
+use Rattle.std.proofs.Common.{◌≡◌, ◌==◌, false, ◌<◌, ◌≤◌, ℕ, suc, ◌+◌, ◌-◌, List, [], ◌∷◌, ◌++◌, length, take, drop, reverse, replicate, map, append_assoc}
+use Rattle.std.proofs.Common.{slice_index, slice_set, Option, Some, None, refl, ap, sym, ◌∙◌, arith, length-drop, length-take-le, take-append-drop}
+use Rattle.std.proofs.lemmas.List.{set_split, reverse-append, reverse-reverse, length-reverse, drop_more, take_more, drop_all, map-append}
 use Rattle.std.proofs.Math.Seq.{take-length, take-append_seam, drop-append_seam}
 use Rattle.ijvm_meaning.specs.Prelude.{are_equal, onto}
 use Rattle.ijvm_reference.specs.Prelude.{IsSwapped}

@@ -1,21 +1,11 @@
 -- What a run reports, from how it was driven.
-use Rattle.std.proofs.Common.{◌≡◌, ◌≢◌, ◌<◌, ℕ, ◌+◌, ◌-◌, Bool, true, false, List, [], ◌∷◌, ◌++◌, append_assoc, Option, Some, None, IfSome, Result, Ok, Err, refl, sym, ap, ap₂, subst, ◌∙◌, arith}
-use Rattle.std.specs.declared.alloc.AllocError.{AllocError}
-use Rattle.std.specs.Prelude.{is_some}
-use Rattle.std.proofs.lemmas.List.{append-nil, append_cancel_left}
-use Rattle.mic_base.specs.Prelude.{Holds}
-use Rattle.mic_words.specs.declared.machine.Machine.{Machine}
-use Rattle.console_port.specs.Prelude.{ConsoleView, Untaken, Given, IsLost, LosesLast, TellsLeft}
-use Rattle.ijvm_reference.specs.declared.frames.StepError.{StepError}
+use Rattle.ijvm_reference.proofs.Common.{◌≡◌, ◌≢◌, ◌<◌, ℕ, ◌+◌, ◌-◌, Bool, true, false, List, [], ◌∷◌, ◌++◌, append_assoc, Option, Some, None, IfSome, Result}
+use Rattle.ijvm_reference.proofs.Common.{Ok, Err, refl, sym, ap, ap₂, subst, ◌∙◌, arith, AllocError, is_some, append-nil, append_cancel_left, Holds, Machine}
+use Rattle.ijvm_reference.proofs.Common.{ConsoleView, Untaken, Given, IsLost, LosesLast, TellsLeft, StepError, RunEnd, PlainEnd, PlainReport, Counts, instr_at}
+use Rattle.ijvm_reference.proofs.Common.{ImageView}
 use Rattle.ijvm_reference.specs.declared.frames.StepError.TheVariants as errors
-use Rattle.ijvm_meaning.specs.declared.run.RunEnd.{RunEnd}
 use Rattle.ijvm_meaning.specs.declared.run.RunEnd.TheVariants as defined
-use Rattle.ijvm_reference.specs.declared.plain.PlainEnd.{PlainEnd}
 use Rattle.ijvm_reference.specs.declared.plain.PlainEnd.TheVariants as ends
-use Rattle.ijvm_reference.specs.declared.plain.PlainReport.{PlainReport}
-use Rattle.ijvm_reference.specs.declared.plain.Counts.{Counts}
-use Rattle.ijvm_instr.specs.Prelude.{instr_at}
-use Rattle.ijvm_image.specs.Prelude.{ImageView}
 use Rattle.ijvm_meaning.specs.Prelude.{Frame, State, frames_of, base, SameFrames, timing_of, TimedImage, Point, Finish, first_point, EndsBy}
 use Rattle.ijvm_reference.specs.Prelude.{MachineView, state_of, started, IsMetBy, fresh, program_of, point_at, IsAllBut, IsCut, EndsIn, StoppedBy, IsShown, IsDriven, Reaches, Begins, told_of, reported_end, IsReportOf, Reports, Leaves, GotFront, Finishes, Stops, HasRun, IsCutByRead, IsCutInside, IsCutAtEnd, IsShort}
 use Rattle.ijvm_reference.proofs.SafeLemmas.{some_untaken}

@@ -1,12 +1,7 @@
 -- The outcome of an instruction on the machine.
-use Rattle.std.proofs.Common.{◌≡◌, ◌≢◌, ℕ, List, Option, Some, refl, sym, ap, subst}
-use Rattle.ijvm_instr.specs.declared.instr.Instr.{Instr}
-use Rattle.ijvm_instr.specs.declared.instr.Instr.TheVariants.{In, Out, Err, Halt}
-use Rattle.console_port.specs.Prelude.{ConsoleView}
-use Rattle.ijvm_reference.specs.declared.frames.StepError.{StepError}
-use Rattle.ijvm_reference.specs.declared.compute.Effect.{Effect}
+use Rattle.ijvm_reference.proofs.Common.{◌≡◌, ◌≢◌, ℕ, List, Option, Some, refl, sym, ap, subst, Instr, In, Out, Halt, ConsoleView, StepError, Effect, instr_at}
+use Rattle.ijvm_instr.specs.declared.instr.Instr.TheVariants.{Err}
 use Rattle.ijvm_reference.specs.declared.compute.Effect.TheVariants as effects
-use Rattle.ijvm_instr.specs.Prelude.{instr_at}
 use Rattle.ijvm_meaning.specs.Prelude.{step_outcome, step, step_if_any}
 use Rattle.ijvm_reference.specs.Prelude.{MachineView, IsComputed, state_of, outcome_of, StepFails, Turns, step_end}
 

@@ -1,8 +1,6 @@
 -- What the console keeps along a run: OUT adds a byte, and empties a full console first; IN empties it, until it has met the end of input.
 use Rattle.std.specs.Prelude.{◌≡◌, ◌≢◌, ◌⊎◌, ◌<◌, ◌≤◌, ℕ, ◌+◌, Bool, true, false, List, [], ◌∷◌, length, Option, Some}
-use Rattle.console_port.specs.Prelude.{ConsoleView, Untaken, TellsLeft}
-use Rattle.ijvm_instr.specs.declared.instr.Instr.{Instr}
-use Rattle.ijvm_instr.specs.declared.instr.Instr.TheVariants.{In, Out}
+use Rattle.ijvm_reference.specs.Common.{ConsoleView, Untaken, TellsLeft, Instr, In, Out}
 
 abbrev pub is_empty : List ℕ → Bool
 is_empty [] = true

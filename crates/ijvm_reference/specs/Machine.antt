@@ -1,13 +1,7 @@
 -- The plain machine: frames over an image. The console's bytes are not in it.
 use Rattle.std.specs.Prelude.{◌≡◌, ◌≤◌, ◌<◌, ℕ, ◌&&◌, Bool, true, false, nat_lt, List, [], ◌∷◌, length, ◌+◌, ◌-◌, ℤ, slice_get, slice_set, Option, Some, None, Result, IfOk, bit_and, bit_or}
-use Rattle.std.specs.declared.alloc.AllocError.{AllocError}
-use Rattle.ijvm_instr.specs.declared.instr.Instr.{Instr}
-use Rattle.ijvm_instr.specs.declared.instr.Instr.TheVariants.{In, Out, Err, Halt}
-use Rattle.ijvm_image.specs.declared.method.Method.{Method}
-use Rattle.ijvm_instr.specs.Prelude.{instr_at}
-use Rattle.ijvm_image.specs.Prelude.{ImageView, method_at}
-use Rattle.ijvm_meaning.specs.Prelude.{Frame, State, start_of, base, IsWord, StepOutcome, Goes, Limits, Stuck, is_own, in_method, pushed_constant, loaded, increased, called_at}
-use Rattle.mic_words.specs.Prelude.{plus, minus}
+use Rattle.ijvm_reference.specs.Common.{AllocError, Instr, In, Out, Err, Halt, Method, instr_at, ImageView, method_at, Frame, State, start_of, base, IsWord}
+use Rattle.ijvm_reference.specs.Common.{StepOutcome, Goes, Limits, Stuck, is_own, in_method, pushed_constant, loaded, increased, called_at, plus, minus}
 use Rattle.ijvm_reference.specs.declared.compute.Operator.{Operator}
 use Rattle.ijvm_reference.specs.declared.compute.Operator.TheVariants as operators
 use Rattle.ijvm_reference.specs.declared.compute.Effect.{Effect}

@@ -1,19 +1,12 @@
 -- What a run of the plain machine over a source and a sink reports: the definition's run to its end, or to the boundary at which a fault cut it.
 use Rattle.std.specs.Prelude.{◌≡◌, ◌≢◌, ◌⊎◌, ℕ, ◌<◌, ◌+◌, false, List, [], ◌∷◌, ◌++◌, Option, Some, IfSome, Result, Ok, Err, is_some, unwrap_or}
-use Rattle.std.specs.declared.alloc.AllocError.{AllocError}
-use Rattle.mic_words.specs.declared.machine.Machine.{Machine}
-use Rattle.console_port.specs.Prelude.{ConsoleView, Untaken, LosesLast}
-use Rattle.console_port.specs.declared.map.MemoryMap.{MemoryMap}
-use Rattle.ijvm_instr.specs.declared.instr.Instr.TheVariants.{In}
-use Rattle.ijvm_meaning.specs.declared.run.RunEnd.{RunEnd}
+use Rattle.ijvm_reference.specs.Common.{AllocError, Machine, ConsoleView, Untaken, LosesLast, MemoryMap, In, RunEnd, instr_at, ImageView, base, sp_of, lv_of}
+use Rattle.ijvm_reference.specs.Common.{timing_of, TimedImage, Point, Finish, first_point, EndsBy}
 use Rattle.ijvm_meaning.specs.declared.run.RunEnd.TheVariants as defined
 use Rattle.ijvm_reference.specs.declared.plain.PlainEnd.{PlainEnd}
 use Rattle.ijvm_reference.specs.declared.plain.PlainEnd.TheVariants as ends
 use Rattle.ijvm_reference.specs.declared.plain.PlainReport.{PlainReport}
 use Rattle.ijvm_reference.specs.declared.plain.Counts.{Counts}
-use Rattle.ijvm_instr.specs.Prelude.{instr_at}
-use Rattle.ijvm_image.specs.Prelude.{ImageView}
-use Rattle.ijvm_meaning.specs.Prelude.{base, sp_of, lv_of, timing_of, TimedImage, Point, Finish, first_point, EndsBy}
 use Rattle.ijvm_reference.specs.Kept.{PutsKept, fresh}
 use Rattle.ijvm_reference.specs.Machine.{MachineView}
 use Rattle.ijvm_reference.specs.Runs.{Reaches, IsAllBut}

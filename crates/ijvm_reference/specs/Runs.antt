@@ -1,20 +1,15 @@
 -- How frames are driven over a console, a source and a sink, from boundary to boundary.
 use Rattle.std.specs.Prelude.{◌≡◌, ◌≢◌, ℕ, ◌+◌, ◌≤◌, ◌<◌, List, [], ◌++◌, drop, Bool, true, Option, Some, None, IfSome, Result, Ok, Err, alloc_error}
-use Rattle.std.specs.declared.alloc.AllocError.{AllocError}
-use Rattle.mic_base.specs.Prelude.{Rose}
-use Rattle.mic_words.specs.declared.machine.Machine.{Machine}
-use Rattle.console_port.specs.Prelude.{ConsoleView, Untaken, Given, TellsLeft}
+use Rattle.ijvm_reference.specs.Common.{AllocError, Rose, Machine, ConsoleView, Untaken, Given, TellsLeft, RunEnd, instr_at, SameFrames, Goes, step_outcome}
+use Rattle.ijvm_reference.specs.Common.{timing_of, TimedImage, Point, Finish, EndsBy, Passes, point_after}
 use Rattle.ijvm_reference.specs.declared.frames.StepEnd.{StepEnd}
 use Rattle.ijvm_reference.specs.declared.frames.StepEnd.TheVariants as steps
 use Rattle.ijvm_reference.specs.declared.frames.StepError.{StepError}
 use Rattle.ijvm_reference.specs.declared.frames.StepError.TheVariants as errors
-use Rattle.ijvm_meaning.specs.declared.run.RunEnd.{RunEnd}
 use Rattle.ijvm_meaning.specs.declared.run.RunEnd.TheVariants as defined
 use Rattle.ijvm_reference.specs.declared.plain.PlainEnd.{PlainEnd}
 use Rattle.ijvm_reference.specs.declared.plain.PlainEnd.TheVariants as ends
 use Rattle.ijvm_reference.specs.declared.plain.Counts.{Counts}
-use Rattle.ijvm_instr.specs.Prelude.{instr_at}
-use Rattle.ijvm_meaning.specs.Prelude.{SameFrames, Goes, step_outcome, timing_of, TimedImage, Point, Finish, EndsBy, Passes, point_after}
 use Rattle.ijvm_reference.specs.Machine.{MachineView, state_of}
 use Rattle.ijvm_reference.specs.Kept.{Keeps}
 use Rattle.ijvm_reference.specs.Steps.{IsMetBy}

@@ -1,15 +1,12 @@
 -- A step of frames over a console, a source and a sink is the definition's `outcome`, where what these have left and hold are the state's
 -- untaken and given bytes.
 use Rattle.std.specs.Prelude.{◌≡◌, ◌≢◌, ℕ, ◌≤◌, List, [], false, Option, Some, None, Result, Err, IsSome, IfOk, IfErr, IsErrOf}
-use Rattle.mic_base.specs.Prelude.{Rose}
-use Rattle.console_port.specs.Prelude.{ConsoleView, Untaken, Given, IsLost}
-use Rattle.ijvm_instr.specs.declared.instr.Instr.{Instr}
-use Rattle.ijvm_instr.specs.declared.instr.Instr.TheVariants.{In, Out}
+use Rattle.ijvm_reference.specs.Common.{Rose, ConsoleView, Untaken, Given, IsLost, Instr, In, Out, State, StepOutcome, Goes, Halts, Errs, Limits, Stuck}
+use Rattle.ijvm_reference.specs.Common.{given_out, step_outcome}
 use Rattle.ijvm_reference.specs.declared.frames.StepEnd.{StepEnd}
 use Rattle.ijvm_reference.specs.declared.frames.StepEnd.TheVariants as ends
 use Rattle.ijvm_reference.specs.declared.frames.StepError.{StepError}
 use Rattle.ijvm_reference.specs.declared.frames.StepError.TheVariants as errors
-use Rattle.ijvm_meaning.specs.Prelude.{State, StepOutcome, Goes, Halts, Errs, Limits, Stuck, given_out, step_outcome}
 use Rattle.ijvm_reference.specs.declared.compute.Effect.{Effect}
 use Rattle.ijvm_reference.specs.declared.compute.Effect.TheVariants as effects
 use Rattle.ijvm_reference.specs.Machine.{MachineView, state_of, outcome_of}

@@ -1,9 +1,8 @@
 //! The instructions that neither need the console nor end the run.
 
 ghost use Rattle.std.specs.Prelude.{◌≡◌, ◌==◌, ◌+◌, ◌<◌, ◌^◌, OnErr};
-ghost use Rattle.ijvm_instr.specs.Prelude.{target};
-ghost use Rattle.ijvm_meaning.specs.Prelude.{Goes, moved, step, pushed, stored, popped, doubled, swapped, combined, way, branched, compared, returned};
-ghost use Rattle.mic_words.specs.Prelude.{is_negative};
+ghost use Rattle.ijvm_reference.specs.Common.{target, Goes, moved, step, pushed, stored, popped, doubled, swapped, combined, way, branched, compared, returned};
+ghost use Rattle.ijvm_reference.specs.Common.{is_negative};
 ghost use Rattle.ijvm_reference.specs.Machine.{Leads, LeadsBy, KeepsProgram, constant_pushed, local_increased, local_loaded, method_called, operate, IsComputed};
 
 use crate::machine::PlainMachine;

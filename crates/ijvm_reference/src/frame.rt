@@ -1,8 +1,7 @@
 //! A frame of the plain machine.
 
 ghost use Rattle.std.specs.Prelude.{◌≡◌, ◌≢◌, ◌+◌, ◌<◌, ◌≤◌, ◌^◌, [], ◌∷◌, ◌++◌, length, reverse, replicate, map, take, slice_get, slice_set, drop, Some, None, IfOk, OnOk, OnErr, IfSome, vec_len};
-ghost use Rattle.ijvm_meaning.specs.Frames.{Frame as FrameView};
-ghost use Rattle.ijvm_meaning.specs.Prelude.{kept_words, top_of, are_equal, called, onto};
+ghost use Rattle.ijvm_meaning.specs.Prelude.{Frame as FrameView, kept_words, top_of, are_equal, called, onto};
 ghost use Rattle.std.specs.Option.{option_flatten};
 ghost use Rattle.ijvm_reference.specs.Machine.{Pops, Stores, Swaps, IsSwapped};
 

@@ -1,8 +1,7 @@
 //! The plain machine, which computes the definition's run step by step.
 
 ghost use Rattle.std.specs.Prelude.{◌≡◌, ◌+◌, ◌≤◌, [], ◌∷◌, Err, IfOk, OnOk, IfErr};
-ghost use Rattle.console_port.specs.Prelude.{SinkGoesOn, SourceGoesOn};
-ghost use Rattle.ijvm_meaning.specs.Prelude.{timing_of, next_cost, base, top_of, NeverStuck, IsSafe};
+ghost use Rattle.ijvm_reference.specs.Common.{SinkGoesOn, SourceGoesOn, timing_of, next_cost, base, top_of, NeverStuck, IsSafe};
 ghost use Rattle.ijvm_reference.specs.Machine.{MachineView, KeepsProgram, next_instr, state_of, started};
 ghost use Rattle.ijvm_reference.specs.Kept.{HasKept};
 ghost use Rattle.ijvm_reference.specs.Steps.{IfTurned, IsLedOn, step_end, Does, Turns, StepFails, FailsByCause};

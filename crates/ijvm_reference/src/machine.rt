@@ -2,9 +2,7 @@
 
 ghost use Rattle.std.specs.Prelude.{◌≡◌, ◌≢◌, ◌↔◌, ◌+◌, ◌<◌, ◌≤◌, ◌^◌, [], ◌∷◌, nat_le, reverse, slice_get, drop, Some, None, IfOk, OnOk, OnErr, IfSome, IsTrue, length, vec_len, vec_capacity};
 ghost use Rattle.std.specs.Option.{option_flatten};
-ghost use Rattle.ijvm_instr.specs.Prelude.{instr_at};
-ghost use Rattle.ijvm_image.specs.Prelude.{method_at};
-ghost use Rattle.ijvm_meaning.specs.Prelude.{are_equal, base, top_of};
+ghost use Rattle.ijvm_reference.specs.Common.{instr_at, method_at, are_equal, base, top_of};
 ghost use Rattle.ijvm_reference.specs.Machine.{MachineView, ArePlaced, started, with_operands, in_call, with_local, KeepsProgram, Pops, Returns, Stores, Swaps};
 
 use crate::frame::Frame;

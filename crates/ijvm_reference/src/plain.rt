@@ -1,9 +1,8 @@
 //! A run of the plain machine over a source and a sink.
 
 ghost use Rattle.std.specs.Prelude.{◌≡◌, ◌≤◌, ◌<◌, ◌+◌, ◌^◌, Some, Ok, IfNone, IfOk, OnErr};
-ghost use Rattle.console_port.specs.Prelude.{SinkGoesOn, SourceGoesOn};
+ghost use Rattle.ijvm_reference.specs.Common.{SinkGoesOn, SourceGoesOn, IsSafe};
 ghost use Rattle.ijvm_reference.specs.Machine.{KeepsProgram};
-ghost use Rattle.ijvm_meaning.specs.Prelude.{IsSafe};
 ghost use Rattle.ijvm_reference.specs.Runs.{IsDriven, IsAtBoundary, ComesFurther, IsEmptied, EndsByCause, counts_after, stop_by, cut_by};
 ghost use Rattle.ijvm_reference.specs.Plain.{program, end_of, IsReportOf, IsRunReport, IsShort};
 

@@ -1,8 +1,7 @@
 //! IN and OUT, which need the console.
 
 ghost use Rattle.std.specs.Prelude.{◌≡◌, ◌≢◌, ◌+◌, ◌<◌, ◌^◌, ◌∷◌, [], ℕ, List, drop, IfOk, OnOk, IfErr, Some, Err};
-ghost use Rattle.console_port.specs.Prelude.{Untaken, Given, Gives, IsFault, SinkGoesOn, SourceGoesOn, next_byte};
-ghost use Rattle.ijvm_meaning.specs.Prelude.{read_in};
+ghost use Rattle.ijvm_reference.specs.Common.{Untaken, Given, Gives, IsFault, SinkGoesOn, SourceGoesOn, next_byte, read_in};
 ghost use Rattle.ijvm_reference.specs.Machine.{KeepsProgram, state_of, outcome_of};
 ghost use Rattle.ijvm_reference.specs.Kept.{HasRead, WritesOut};
 ghost use Rattle.ijvm_reference.specs.Steps.{IsLedOn, CutsOff, CutsOffSink, FailsByCause, FailsToGive, GivesOut, HasStepCause, IsMetBy, StepFails};

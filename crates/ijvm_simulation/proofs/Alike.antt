@@ -1,14 +1,8 @@
 -- Runs of the definition with the cycles of two machines end alike, and so do the machines.
-use Rattle.std.proofs.Common.{◌≡◌, ◌≢◌, ℕ, zero, suc, ◌+◌, ◌++◌, Bool, true, false, Option, Some, None, List, refl, sym, ◌∙◌, ap, subst}
-use Rattle.std.specs.Prelude.{nat_le, IfSome}
-use Rattle.std.proofs.lemmas.Option.{same_Some}
-use Rattle.console_port.specs.Prelude.{World}
-use Rattle.mic_clock.specs.declared.counts.Counts.{Counts}
-use Rattle.mic_clock.specs.Prelude.{Meaning, BoardView}
-use Rattle.ijvm_meaning.specs.declared.run.RunEnd.{RunEnd}
+use Rattle.ijvm_simulation.proofs.Common.{◌≡◌, ◌≢◌, ℕ, zero, suc, ◌+◌, ◌++◌, Bool, true, false, Option, Some, None, List, refl, sym, ◌∙◌, ap, subst, nat_le}
+use Rattle.ijvm_simulation.proofs.Common.{IfSome, same_Some, World, Counts, Meaning, BoardView, RunEnd, VerifiedView}
 use Rattle.ijvm_meaning.specs.declared.run.RunEnd.TheVariants as defined
 use Rattle.ijvm_meaning.specs.Prelude.{State, start_of, StepOutcome, Goes, Halts, Errs, Limits, Stuck, step_outcome, Timing, TimedImage, Point, Finish, point_after, finish_from, after_test, after_outcome, completed, stopped, first_point}
-use Rattle.verifier_facts.specs.Prelude.{VerifiedView}
 use Rattle.ijvm_simulation.specs.Prelude.{board_end, program, told_of, HasRun, EndAlike, MeetNoBound}
 
 -- two ends of runs with the same states

@@ -1,16 +1,9 @@
 -- What a board that was run over a verified image from its reset shows of the run.
-use Rattle.std.proofs.Common.{◌≡◌, ℕ, List, [], ◌++◌, Option, Some, None, IfSome, Bool, true, false, refl, sym, ◌∙◌, ap, subst}
-use Rattle.std.proofs.lemmas.List.{append-nil}
-use Rattle.mic_base.specs.Prelude.{Holds}
-use Rattle.micro_word.specs.Prelude.{ControlStore}
-use Rattle.console_port.specs.Prelude.{World, Untaken, Given, TellsLeft, StillTells}
-use Rattle.mic_clock.specs.Prelude.{Meaning, BoardView, MicroRun, turns, ShowsRun, IsLedTo, Leads}
-use Rattle.mic_clock.specs.declared.end.End.{End}
-use Rattle.mic_clock.specs.Board.{IsCutByRead as IsReadCut, IsCutByWrite as IsCut}
+use Rattle.ijvm_simulation.proofs.Common.{◌≡◌, ℕ, List, [], ◌++◌, Option, Some, None, IfSome, Bool, true, false, refl, sym, ◌∙◌, ap, subst, append-nil, Holds}
+use Rattle.ijvm_simulation.proofs.Common.{ControlStore, World, Untaken, Given, TellsLeft, StillTells, Meaning, BoardView, MicroRun, turns, ShowsRun, IsLedTo}
+use Rattle.ijvm_simulation.proofs.Common.{Leads, End, IsCutByRead as IsReadCut, IsCutByWrite as IsCut, VerifiedView, IsAtReset, reset_run}
 use Rattle.ijvm_meaning.specs.Prelude.{Timing}
-use Rattle.verifier_facts.specs.Prelude.{VerifiedView}
 use Rattle.ijvm_simulation.specs.Prelude.{IsEnd, Grows, Promises, told_of, Leaves, Begins, HasRun, IsCutByRead, IsCutByWrite}
-use Rattle.mic_image_board.specs.Prelude.{IsAtReset, reset_run}
 use Rattle.ijvm_simulation.proofs.Next.{Known}
 use Rattle.ijvm_simulation.proofs.Carried.{simulated}
 use Rattle.ijvm_simulation.proofs.Worlds.{same_end, front_of_end}

@@ -1,11 +1,7 @@
 -- From the reset of a machine to its first boundary.
-use Rattle.std.proofs.Common.{◌≡◌, ℕ, ◌<◌, Some, false, List, refl, arith}
-use Rattle.std.proofs.lemmas.Bool.Decides.{nat_tests}
-use Rattle.console_port.specs.Prelude.{World}
-use Rattle.mic_clock.specs.Prelude.{Meaning, MicroRun, turns}
+use Rattle.ijvm_simulation.proofs.Common.{◌≡◌, ℕ, ◌<◌, Some, false, List, refl, arith, nat_tests, World, Meaning, MicroRun, turns, reset_run}
 use Rattle.ijvm_meaning.specs.Prelude.{State, start_of, TimedImage, first_point}
 use Rattle.ijvm_simulation.specs.Prelude.{Origin, ShowsState, Boots, reset_moment}
-use Rattle.mic_image_board.specs.Prelude.{reset_run}
 use Rattle.ijvm_simulation.proofs.Turns.{IsReady, inside_pass}
 use Rattle.ijvm_simulation.proofs.Instruction.{Arrives, arrives}
 

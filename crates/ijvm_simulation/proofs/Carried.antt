@@ -1,14 +1,8 @@
 -- From the reset of a machine over a loaded image to its end: the machine's promises carry its whole run.
-use Rattle.std.proofs.Common.{◌≡◌, ℕ, zero, suc, ◌+◌, ◌≤◌, List, length, replicate, refl, arith, ◌∙◌, inr}
-use Rattle.std.specs.Prelude.{slice_index}
-use Rattle.std.proofs.lemmas.List.{length-replicate}
-use Rattle.console_port.specs.Prelude.{IsLoaded, World}
-use Rattle.mic_clock.specs.Prelude.{Meaning}
-use Rattle.ijvm_image.specs.Prelude.{IsImage}
+use Rattle.ijvm_simulation.proofs.Common.{◌≡◌, ℕ, zero, suc, ◌+◌, ◌≤◌, List, length, replicate, refl, arith, ◌∙◌, inr, slice_index, length-replicate, IsLoaded}
+use Rattle.ijvm_simulation.proofs.Common.{World, Meaning, IsImage, VerifiedView, IsAccepted, reset_run}
 use Rattle.ijvm_meaning.specs.Prelude.{start_of, Timing, first_point}
-use Rattle.verifier_facts.specs.Prelude.{VerifiedView, IsAccepted}
 use Rattle.ijvm_simulation.specs.Prelude.{Origin, IsAt, program, Loads, Fine, Promises, Law, Boots, reset_moment, Simulates}
-use Rattle.mic_image_board.specs.Prelude.{reset_run}
 use Rattle.ijvm_simulation.proofs.Instruction.{Law as BoundaryLaw}
 use Rattle.ijvm_simulation.proofs.Next.{Known, fine_start, keeps, boundary_law}
 use Rattle.ijvm_simulation.proofs.Boots.{booted, quiet}

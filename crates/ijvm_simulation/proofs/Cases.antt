@@ -1,14 +1,8 @@
 -- Each outcome of an instruction shows what was found and what state comes of it.
-use Rattle.std.proofs.Common.{◌≡◌, ℕ, zero, suc, ◌+◌, ◌<◌, ◌≤◌, ◌==◌, Bool, true, false, if◌then◌else◌, List, [], ◌∷◌, length, Option, Some, None, refl, arith}
-use Rattle.std.specs.Prelude.{nat_le, nat_lt, slice_get, ℤ, bit_and, bit_or}
-use Rattle.std.proofs.lemmas.Bool.Decides.{nat_tests}
-use Rattle.mic_words.specs.Prelude.{plus, minus, is_negative}
-use Rattle.console_port.specs.Prelude.{next_byte}
-use Rattle.ijvm_instr.specs.declared.instr.Instr.{Instr}
+use Rattle.ijvm_simulation.proofs.Common.{◌≡◌, ℕ, zero, suc, ◌+◌, ◌<◌, ◌≤◌, ◌==◌, Bool, true, false, if◌then◌else◌, List, [], ◌∷◌, length, Option, Some, None}
+use Rattle.ijvm_simulation.proofs.Common.{refl, arith, nat_le, nat_lt, slice_get, ℤ, bit_and, bit_or, nat_tests, plus, minus, is_negative, next_byte, Instr}
+use Rattle.ijvm_simulation.proofs.Common.{word_of, Method, ImageView, method_at}
 use Rattle.ijvm_instr.specs.declared.instr.Instr.TheVariants.{Bipush, LdcW, Iload, Istore, Pop, Dup, Swap, Iadd, Isub, Iand, Iinc, Ifeq, Iflt, IfIcmpeq, Ireturn, Ior, Invokevirtual, WideIload, WideIstore, WideIinc, In, Out}
-use Rattle.ijvm_instr.specs.Prelude.{word_of}
-use Rattle.ijvm_image.specs.declared.method.Method.{Method}
-use Rattle.ijvm_image.specs.Prelude.{ImageView, method_at}
 use Rattle.ijvm_meaning.specs.Prelude.{Frame, State, frames_of, base, StepOutcome, Goes, Limits, Stuck, limited, pushed_constant, loaded, is_own, with_local, stored, increased, popped, doubled, swapped, combined, branched, compared, returned, in_method, entered, called_at, taken, given_out, step}
 use Rattle.ijvm_simulation.specs.Prelude.{WithLocal, Stores, Fits, Overflows, push, Went, Overran, IsOutcome}
 

@@ -1,6 +1,5 @@
 -- The boundaries counted from the first one, and those that the definition's run passes.
-use Rattle.std.proofs.Common.{◌≡◌, ◌<◌, ℕ, zero, suc, Bool, true, false, nat_le, Option, Some, refl, sym, ◌∙◌, ap, subst}
-use Rattle.std.proofs.lemmas.Bool.{lt-leb, leb-false}
+use Rattle.ijvm_simulation.proofs.Common.{◌≡◌, ◌<◌, ℕ, zero, suc, Bool, true, false, nat_le, Option, Some, refl, sym, ◌∙◌, ap, subst, lt-leb, leb-false}
 use Rattle.ijvm_meaning.specs.Prelude.{State, StepOutcome, Goes, step_outcome, TimedImage, Point, point_after, Passes, Start, More}
 use Rattle.ijvm_simulation.specs.Prelude.{below, going_on, point_behind}
 

@@ -1,14 +1,10 @@
 -- What the bytes are of an instruction that is read at an address.
-use Rattle.std.proofs.Common.{◌≡◌, ℕ, ◌+◌, ◌*◌, ◌<◌, ◌≤◌, Bool, true, false, if◌then◌else◌, ◌==◌, Option, Some, None, List, length, refl, arith, subst, inl, inr}
-use Rattle.std.specs.Prelude.{slice_index, nat_le, All}
-use Rattle.std.specs.Int.{w8, w16, cast_signed}
-use Rattle.std.proofs.lemmas.Bool.Decides.{nat_tests}
-use Rattle.std.proofs.lemmas.Option.{same_Some}
-use Rattle.ijvm_instr.specs.declared.instr.Instr.{Instr}
+use Rattle.ijvm_simulation.proofs.Common.{◌≡◌, ℕ, ◌+◌, ◌*◌, ◌<◌, ◌≤◌, Bool, true, false, if◌then◌else◌, ◌==◌, Option, Some, None, List, length, refl, arith}
+use Rattle.ijvm_simulation.proofs.Common.{subst, inl, inr, slice_index, nat_le, All, w8, w16, cast_signed, nat_tests, same_Some, Instr, byte_below, row_of}
+use Rattle.ijvm_simulation.proofs.Common.{size_of, begun_at, of_bytes, whole, instr_at}
 use Rattle.ijvm_instr.specs.declared.instr.Instr.TheVariants.{Nop, Bipush, LdcW, Iload, Istore, Pop, Dup, Swap, Iadd, Isub, Iand, Iinc, Ifeq, Iflt, IfIcmpeq, Goto, Ireturn, Ior, Invokevirtual, WideIload, WideIstore, WideIinc, In, Out, Err, Halt}
 use Rattle.ijvm_simulation.specs.Prelude.{Reads}
 use Rattle.ijvm_simulation.proofs.Numbers.{byte_word, half_word}
-use Rattle.ijvm_instr.specs.Prelude.{byte_below, row_of, size_of, begun_at, of_bytes, whole, instr_at}
 
 -- one row of the decoder, then those after it
 row_by : (P : Instr → Type 0) (x y : ℕ) (found rest : Option Instr) (i : Instr) (t : Bool) → (x == y) ≡ t →

@@ -1,11 +1,7 @@
 -- A run from a reset with the store that ships ends as the definition's run.
-use Rattle.std.proofs.Common.{ℕ, List, Bool, refl, sym, ◌∙◌, ap, subst}
-use Rattle.std.proofs.lemmas.Option.{same_Some}
-use Rattle.console_port.specs.Prelude.{World, Untaken, Given}
-use Rattle.mic_clock.specs.Prelude.{Meaning, MicroRun}
+use Rattle.ijvm_simulation.proofs.Common.{ℕ, List, Bool, refl, sym, ◌∙◌, ap, subst, same_Some, World, Untaken, Given, Meaning, MicroRun, reset_run}
 use Rattle.ijvm_meaning.specs.Prelude.{Timing}
 use Rattle.ijvm_simulation.specs.Prelude.{board_end, told_of, Promises, EndsAsDefined}
-use Rattle.mic_image_board.specs.Prelude.{reset_run}
 use Rattle.ijvm_simulation.proofs.Next.{Known}
 use Rattle.ijvm_simulation.proofs.Carried.{simulated}
 use Rattle.ijvm_simulation.proofs.Boards.{rest_of, rest_fits, given_told}

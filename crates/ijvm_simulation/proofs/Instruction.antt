@@ -1,15 +1,8 @@
 -- What one instruction takes of a machine, and how a run goes on from a boundary or ends after it.
-use Rattle.std.proofs.Common.{◌≡◌, ℕ, suc, ◌+◌, ◌<◌, Bool, true, false, Option, Some, None, List, refl, arith, sym, ◌∙◌, ap, ap₂, subst, inl, inr}
-use Rattle.std.specs.Prelude.{nat_le, ◌==◌, is_some}
-use Rattle.std.proofs.lemmas.Bool.Decides.{nat_tests}
-use Rattle.std.proofs.lemmas.Bool.{cases_lt}
-use Rattle.console_port.specs.Prelude.{World, StackLimit}
-use Rattle.mic_clock.specs.declared.counts.Boundary.{Boundary}
-use Rattle.mic_clock.specs.declared.counts.Counts.{Counts}
-use Rattle.mic_clock.specs.declared.end.End.{End}
+use Rattle.ijvm_simulation.proofs.Common.{◌≡◌, ℕ, suc, ◌+◌, ◌<◌, Bool, true, false, Option, Some, None, List, refl, arith, sym, ◌∙◌, ap, ap₂, subst, inl, inr}
+use Rattle.ijvm_simulation.proofs.Common.{nat_le, ◌==◌, is_some, nat_tests, cases_lt, World, StackLimit, Boundary, Counts, End, Meaning, Refused, MicroRun}
+use Rattle.ijvm_simulation.proofs.Common.{turn, turn_by, turns, bounded, after_step, after_end_or_step, end_before, completes, last_cycles, number_of, RunEnd}
 use Rattle.mic_clock.specs.declared.end.End.TheVariants as clocked
-use Rattle.mic_clock.specs.Prelude.{Meaning, Refused, MicroRun, turn, turn_by, turns, bounded, after_step, after_end_or_step, end_before, completes, last_cycles, number_of}
-use Rattle.ijvm_meaning.specs.declared.run.RunEnd.{RunEnd}
 use Rattle.ijvm_meaning.specs.declared.run.RunEnd.TheVariants as defined
 use Rattle.ijvm_meaning.specs.Prelude.{State, StepOutcome, Goes, Halts, Errs, Limits, Stuck, step_outcome, next_cost, TimedImage, Point, Finish, point_after, finish_from, after_test, after_outcome, completed, stopped}
 use Rattle.ijvm_simulation.specs.Prelude.{point_behind, below, going_on, board_end, IsBoundary, IsEnd, Moment, pass, HasWord, Moves, Stops, StopsHere, StopsBehind, Overruns, ShowsState}

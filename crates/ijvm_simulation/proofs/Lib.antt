@@ -1,3 +1,4 @@
+pub mod Common
 pub mod Passes
 pub mod Turns
 pub mod Instruction

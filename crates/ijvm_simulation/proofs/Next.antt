@@ -1,15 +1,9 @@
 -- What comes next in a run of a verified image, and how the law of a machine's instructions becomes the law of its boundaries.
-use Rattle.std.proofs.Common.{◌≡◌, ℕ, ◌+◌, ◌*◌, ◌<◌, Bool, true, false, Some, List, [], ◌∷◌, ◌++◌, length, refl, arith, sym, ◌∙◌, ap, ap₂, subst, inl, inr}
-use Rattle.std.proofs.lemmas.Option.{same_Some}
-use Rattle.mic_words.specs.Prelude.{signed_byte, signed_pair}
-use Rattle.console_port.specs.Prelude.{World, byte_in}
-use Rattle.mic_clock.specs.Prelude.{Meaning}
-use Rattle.ijvm_image.specs.Prelude.{ImageView, IsImage}
-use Rattle.ijvm_instr.specs.declared.instr.Instr.{Instr}
+use Rattle.ijvm_simulation.proofs.Common.{◌≡◌, ℕ, ◌+◌, ◌*◌, ◌<◌, Bool, true, false, Some, List, [], ◌∷◌, ◌++◌, length, refl, arith, sym, ◌∙◌, ap, ap₂, subst}
+use Rattle.ijvm_simulation.proofs.Common.{inl, inr, same_Some, signed_byte, signed_pair, World, byte_in, Meaning, ImageView, IsImage, Instr, row_of, size_of}
+use Rattle.ijvm_simulation.proofs.Common.{prefix, operand_bytes, instr_at, Accepts, IsMainCount, Finds, KeepsSound, VerifiedView, IsAccepted}
 use Rattle.ijvm_instr.specs.declared.instr.Instr.TheVariants.{Bipush, LdcW, Iload, Istore, Iinc, Ifeq, Iflt, IfIcmpeq, Goto, Ior, Invokevirtual, WideIload, WideIstore, WideIinc, Err, Halt}
-use Rattle.ijvm_instr.specs.Prelude.{row_of, size_of, prefix, operand_bytes, instr_at}
 use Rattle.ijvm_meaning.specs.Prelude.{State, AreWords, start_of, StepOutcome, Goes, Halts, Errs, Limits, step_outcome, step_if_any, Timing, next_cost, cost_at, cost, GoesOnInWords, Here, On}
-use Rattle.verifier_facts.specs.Prelude.{Accepts, IsMainCount, Finds, KeepsSound, VerifiedView, IsAccepted}
 use Rattle.ijvm_simulation.specs.Prelude.{Origin, Reads, IsOutcome, program, Loads, Fine, IsNext, Moves, Stops, Law}
 use Rattle.ijvm_simulation.proofs.Decoded.{decoded}
 use Rattle.ijvm_simulation.proofs.Cases.{says}

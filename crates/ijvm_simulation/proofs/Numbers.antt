@@ -1,11 +1,6 @@
 -- Signed operands of one byte and of two, as words.
-use Rattle.std.proofs.Common.{◌≡◌, ℕ, suc, ◌+◌, ◌-◌, ◌*◌, ◌<◌, ◌≤◌, Bool, true, false, refl, arith}
-use Rattle.std.specs.Prelude.{nat_lt, if◌then◌else◌, pos, negsuc}
-use Rattle.std.specs.Int.{w8, w16, cast_signed}
-use mir.Val.{sel}
-use Rattle.std.proofs.lemmas.Bool.Decides.{nat_tests}
-use Rattle.mic_words.specs.Prelude.{signed_byte, signed_pair}
-use Rattle.ijvm_instr.specs.Prelude.{word_of}
+use Rattle.ijvm_simulation.proofs.Common.{◌≡◌, ℕ, suc, ◌+◌, ◌-◌, ◌*◌, ◌<◌, ◌≤◌, Bool, true, false, refl, arith, nat_lt, if◌then◌else◌, pos, negsuc, w8, w16}
+use Rattle.ijvm_simulation.proofs.Common.{cast_signed, sel, nat_tests, signed_byte, signed_pair, word_of}
 
 -- a signed byte is the same word for both
 pub byte_word : (x : ℕ) → x < 256 → word_of (cast_signed w8 x) ≡ signed_byte x

@@ -1,9 +1,6 @@
 -- Passes: their first step, and the rest.
-use Rattle.std.proofs.Common.{◌≡◌, ℕ, true, false, Option, Some, None, List, refl, arith, sym, ◌∙◌, inl, inr}
-use Rattle.std.proofs.lemmas.Bool.{cases_Bool}
-use Rattle.std.proofs.lemmas.Bool.Decides.{nat_tests}
-use Rattle.std.proofs.lemmas.Option.{same_Some}
-use Rattle.mic_clock.specs.Prelude.{Meaning, Outcome, Done, Refused}
+use Rattle.ijvm_simulation.proofs.Common.{◌≡◌, ℕ, true, false, Option, Some, None, List, refl, arith, sym, ◌∙◌, inl, inr, cases_Bool, nat_tests, same_Some}
+use Rattle.ijvm_simulation.proofs.Common.{Meaning, Outcome, Done, Refused}
 use Rattle.ijvm_simulation.specs.Passes.{Moment, is_inside, last, onward, onward-inside}
 
 module _ {State : Type 0} (m : Meaning State) where

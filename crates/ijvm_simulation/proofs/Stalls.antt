@@ -1,16 +1,8 @@
 -- The stalls that a clocked machine has counted at each boundary of its run.
-use Rattle.std.proofs.Common.{◌≡◌, ℕ, suc, ◌+◌, ◌<◌, Some, false, List, refl, arith, sym, ◌∙◌, ap, ap₂, subst, zero-add}
-use Rattle.std.specs.Prelude.{nat_le}
-use Rattle.std.proofs.lemmas.Bool.Decides.{nat_tests}
-use Rattle.console_port.specs.Prelude.{World}
-use Rattle.mic_clock.specs.Prelude.{Meaning, MicroRun, turns}
-use Rattle.ijvm_image.specs.Prelude.{ImageView}
-use Rattle.ijvm_instr.specs.declared.instr.Instr.{Instr}
-use Rattle.ijvm_instr.specs.Prelude.{instr_at}
+use Rattle.ijvm_simulation.proofs.Common.{◌≡◌, ℕ, suc, ◌+◌, ◌<◌, Some, false, List, refl, arith, sym, ◌∙◌, ap, ap₂, subst, zero-add, nat_le, nat_tests, World}
+use Rattle.ijvm_simulation.proofs.Common.{Meaning, MicroRun, turns, ImageView, Instr, instr_at, VerifiedView, reset_run}
 use Rattle.ijvm_meaning.specs.Prelude.{State, start_of, Goes, Limits, step_outcome, Timing, cost, cost_at, next_cost, TimedImage, Point, point_after, first_point}
-use Rattle.verifier_facts.specs.Prelude.{VerifiedView}
 use Rattle.ijvm_simulation.specs.Prelude.{Origin, Went, Overran, program, Loads, Fine, IsNext, IsBoundary, Law, Boots, reset_moment, MovesWithStalls, OverrunsWithStalls, TakesWithStalls, HasStalled, StoppedWithin, Booted, Behind}
-use Rattle.mic_image_board.specs.Prelude.{reset_run}
 use Rattle.ijvm_simulation.proofs.Turns.{moment_of, turns-add}
 use Rattle.ijvm_simulation.proofs.Instruction.{Law as BoundaryLaw, Keeps, arrives, ready, near, instructions, overrun}
 use Rattle.ijvm_simulation.proofs.Next.{Known, fine_start, keeps, next_of, said, boundary_law}

@@ -1,10 +1,6 @@
 -- What holds of one store that ships, where it is given with its entry, holds of all that ship.
-use Rattle.std.proofs.Common.{◌≡◌, ℕ, List, Option, sym, subst}
-use Rattle.std.specs.Prelude.{Result, Ok, Err}
-use Rattle.console_port.specs.Prelude.{World}
-use Rattle.mic_clock.specs.Prelude.{Meaning, MicroRun, BoardView}
+use Rattle.ijvm_simulation.proofs.Common.{◌≡◌, ℕ, List, Option, sym, subst, Result, Ok, Err, World, Meaning, MicroRun, BoardView, VerifiedView}
 use Rattle.ijvm_meaning.specs.Prelude.{Timing}
-use Rattle.verifier_facts.specs.Prelude.{VerifiedView}
 use Rattle.ijvm_simulation.specs.Prelude.{told_of, Begins, IsAtMoment, HasRun, IsCutByRead, IsCutByWrite, Promises, interpretation, RunsAsDefined, IsCutWhereReadFails, IsCutWhereWriteFails}
 
 module _ {M S : Type 0} (state : M → S) (m : Meaning S) (IsReady : ℕ → List ℕ → ℕ → S → World → Type 0) (IsShipped : List ℕ → Type 0) (entry : ℕ) (timing : Timing)

@@ -1,9 +1,7 @@
 -- A pass is a number of turns of a run.
-use Rattle.std.proofs.Common.{◌≡◌, ℕ, zero, suc, ◌+◌, ◌-◌, ◌<◌, Bool, true, false, Option, Some, None, List, refl, arith, sym, ◌∙◌, ap, ap₂, zero-add, suc-add}
-use Rattle.std.specs.Prelude.{nat_le, ◌==◌, ◌&&◌, is_some}
-use Rattle.std.proofs.lemmas.Bool.Decides.{nat_tests}
-use Rattle.mic_clock.specs.declared.end.End.{End}
-use Rattle.mic_clock.specs.Prelude.{Meaning, Outcome, Done, MicroRun, turn, turn_by, turns, bounded, bounded_by, end_before, after_end_or_step, after_step, last_cycles, number_of}
+use Rattle.ijvm_simulation.proofs.Common.{◌≡◌, ℕ, zero, suc, ◌+◌, ◌-◌, ◌<◌, Bool, true, false, Option, Some, None, List, refl, arith, sym, ◌∙◌, ap, ap₂}
+use Rattle.ijvm_simulation.proofs.Common.{zero-add, suc-add, nat_le, ◌==◌, ◌&&◌, is_some, nat_tests, End, Meaning, Outcome, Done, MicroRun, turn, turn_by}
+use Rattle.ijvm_simulation.proofs.Common.{turns, bounded, bounded_by, end_before, after_end_or_step, after_step, last_cycles, number_of}
 use Rattle.ijvm_simulation.specs.Passes.{Moment, is_inside, outcome_at, stalls_at, pass, last, pass_on}
 use Rattle.ijvm_simulation.proofs.Passes.{not_boundary, Inner, inner, Last, last_is}
 

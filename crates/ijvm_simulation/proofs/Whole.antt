@@ -1,11 +1,6 @@
 -- The whole run of a machine of which it is known what each instruction takes: it is the definition's run.
-use Rattle.std.proofs.Common.{◌≡◌, ℕ, zero, suc, ◌+◌, ◌-◌, ◌<◌, ◌≤◌, true, false, Some, None, List, refl, arith, sym, ◌∙◌, ap, subst, inl, inr}
-use Rattle.std.specs.Prelude.{nat_le}
-use Rattle.std.proofs.lemmas.Bool.{cases_lt}
-use Rattle.std.proofs.lemmas.Bool.Decides.{nat_tests}
-use Rattle.std.proofs.lemmas.Option.{none-some, same_Some}
-use Rattle.console_port.specs.Prelude.{World}
-use Rattle.mic_clock.specs.Prelude.{Meaning, MicroRun, turns}
+use Rattle.ijvm_simulation.proofs.Common.{◌≡◌, ℕ, zero, suc, ◌+◌, ◌-◌, ◌<◌, ◌≤◌, true, false, Some, None, List, refl, arith, sym, ◌∙◌, ap, subst, inl, inr}
+use Rattle.ijvm_simulation.proofs.Common.{nat_le, cases_lt, nat_tests, none-some, same_Some, World, Meaning, MicroRun, turns}
 use Rattle.ijvm_meaning.specs.declared.run.RunEnd.TheVariants as defined
 use Rattle.ijvm_meaning.specs.Prelude.{State, TimedImage, Point, Finish, point_after, finish_from, after_test, stopped}
 use Rattle.ijvm_simulation.specs.Prelude.{point_behind, board_end, IsBoundary, IsEnd, Simulates}

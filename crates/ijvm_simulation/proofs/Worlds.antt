@@ -1,12 +1,8 @@
 -- What each microstep of a machine leaves of the world, all turns of a run leave.
-use Rattle.std.proofs.Common.{◌≡◌, ◌++◌, [], append_assoc, ℕ, zero, suc, ◌+◌, ◌-◌, ◌≤◌, Bool, true, false, Option, Some, None, List, refl, arith, sym, ◌∙◌, ap, subst, inl, inr}
-use Rattle.std.specs.Prelude.{nat_le, if◌then◌else◌}
-use Rattle.std.proofs.lemmas.Bool.{cases_lt}
-use Rattle.std.proofs.lemmas.List.{append-nil}
-use Rattle.console_port.specs.Prelude.{World}
-use Rattle.mic_clock.specs.declared.end.End.{End}
+use Rattle.ijvm_simulation.proofs.Common.{◌≡◌, ◌++◌, [], append_assoc, ℕ, zero, suc, ◌+◌, ◌-◌, ◌≤◌, Bool, true, false, Option, Some, None, List, refl, arith}
+use Rattle.ijvm_simulation.proofs.Common.{sym, ◌∙◌, ap, subst, inl, inr, nat_le, if◌then◌else◌, cases_lt, append-nil, World, End, Meaning, Outcome, Done}
+use Rattle.ijvm_simulation.proofs.Common.{Refused, MicroRun, turn, turn_by, turns, bounded, bounded_by, after_end_or_step, after_step, end_before, word_at}
 use Rattle.mic_clock.specs.declared.end.End.TheVariants as ends
-use Rattle.mic_clock.specs.Prelude.{Meaning, Outcome, Done, Refused, MicroRun, turn, turn_by, turns, bounded, bounded_by, after_end_or_step, after_step, end_before, word_at}
 use Rattle.ijvm_simulation.specs.Prelude.{OnDone, Grows}
 use Rattle.ijvm_simulation.proofs.Turns.{whole_turn, turns-add, ended_stays}
 

@@ -1,10 +1,8 @@
 -- Accesses at addresses of the memory, which has its words below `top`, and at the console.
 use Rattle.std.proofs.Common.{◌≡◌, ℕ, ◌%◌, ◌/◌, ◌<◌, ◌≤◌, Some, None, true, false, List, [], ◌∷◌, ◌++◌, length, drop, arith, ap}
 use Rattle.std.specs.Prelude.{slice_index, slice_set, nat_lt}
-use Rattle.std.proofs.lemmas.Bool.Decides.{nat_tests}
-use Rattle.std.proofs.lemmas.List.{set_past}
-use Rattle.mic_words.specs.Prelude.{wrap, plus}
-use Rattle.console_port.specs.Prelude.{World, StackLimit, next_byte, read_value, untaken_after, given_after, read_refusal, write_refusal, fetch_refusal}
+use Rattle.ijvm_simulation.specs.Common.{nat_tests, set_past, wrap, plus, World, StackLimit, next_byte, read_value, untaken_after, given_after, read_refusal}
+use Rattle.ijvm_simulation.specs.Common.{write_refusal, fetch_refusal}
 
 -- where the memory of a map may end
 pub record IsMapEnd (top : ℕ) : Type 0 where

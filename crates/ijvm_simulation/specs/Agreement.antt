@@ -1,8 +1,7 @@
 -- That two machines agree: run over one image and one input, they end alike with the same output, where neither meets its bound.
 use Rattle.std.specs.Prelude.{◌≡◌, ◌≢◌, ℕ, List, Option, Some, IfSome}
-use Rattle.mic_clock.specs.Prelude.{BoardView}
+use Rattle.ijvm_simulation.specs.Common.{BoardView, VerifiedView}
 use Rattle.mic_clock.specs.declared.end.End.TheVariants as clocked
-use Rattle.verifier_facts.specs.Prelude.{VerifiedView}
 use Rattle.ijvm_simulation.specs.Interpretation.{Interpretation}
 use Rattle.ijvm_simulation.specs.Headline.{HasRun}
 

@@ -1,9 +1,7 @@
 -- The bytes of an instruction, as a machine meets them: the opcode, and what the bytes after it say of the operands, where a signed one is a word.
 use Rattle.std.specs.Prelude.{◌≡◌, ◌⊎◌, ℕ, ◌+◌, ◌*◌}
-use Rattle.mic_words.specs.Prelude.{signed_byte, signed_pair}
-use Rattle.ijvm_instr.specs.declared.instr.Instr.{Instr}
+use Rattle.ijvm_simulation.specs.Common.{signed_byte, signed_pair, Instr, word_of}
 use Rattle.ijvm_instr.specs.declared.instr.Instr.TheVariants.{Nop, Bipush, LdcW, Iload, Istore, Pop, Dup, Swap, Iadd, Isub, Iand, Iinc, Ifeq, Iflt, IfIcmpeq, Goto, Ireturn, Ior, Invokevirtual, WideIload, WideIstore, WideIinc, In, Out, Err, Halt}
-use Rattle.ijvm_instr.specs.Prelude.{word_of}
 
 -- the six bytes from an opcode on, of which an instruction may have fewer
 abbrev pub Reads : ℕ → ℕ → ℕ → ℕ → ℕ → ℕ → Instr → Type 0

@@ -2,15 +2,10 @@
 use Rattle.std.proofs.Common.{◌≡◌, ℕ, suc, ◌+◌, ◌-◌, ◌*◌, ◌<◌, ◌≤◌, ◌⊎◌, inl, inr, None, Some, Option}
 use Rattle.std.proofs.Common.{List, ◌∷◌, ◌++◌, length, take, drop, replicate, refl, arith, sym, ◌∙◌, ap, ap₂, subst}
 use Rattle.std.specs.Prelude.{slice_index, slice_set, slice_get}
-use Rattle.std.proofs.lemmas.Bool.{cases_lt}
-use Rattle.std.proofs.lemmas.Option.{same_Some}
-use Rattle.mic_words.specs.Prelude.{plus, minus, next}
-use Rattle.console_port.specs.Prelude.{World, StackLimit, read_value, untaken_after, given_after, after_read, after_write, byte_in, read_refusal, write_refusal}
-use Rattle.ijvm_image.specs.declared.method.Method.{Method}
-use Rattle.ijvm_image.specs.Prelude.{method_at}
+use Rattle.ijvm_simulation.specs.Common.{cases_lt, same_Some, plus, minus, next, World, StackLimit, read_value, untaken_after, given_after, after_read}
+use Rattle.ijvm_simulation.specs.Common.{after_write, byte_in, read_refusal, write_refusal, Method, method_at, Frame, State, base, kept_words}
+use Rattle.ijvm_simulation.specs.Common.{called as frame_of_call, onto, in_method, VerifiedView}
 use Rattle.ijvm_instr.specs.declared.instr.Instr.TheVariants.{Ireturn}
-use Rattle.ijvm_meaning.specs.Prelude.{Frame, State, base, kept_words, called as frame_of_call, onto, in_method}
-use Rattle.verifier_facts.specs.Prelude.{VerifiedView}
 use Rattle.ijvm_simulation.specs.Stands.{Origin, RegistersStand, FramesStand, IsLinked, caller_lv}
 use Rattle.ijvm_simulation.specs.Verified.{Loads, IsNext}
 use Rattle.ijvm_simulation.specs.Outcomes.{WithMethod, Returns, Fits, Overflows}

@@ -1,11 +1,8 @@
 -- The headline of a machine that was clocked over a verified image from its reset, with the store that ships: its run
 -- stands for the definition's run, and the board that is left shows where that run ended, or where a fault cut it.
 use Rattle.std.specs.Prelude.{◌≡◌, ◌⊎◌, ℕ, List, [], ◌++◌, replicate, Option, Some, IfSome, IsSome, unwrap_or, false}
-use Rattle.console_port.specs.Prelude.{HasTextWords, IsLoaded, Untaken, LosesLast, World}
-use Rattle.mic_clock.specs.Prelude.{Meaning, ReadsConsole, UsesConsole, BoardView, MicroRun, turns, word_at, IsClocking}
-use Rattle.mic_image_board.specs.Prelude.{reset_run}
-use Rattle.ijvm_meaning.specs.Prelude.{Timing, Finish, first_point, EndsBy}
-use Rattle.verifier_facts.specs.Prelude.{VerifiedView}
+use Rattle.ijvm_simulation.specs.Common.{HasTextWords, IsLoaded, Untaken, LosesLast, World, Meaning, ReadsConsole, UsesConsole, BoardView, MicroRun, turns}
+use Rattle.ijvm_simulation.specs.Common.{word_at, IsClocking, reset_run, Timing, Finish, first_point, EndsBy, VerifiedView}
 use Rattle.ijvm_simulation.specs.Stands.{IsAt}
 use Rattle.ijvm_simulation.specs.Simulates.{Simulates, IsEnd}
 use Rattle.ijvm_simulation.specs.Verified.{program}

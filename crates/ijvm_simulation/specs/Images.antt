@@ -1,14 +1,8 @@
 -- A verified image in the memory: where it ends, where its jumps come to, and the first state of its run.
 use Rattle.std.proofs.Common.{◌≡◌, ℕ, zero, suc, ◌+◌, ◌<◌, ℤ, Option, Some, List, length, replicate, refl, sym, arith, ◌∙◌, ap, inl, inr}
 use Rattle.std.specs.Prelude.{slice_get}
-use Rattle.std.proofs.lemmas.List.{length-replicate, append-nil}
-use Rattle.std.proofs.lemmas.List.Elements.{All-get_or}
-use Rattle.mic_words.specs.Prelude.{plus, signed_pair}
-use Rattle.console_port.specs.Prelude.{byte_in}
-use Rattle.ijvm_instr.specs.declared.instr.Instr.{Instr}
-use Rattle.ijvm_instr.specs.Prelude.{word_of, target}
-use Rattle.ijvm_meaning.specs.Prelude.{State, HasWords, start_of, frames_of}
-use Rattle.verifier_facts.specs.Prelude.{VerifiedView}
+use Rattle.ijvm_simulation.specs.Common.{length-replicate, append-nil, All-get_or, plus, signed_pair, byte_in, Instr, word_of, target, State, HasWords}
+use Rattle.ijvm_simulation.specs.Common.{start_of, frames_of, VerifiedView}
 use Rattle.ijvm_simulation.specs.Stands.{Origin, RegistersStand, IsMemory}
 use Rattle.ijvm_simulation.specs.Verified.{Loads, Fine, IsNext}
 use Rattle.ijvm_simulation.specs.Accesses.{IsMapEnd}

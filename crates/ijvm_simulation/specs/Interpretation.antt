@@ -1,8 +1,6 @@
 -- A machine as an interpreter of IJVM, with the store that ships for it.
 use Rattle.std.specs.Prelude.{◌≡◌, ℕ, List}
-use Rattle.console_port.specs.Prelude.{World}
-use Rattle.mic_clock.specs.Prelude.{Meaning}
-use Rattle.ijvm_meaning.specs.Prelude.{Timing}
+use Rattle.ijvm_simulation.specs.Common.{World, Meaning, Timing}
 
 -- a machine's meaning, when its next instruction is ready, the words of its store, where a run begins, and what is spent
 pub record Interpretation (M S : Type 0) : Type 1 where

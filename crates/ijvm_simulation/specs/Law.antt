@@ -1,11 +1,7 @@
 -- What one instruction takes of a machine, and what a machine promises that interprets a verified image.
 use Rattle.std.specs.Prelude.{◌≡◌, ◌⊎◌, ℕ, ◌+◌, ◌-◌, ◌<◌, ◌==◌, true, false, Some, List, ◌++◌, slice_index}
-use Rattle.console_port.specs.Prelude.{World, StackLimit}
-use Rattle.mic_clock.specs.Prelude.{Meaning, Outcome, Done, Refused}
-use Rattle.ijvm_instr.specs.declared.instr.Instr.{Instr}
+use Rattle.ijvm_simulation.specs.Common.{World, StackLimit, Meaning, Outcome, Done, Refused, Instr, State, sp_of, lv_of, Timing, cost, VerifiedView}
 use Rattle.ijvm_instr.specs.declared.instr.Instr.TheVariants.{Err, Halt}
-use Rattle.ijvm_meaning.specs.Prelude.{State, sp_of, lv_of, Timing, cost}
-use Rattle.verifier_facts.specs.Prelude.{VerifiedView}
 use Rattle.ijvm_simulation.specs.Stands.{Origin}
 use Rattle.ijvm_simulation.specs.Passes.{Moment, is_inside, outcome_at, pass}
 use Rattle.ijvm_simulation.specs.Outcomes.{Went, Overran}

@@ -3,13 +3,9 @@
 use Rattle.std.proofs.Common.{◌≡◌, ◌≢◌, ℕ, suc, ◌+◌, ◌-◌, ◌%◌, ◌<◌, ◌≤◌, ◌==◌, Bool, true, false, None, Some, List}
 use Rattle.std.proofs.Common.{[], ◌∷◌, ◌++◌, length, drop, refl, arith, sym, ◌∙◌, ap, ap₂, subst, append_assoc, All, length-set}
 use Rattle.std.specs.Prelude.{slice_set, slice_get, ℤ}
-use Rattle.std.proofs.lemmas.List.{set_comm}
-use Rattle.std.proofs.lemmas.List.Elements.{All-get_or}
-use Rattle.std.proofs.lemmas.Option.{slice_get_within}
-use Rattle.mic_words.specs.Prelude.{plus, minus, next, before}
-use Rattle.console_port.specs.Prelude.{World, StackLimit, next_byte, read_value, untaken_after, after_read, after_write, read_refusal, write_refusal}
-use Rattle.ijvm_meaning.specs.Prelude.{Frame, State, IsWord, frames_of, operands_at, base, tests, are_equal, moved, is_own, with_local, way, taken}
-use Rattle.verifier_facts.specs.Prelude.{VerifiedView}
+use Rattle.ijvm_simulation.specs.Common.{set_comm, All-get_or, slice_get_within, plus, minus, next, before, World, StackLimit, next_byte, read_value}
+use Rattle.ijvm_simulation.specs.Common.{untaken_after, after_read, after_write, read_refusal, write_refusal, Frame, State, IsWord, frames_of, operands_at}
+use Rattle.ijvm_simulation.specs.Common.{base, tests, are_equal, moved, is_own, with_local, way, taken, VerifiedView}
 use Rattle.ijvm_simulation.specs.Stands.{Origin, RegistersStand, FramesStand, IsTop}
 use Rattle.ijvm_simulation.specs.Verified.{Loads, Fine}
 use Rattle.ijvm_simulation.specs.Outcomes.{WithTop, WithTwo, WithLocal, Stores, Fits, Overflows, push}

@@ -1,14 +1,8 @@
 -- The constants and the methods of a verified image in the memory, and the operands of a call.
 use Rattle.std.proofs.Common.{◌≡◌, ℕ, zero, suc, ◌+◌, ◌*◌, ◌<◌, Bool, true, false, Some, None, Option, List, [], ◌∷◌, ◌++◌, length, take, drop, replicate, refl, arith, sym, ◌∙◌, ap, ap₂, subst}
 use Rattle.std.specs.Prelude.{slice_index, slice_get, nat_lt, if◌then◌else◌}
-use Rattle.std.proofs.lemmas.Bool.Decides.{nat_tests}
-use Rattle.std.proofs.lemmas.List.{length-replicate}
-use Rattle.std.proofs.lemmas.Option.{slice_get_within, get_or_from_slice_get, same_Some}
-use Rattle.console_port.specs.Prelude.{byte_in}
-use Rattle.ijvm_image.specs.declared.method.Method.{Method}
-use Rattle.ijvm_image.specs.Prelude.{method_at, params, others}
-use Rattle.ijvm_meaning.specs.Prelude.{onto}
-use Rattle.verifier_facts.specs.Prelude.{VerifiedView}
+use Rattle.ijvm_simulation.specs.Common.{nat_tests, length-replicate, slice_get_within, get_or_from_slice_get, same_Some, byte_in, Method, method_at, params}
+use Rattle.ijvm_simulation.specs.Common.{others, onto, VerifiedView}
 use Rattle.ijvm_simulation.specs.Stands.{Origin}
 use Rattle.ijvm_simulation.specs.Verified.{Loads}
 

@@ -1,13 +1,8 @@
 -- What each instruction finds in a state, and the state that it leads to: the step of the definition, read from its end.
 use Rattle.std.specs.Prelude.{◌≡◌, ℕ, suc, ◌+◌, ◌<◌, ◌≤◌, ◌%◌, ◌==◌, true, List, [], ◌∷◌, ◌++◌, length, slice_get, Option, Some, bit_and, bit_or}
-use Rattle.mic_words.specs.Prelude.{plus, minus, is_negative}
-use Rattle.console_port.specs.Prelude.{next_byte}
-use Rattle.ijvm_instr.specs.declared.instr.Instr.{Instr}
+use Rattle.ijvm_simulation.specs.Common.{plus, minus, is_negative, next_byte, Instr, word_of, target, Method, ImageView, method_at, Frame, State, frames_of}
+use Rattle.ijvm_simulation.specs.Common.{base, StepOutcome, Goes, Halts, Errs, Limits, Stuck, is_own, moved, with_local, way, in_method, taken}
 use Rattle.ijvm_instr.specs.declared.instr.Instr.TheVariants.{Nop, Bipush, LdcW, Iload, Istore, Pop, Dup, Swap, Iadd, Isub, Iand, Iinc, Ifeq, Iflt, IfIcmpeq, Goto, Ireturn, Ior, Invokevirtual, WideIload, WideIstore, WideIinc, In, Out, Err, Halt}
-use Rattle.ijvm_instr.specs.Prelude.{word_of, target}
-use Rattle.ijvm_image.specs.declared.method.Method.{Method}
-use Rattle.ijvm_image.specs.Prelude.{ImageView, method_at}
-use Rattle.ijvm_meaning.specs.Prelude.{Frame, State, frames_of, base, StepOutcome, Goes, Halts, Errs, Limits, Stuck, is_own, moved, with_local, way, in_method, taken}
 
 -- the operands have a top, and this holds of it and of those below it
 pub record WithTop (operands : List ℕ) (Leads : ℕ → List ℕ → Type 0) : Type 0 where

@@ -1,8 +1,7 @@
 -- Passes: the microsteps of a machine from one boundary to the next.
 use Rattle.std.proofs.Common.{◌≡◌, ℕ, zero, suc, ◌+◌, ◌∙◌, ap₂, Bool, true, false, Option, Some, None, List}
 use Rattle.std.specs.Prelude.{not, ◌||◌, ◌==◌}
-use Rattle.console_port.specs.Prelude.{World}
-use Rattle.mic_clock.specs.Prelude.{Meaning, Outcome, Done, Refused, number_of, word_at}
+use Rattle.ijvm_simulation.specs.Common.{World, Meaning, Outcome, Done, Refused, number_of, word_at}
 
 -- where a pass stands: the state, the world, and the stalls that are counted
 pub record Moment (State : Type 0) : Type 0 where

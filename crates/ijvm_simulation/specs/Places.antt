@@ -1,8 +1,6 @@
 -- Places of the text, as a machine comes to them that takes its bytes from a fetch unit: PC after an opcode, and what it becomes as one byte or two are taken.
 use Rattle.std.proofs.Common.{◌≡◌, ℕ, ◌+◌, ◌*◌, ◌^◌, ◌<◌, List, refl, sym, arith, ◌∙◌, ap, ap₂}
-use Rattle.mic_words.specs.Prelude.{wrap, plus, before, signed_pair}
-use Rattle.console_port.specs.Prelude.{byte_in}
-use Rattle.ijvm_image.specs.declared.method.Method.{Method}
+use Rattle.ijvm_simulation.specs.Common.{wrap, plus, before, signed_pair, byte_in, Method}
 use Rattle.ijvm_simulation.specs.Words.{before_is, plus_comm}
 use Rattle.ijvm_simulation.specs.Images.{jump}
 

@@ -1,9 +1,6 @@
 -- What a machine promises of the store that ships for it, over every verified image that stands in the memory.
 use Rattle.std.specs.Prelude.{ℕ, List}
-use Rattle.console_port.specs.Prelude.{World}
-use Rattle.mic_clock.specs.Prelude.{Meaning}
-use Rattle.ijvm_meaning.specs.Prelude.{Timing, start_of}
-use Rattle.verifier_facts.specs.Prelude.{VerifiedView}
+use Rattle.ijvm_simulation.specs.Common.{World, Meaning, Timing, start_of, VerifiedView}
 use Rattle.ijvm_simulation.specs.Interpretation.{Interpretation}
 use Rattle.ijvm_simulation.specs.Law.{Law, Boots, OnDone, Grows, reset_moment}
 use Rattle.ijvm_simulation.specs.Stands.{Origin, IsAt}

@@ -1,13 +1,9 @@
 -- That a clocked run is the definition's run: boundary by boundary, with its cycles, and in its end.
 use Rattle.std.specs.Prelude.{◌≡◌, ◌≢◌, ℕ, zero, suc, ◌<◌, Bool, true, false, nat_le, List, ◌++◌, Option, Some, None}
-use Rattle.console_port.specs.Prelude.{World}
-use Rattle.mic_clock.specs.declared.counts.Boundary.{Boundary}
-use Rattle.mic_clock.specs.declared.end.End.{End}
+use Rattle.ijvm_simulation.specs.Common.{World, Boundary, End, Meaning, MicroRun, turns, RunEnd, State, sp_of, lv_of, StepOutcome, Goes, step_outcome}
+use Rattle.ijvm_simulation.specs.Common.{TimedImage, Point, Finish, point_after, EndsBy}
 use Rattle.mic_clock.specs.declared.end.End.TheVariants as clocked
-use Rattle.mic_clock.specs.Prelude.{Meaning, MicroRun, turns}
-use Rattle.ijvm_meaning.specs.declared.run.RunEnd.{RunEnd}
 use Rattle.ijvm_meaning.specs.declared.run.RunEnd.TheVariants as defined
-use Rattle.ijvm_meaning.specs.Prelude.{State, sp_of, lv_of, StepOutcome, Goes, step_outcome, TimedImage, Point, Finish, point_after, EndsBy}
 
 -- what comes after an outcome, where the run goes on; `more` is the rest of the run
 abbrev pub going_on : (Point → Option Point) → TimedImage → Point → StepOutcome → Option Point

@@ -1,10 +1,7 @@
 -- What a machine at a boundary knows of its stack, and what it stands for after a push, and after operands are taken off.
 use Rattle.std.proofs.Common.{◌≡◌, ℕ, suc, ◌+◌, ◌-◌, ◌<◌, ◌≤◌, List, [], ◌∷◌, ◌++◌, length, refl, arith, ◌∙◌, ap, sym, subst}
 use Rattle.std.specs.Prelude.{slice_index, slice_set}
-use Rattle.mic_words.specs.Prelude.{before}
-use Rattle.console_port.specs.Prelude.{World, read_value}
-use Rattle.ijvm_meaning.specs.Prelude.{Frame, State, frames_of, operands_at, base, moved}
-use Rattle.verifier_facts.specs.Prelude.{VerifiedView}
+use Rattle.ijvm_simulation.specs.Common.{before, World, read_value, Frame, State, frames_of, operands_at, base, moved, VerifiedView}
 use Rattle.ijvm_simulation.specs.Stands.{Origin, RegistersStand, FramesStand, OperandsAt, IsTop, IsMemory}
 use Rattle.ijvm_simulation.specs.Verified.{Loads}
 use Rattle.ijvm_simulation.specs.Words.{before_is}

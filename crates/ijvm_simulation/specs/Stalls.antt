@@ -1,20 +1,14 @@
 -- How many of its cycles stall: what a machine promises of its boot and of each instruction, and what its clock then has counted at each boundary of a run.
 use Rattle.std.specs.Prelude.{◌≡◌, ℕ, ◌+◌, ◌<◌, ◌≤◌, List, Some}
-use Rattle.console_port.specs.Prelude.{World}
-use Rattle.mic_clock.specs.Prelude.{Meaning, MicroRun, turns}
+use Rattle.ijvm_simulation.specs.Common.{World, Meaning, MicroRun, turns, ImageView, Instr, instr_at, State, start_of, Goes, Limits, step_outcome, TimedImage}
+use Rattle.ijvm_simulation.specs.Common.{Point, point_after, first_point, Timing, cost, VerifiedView, reset_run}
 use Rattle.mic_clock.specs.declared.end.End.TheVariants as clocked
-use Rattle.ijvm_image.specs.Prelude.{ImageView}
-use Rattle.ijvm_instr.specs.declared.instr.Instr.{Instr}
-use Rattle.ijvm_instr.specs.Prelude.{instr_at}
-use Rattle.ijvm_meaning.specs.Prelude.{State, start_of, Goes, Limits, step_outcome, TimedImage, Point, point_after, first_point, Timing, cost}
-use Rattle.verifier_facts.specs.Prelude.{VerifiedView}
 use Rattle.ijvm_simulation.specs.Interpretation.{Interpretation}
 use Rattle.ijvm_simulation.specs.Stands.{Origin, IsAt}
 use Rattle.ijvm_simulation.specs.Passes.{Moment}
 use Rattle.ijvm_simulation.specs.Outcomes.{Went, Overran}
 use Rattle.ijvm_simulation.specs.Verified.{program, Loads, Fine, IsNext}
 use Rattle.ijvm_simulation.specs.Law.{Moves, Overruns, reset_moment}
-use Rattle.mic_image_board.specs.Prelude.{reset_run}
 
 module _ {S : Type 0} (m : Meaning S) (words : List ℕ) (IsAt : State → S → World → Type 0) (before : List ℕ) where
   -- this many cycles, of which this many stall, lead from a boundary to the next, which stands for this state

@@ -1,8 +1,6 @@
 -- When registers, memory and console stand for a state of the plain machine: its frames lie in memory as chapter 4 of the book lays them out.
 use Rattle.std.specs.Prelude.{◌≡◌, ℕ, ◌+◌, ◌<◌, ◌≤◌, List, [], ◌∷◌, ◌++◌, length, slice_index, slice_get, Option, Some, None}
-use Rattle.console_port.specs.Prelude.{World}
-use Rattle.mic_clock.specs.Prelude.{Meaning}
-use Rattle.ijvm_meaning.specs.Prelude.{Frame, State, frames_of, operands_at, base, lv_of}
+use Rattle.ijvm_simulation.specs.Common.{World, Meaning, Frame, State, frames_of, operands_at, base, lv_of}
 
 -- what a run is over: the memory's words when it began, and the bytes that had been given before
 pub record Origin : Type 0 where

@@ -1,12 +1,8 @@
 -- How a run ends from its reset over a verified image, with the store that ships, no matter what clocks it.
 use Rattle.std.specs.Prelude.{◌≡◌, ℕ, List, Option, Some, false}
-use Rattle.console_port.specs.Prelude.{Untaken}
-use Rattle.mic_clock.specs.declared.end.End.{End}
-use Rattle.mic_clock.specs.Prelude.{Meaning, BoardView, IsLedTo, Leads, ShowsRun}
-use Rattle.ijvm_meaning.specs.Prelude.{Timing, Finish, first_point, EndsBy}
-use Rattle.verifier_facts.specs.Prelude.{VerifiedView}
+use Rattle.ijvm_simulation.specs.Common.{Untaken, End, Meaning, BoardView, IsLedTo, Leads, ShowsRun, Timing, Finish, first_point, EndsBy, VerifiedView}
+use Rattle.ijvm_simulation.specs.Common.{IsAtReset}
 use Rattle.ijvm_simulation.specs.Simulates.{board_end}
-use Rattle.mic_image_board.specs.Prelude.{IsAtReset}
 use Rattle.ijvm_simulation.specs.Verified.{program}
 
 -- the definition's run ends so, over the bytes that a source has left where they are known

@@ -1,10 +1,7 @@
 -- A verified image that a machine runs: its memory when the run begins, and the states that its run comes to.
 use Rattle.std.specs.Prelude.{◌≡◌, ℕ, ◌+◌, ◌<◌, [], length, slice_index}
-use Rattle.console_port.specs.Prelude.{byte_in}
-use Rattle.ijvm_instr.specs.declared.instr.Instr.{Instr}
-use Rattle.ijvm_image.specs.Prelude.{IsImage}
-use Rattle.ijvm_meaning.specs.Prelude.{State, IsWord, AreWords, start_of, Timing, TimedImage, ComesTo}
-use Rattle.verifier_facts.specs.Prelude.{Finds, VerifiedView, IsAccepted}
+use Rattle.ijvm_simulation.specs.Common.{byte_in, Instr, IsImage, State, IsWord, AreWords, start_of, Timing, TimedImage, ComesTo, Finds, VerifiedView}
+use Rattle.ijvm_simulation.specs.Common.{IsAccepted}
 use Rattle.ijvm_simulation.specs.Stands.{Origin}
 use Rattle.ijvm_simulation.specs.Bytes.{Reads}
 

@@ -1,11 +1,7 @@
 -- Words and bytes as an interpreter meets them in its registers: a sum, a difference or a next address that is in range is the number itself.
 use Rattle.std.proofs.Common.{◌≡◌, ℕ, ◌+◌, ◌-◌, ◌/◌, ◌%◌, ◌^◌, ◌<◌, ◌==◌, Bool, true, false, List, [], ◌∷◌, ◌++◌, refl, sym, arith, ◌∙◌, ap, add_comm}
 use Rattle.std.specs.Prelude.{slice_index, nat_lt, if◌then◌else◌}
-use Rattle.std.proofs.lemmas.Bool.Decides.{nat_tests}
-use Rattle.std.proofs.lemmas.List.{append-nil}
-use Rattle.mic_words.specs.Prelude.{wrap, plus, minus, next, before}
-use Rattle.console_port.specs.Prelude.{byte_in, given_after}
-use Rattle.ijvm_meaning.specs.Prelude.{IsWord}
+use Rattle.ijvm_simulation.specs.Common.{nat_tests, append-nil, wrap, plus, minus, next, before, byte_in, given_after, IsWord}
 use Rattle.ijvm_simulation.specs.Law.{Grows}
 
 pub wrap_small : (x : ℕ) → x < 2 ^ 32 → wrap x ≡ x

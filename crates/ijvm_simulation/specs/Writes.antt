@@ -1,9 +1,8 @@
 -- Frames stand in memory after the writes of a push, a store to a local and a call.
 use Rattle.std.proofs.Common.{true, refl, subst, ◌≡◌, ◌≢◌, ℕ, zero, suc, ◌+◌, ◌<◌, ◌≤◌, ◌⊎◌, inl, inr, Option, Some, None, List, [], ◌∷◌, ◌++◌, length, replicate, arith, sym, ap, ◌∙◌, add-zero, get_or-set_same, get_or-set_other, length-set}
 use Rattle.std.specs.Prelude.{slice_index, slice_set, slice_get}
-use Rattle.std.proofs.lemmas.List.{length-replicate}
-use Rattle.std.proofs.lemmas.Option.{slice_get_within, none-some, same_Some}
-use Rattle.ijvm_meaning.specs.Prelude.{is_own, onto, called, Frame, operands_at, frame_end, base, kept_words}
+use Rattle.ijvm_simulation.specs.Common.{length-replicate, slice_get_within, none-some, same_Some, is_own, onto, called, Frame, operands_at, frame_end, base}
+use Rattle.ijvm_simulation.specs.Common.{kept_words}
 use Rattle.ijvm_simulation.specs.Stands.{OperandsAt, IsLinked, FrameStands, FramesStand, caller_lv, IsMemory}
 use Rattle.ijvm_simulation.specs.Methods.{length-onto}
 

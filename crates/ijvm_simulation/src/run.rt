@@ -1,8 +1,7 @@
 //! The run of a verified image on a machine, from its reset to its end.
 
 ghost use Rattle.std.specs.Prelude.{◌≡◌, ◌<◌, ◌≤◌, ◌^◌, Some, IfOk, OnErr, IsSome};
-ghost use Rattle.console_port.specs.Prelude.{SinkGoesOn};
-ghost use Rattle.mic_image_board.specs.Prelude.{IsAtReset};
+ghost use Rattle.ijvm_simulation.specs.Common.{SinkGoesOn, IsAtReset};
 ghost use Rattle.ijvm_simulation.specs.Interpretation.{interpretation, interpretation_with, Reading};
 ghost use Rattle.ijvm_simulation.specs.Answers.{RunsAsDefined, IsCutWhereReadFails, IsCutWhereWriteFails, EndsByCause};
 ghost use Rattle.ijvm_simulation.specs.Promises.{Interprets};

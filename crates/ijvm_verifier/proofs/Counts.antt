@@ -1,21 +1,8 @@
 -- The count of main's locals.
-use Rattle.std.proofs.Common.{◌≡◌, ◌≢◌, ℕ, ◌+◌, ◌<◌, ◌≤◌, ◌⊎◌, inl, inr, Option, Some, None, List, length, arith, ◌∙◌, ap, sym, subst}
-use Rattle.std.specs.Prelude.{slice_get}
-use Rattle.std.proofs.lemmas.Bool.{cases_lt}
-use Rattle.std.proofs.lemmas.Option.{slice_get_within}
-use Rattle.console_port.specs.declared.map.MemoryMap.{MemoryMap}
-use Rattle.console_port.specs.Prelude.{IsMap}
-use Rattle.ijvm_instr.specs.declared.row.Row.{Row}
-use Rattle.ijvm_image.specs.Prelude.{ImageView}
-use Rattle.verifier_reach.specs.declared.kept.Kept.{Kept}
-use Rattle.verifier_locals.specs.declared.graph.Node.{Node}
-use Rattle.verifier_facts.specs.declared.error.VerifyError.{VerifyError}
-use Rattle.verifier_facts.specs.declared.error.VerifyError.TheVariants.{Overlap, UnsetLocal, MainFrame, OutOfMemory}
-use Rattle.verifier_facts.specs.Prelude.{Arrival, HasRow, Reached, Names, IsMainCount, IsTrueOf, Accepts, at_most, KeepsSound, IsVerified}
-use Rattle.verifier_facts.specs.declared.kind.Kind.{Kind}
-use Rattle.verifier_reach.specs.Prelude.{kept_at, kept_of, IsClosed, IsDecided}
-use Rattle.verifier_locals.specs.Prelude.{IsNodeOf, IsGraph}
-use Rattle.ijvm_verifier.specs.Prelude.{NodeNames, IsCounted, IsSurvey}
+use Rattle.ijvm_verifier.proofs.Common.{◌≡◌, ◌≢◌, ℕ, ◌+◌, ◌<◌, ◌≤◌, ◌⊎◌, inl, inr, Option, Some, None, List, length, arith, ◌∙◌, ap, sym, subst, slice_get}
+use Rattle.ijvm_verifier.proofs.Common.{cases_lt, slice_get_within, MemoryMap, IsMap, Row, ImageView, Kept, Node, VerifyError, Overlap, UnsetLocal, MainFrame}
+use Rattle.ijvm_verifier.proofs.Common.{OutOfMemory, Arrival, HasRow, Reached, Names, IsMainCount, IsTrueOf, Accepts, at_most, KeepsSound, IsVerified, Kind}
+use Rattle.ijvm_verifier.proofs.Common.{kept_at, kept_of, IsClosed, IsDecided, IsNodeOf, IsGraph, NodeNames, IsCounted, IsSurvey}
 
 pub counted_skip : (image : ImageView) (seen : List (Option Kept)) (n count : ℕ) → IsClosed image seen → IsCounted image n count → ((k : Kept) → slice_get seen n ≡ Some (Some k) → k.unit ≢ None) → IsCounted image (n + 1) count
 counted_skip image seen n count closed s other = record {

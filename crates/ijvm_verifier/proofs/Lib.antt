@@ -1,2 +1,3 @@
+pub mod Common
 pub mod Swept
 pub mod Counts

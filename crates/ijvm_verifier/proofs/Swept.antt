@@ -1,18 +1,9 @@
 -- The sweep over the bytes.
-use Rattle.std.proofs.Common.{◌≡◌, ◌≢◌, ℕ, ◌+◌, ◌*◌, ◌<◌, ◌≤◌, ◌⊎◌, inl, inr, zero, suc, Option, Some, None, List, [], ◌∷◌, ◌++◌, length, length-append, refl, arith, ◌∙◌, ap, sym, subst}
-use Rattle.std.specs.Prelude.{slice_get, slice_index_or, Contains}
-use Rattle.std.proofs.lemmas.Bool.{cases_lt, cases_eq}
-use Rattle.std.proofs.lemmas.List.Quantifiers.{all_pairs_push}
+use Rattle.ijvm_verifier.proofs.Common.{◌≡◌, ◌≢◌, ℕ, ◌+◌, ◌*◌, ◌<◌, ◌≤◌, ◌⊎◌, inl, inr, zero, suc, Option, Some, None, List, [], ◌∷◌, ◌++◌, length}
+use Rattle.ijvm_verifier.proofs.Common.{length-append, refl, arith, ◌∙◌, ap, sym, subst, slice_get, slice_index_or, Contains, cases_lt, cases_eq}
+use Rattle.ijvm_verifier.proofs.Common.{all_pairs_push, Row, size_of, ImageView, Kept, Overlap, HasRow, IsReachedMethod, Piece, Code, Header, Covers, IsTrueOf}
+use Rattle.ijvm_verifier.proofs.Common.{IsMethodCount, first, IsKind, Kind, kept_at, kept_of, IsClosed, method_inside, rank, IsSwept, AreMethodsBelow}
 use Rattle.std.proofs.lemmas.List.Elements.{Contains-append_left, Contains-push, Contains-push_cases, Contains-get_or}
-use Rattle.ijvm_instr.specs.declared.row.Row.{Row}
-use Rattle.ijvm_instr.specs.Prelude.{size_of}
-use Rattle.ijvm_image.specs.Prelude.{ImageView}
-use Rattle.verifier_reach.specs.declared.kept.Kept.{Kept}
-use Rattle.verifier_facts.specs.declared.error.VerifyError.TheVariants.{Overlap}
-use Rattle.verifier_facts.specs.Prelude.{HasRow, IsReachedMethod, Piece, Code, Header, Covers, IsTrueOf, IsMethodCount, first, IsKind}
-use Rattle.verifier_facts.specs.declared.kind.Kind.{Kind}
-use Rattle.verifier_reach.specs.Prelude.{kept_at, kept_of, IsClosed, method_inside}
-use Rattle.ijvm_verifier.specs.Prelude.{rank, IsSwept, AreMethodsBelow}
 
 -- one element more at the end
 pub get_push : {X : Type 0} (xs : List X) (y v : X) (i : ℕ) → slice_get (xs ++ y ∷ []) i ≡ Some v → (slice_get xs i ≡ Some v) ⊎ ((i ≡ length xs) × (y ≡ v))

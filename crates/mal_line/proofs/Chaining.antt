@@ -1,19 +1,9 @@
 -- An assignment is read exactly where one is spelled.
-use Rattle.std.proofs.Common.{◌≡◌, ℕ, Bool, true, false, List, [], ◌∷◌, ◌++◌, Option, Some, None, length, drop, take, refl, sym, ap, subst, ◌∙◌, inl, inr, cond}
-use Rattle.std.specs.Prelude.{option_map, bit_or, ◌||◌, ◌&&◌, ◌==◌}
-use Rattle.std.specs.List.{prefix_len, list_all}
-use Rattle.std.proofs.lemmas.List.{take-append-drop}
-use Rattle.std.proofs.Math.Seq.{take-append_seam, drop-append_seam}
-use Rattle.std.proofs.lemmas.Bool.{and_parts, or_right}
-use Rattle.mic_words.specs.declared.machine.Machine.{Machine}
-use Rattle.source_text.specs.Prelude.{begins_with, run_all, run_passes, chosen, mapped}
-use Rattle.mal_tokens.specs.declared.word.Word.{Word}
+use Rattle.mal_line.proofs.Common.{◌≡◌, ℕ, Bool, true, false, List, [], ◌∷◌, ◌++◌, Option, Some, None, length, drop, take, refl, sym, ap, subst, ◌∙◌, inl, inr}
+use Rattle.mal_line.proofs.Common.{cond, option_map, bit_or, ◌||◌, ◌&&◌, ◌==◌, prefix_len, list_all, take-append-drop, take-append_seam, drop-append_seam}
+use Rattle.mal_line.proofs.Common.{and_parts, or_right, Machine, begins_with, run_all, run_passes, chosen, mapped, Word, Token, Operation, Assignment, Tail}
 use Rattle.mal_tokens.specs.declared.sign.Sign.TheVariants as signs
-use Rattle.mal_tokens.specs.declared.token.Token.{Token}
 use Rattle.mal_tokens.specs.declared.token.Token.TheVariants as tokens
-use Rattle.mal_line.specs.declared.operation.Operation.{Operation}
-use Rattle.mal_line.specs.declared.chain.Assignment.{Assignment}
-use Rattle.mal_line.specs.declared.chain.Tail.{Tail}
 use Rattle.mal_line.specs.declared.chain.Tail.TheVariants as tails
 use Rattle.mal_line.specs.Prelude.{bit, dest_bits, dest_tokens, HasCoding, is_dest, is_expr, is_filled, IsAssignment, tail_tokens, coding_of, assigned, chain_at, dest_of, last, on_dest, shifting, tail_of}
 use Rattle.mal_line.proofs.Codings.{coding_again, coding_is}

@@ -1,22 +1,12 @@
 -- The coding of an expression is the one that is looked up for it.
-use Rattle.std.proofs.Common.{◌≡◌, ℕ, Bool, true, false, List, [], ◌∷◌, Option, Some, None, refl, ap, subst, ◌∙◌, inl, inr}
-use Rattle.std.specs.Prelude.{ℤ, pos, negsuc, not, option_and_then, ◌&&◌, nat_lt}
-use Rattle.std.proofs.lemmas.Bool.{and_parts, eqb-true}
-use Rattle.mic_words.specs.declared.machine.Machine.{Machine}
-use Rattle.mic_words.specs.declared.machine.Machine.TheVariants.{Mic1, Mic2}
-use Rattle.source_text.specs.Prelude.{bound, chosen, mapped}
-use Rattle.micro_word.specs.declared.statement.AluOp.{AluOp}
+use Rattle.mal_line.proofs.Common.{◌≡◌, ℕ, Bool, true, false, List, [], ◌∷◌, Option, Some, None, refl, ap, subst, ◌∙◌, inl, inr, ℤ, pos, negsuc, not}
+use Rattle.mal_line.proofs.Common.{option_and_then, ◌&&◌, nat_lt, and_parts, eqb-true, Machine, Mic1, Mic2, bound, chosen, mapped, AluOp, BusSource, Shift, row}
+use Rattle.mal_line.proofs.Common.{fits_side, has_operation, is_h, is_mixed, may_be_a, may_be_b, may_fetch, Token, Operation, Tail}
 use Rattle.micro_word.specs.declared.statement.AluOp.TheVariants as ops
-use Rattle.micro_word.specs.declared.statement.BusSource.{BusSource}
 use Rattle.micro_word.specs.declared.statement.BusSource.TheVariants as bus
-use Rattle.micro_word.specs.declared.statement.Shift.{Shift}
 use Rattle.micro_word.specs.declared.statement.Shift.TheVariants as shifts
-use Rattle.micro_word.specs.Prelude.{row, fits_side, has_operation, is_h, is_mixed, may_be_a, may_be_b, may_fetch}
 use Rattle.mal_tokens.specs.declared.word.Word.TheVariants as words
-use Rattle.mal_tokens.specs.declared.token.Token.{Token}
 use Rattle.mal_tokens.specs.declared.token.Token.TheVariants as tokens
-use Rattle.mal_line.specs.declared.operation.Operation.{Operation}
-use Rattle.mal_line.specs.declared.chain.Tail.{Tail}
 use Rattle.mal_line.specs.declared.chain.Tail.TheVariants as tails
 use Rattle.mal_line.specs.Prelude.{fits, IsCoded, IsOneOf, minus, one_token, other_spellings, plus, side, source_word, spelling, spellings, tail_with, checked, coding_of, operation_in, is_number, from_one_source, paired, shift_of, source_of, with_shift, work}
 use Rattle.mal_line.proofs.Table.{form_is, Commutes, sum, sum_inc, and_op, or_op}

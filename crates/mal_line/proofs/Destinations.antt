@@ -1,14 +1,7 @@
 -- C loads exactly the registers whose words are named.
-use Rattle.std.proofs.Common.{◌≡◌, ℕ, zero, suc, ◌<◌, List, [], ◌∷◌, IsTrue, Contains, refl, sym, ap, subst, ◌∙◌, arith, inl, inr}
-use Rattle.std.specs.Prelude.{◌⊎◌, bit_or, max}
-use Rattle.std.specs.Int.{bit_at}
-use Rattle.std.proofs.lemmas.Nat.Bits.{bit_at_or, bit_at-lt}
-use Rattle.std.proofs.lemmas.Nat.{or_lt}
-use Rattle.std.proofs.lemmas.Bool.Decides.{nat_tests}
-use Rattle.micro_word.specs.declared.destination.Destination.{Destination}
+use Rattle.mal_line.proofs.Common.{◌≡◌, ℕ, zero, suc, ◌<◌, List, [], ◌∷◌, IsTrue, Contains, refl, sym, ap, subst, ◌∙◌, arith, inl, inr, ◌⊎◌, bit_or, max}
+use Rattle.mal_line.proofs.Common.{bit_at, bit_at_or, bit_at-lt, or_lt, nat_tests, Destination, loads, register_bit, Word}
 use Rattle.micro_word.specs.declared.destination.Destination.TheVariants as registers
-use Rattle.micro_word.specs.Prelude.{loads, register_bit}
-use Rattle.mal_tokens.specs.declared.word.Word.{Word}
 use Rattle.mal_tokens.specs.declared.word.Word.TheVariants as words
 use Rattle.mal_line.specs.Prelude.{bit, dest_bits, LoadsNamed, register_word}
 

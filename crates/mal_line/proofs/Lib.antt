@@ -1,3 +1,4 @@
+pub mod Common
 pub mod Linking
 pub mod Splitting
 pub mod Table

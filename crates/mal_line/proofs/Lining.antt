@@ -1,18 +1,10 @@
 -- What a line says is read exactly where it is spelled.
-use Rattle.std.proofs.Common.{◌≡◌, ℕ, Bool, true, false, List, [], ◌∷◌, Option, Some, None, refl, sym, ap, subst, ◌∙◌, inl, inr, cond}
-use Rattle.std.specs.Prelude.{Result, Ok, Err, ◌≢◌, ◌⊎◌, option_map, option_and_then}
-use Rattle.std.specs.List.{onto_first}
-use Rattle.mic_words.specs.declared.machine.Machine.{Machine}
-use Rattle.source_text.specs.Prelude.{mapped}
+use Rattle.mal_line.proofs.Common.{◌≡◌, ℕ, Bool, true, false, List, [], ◌∷◌, Option, Some, None, refl, sym, ap, subst, ◌∙◌, inl, inr, cond, Result, Ok, Err}
+use Rattle.mal_line.proofs.Common.{◌≢◌, ◌⊎◌, option_map, option_and_then, onto_first, Machine, mapped, Token, Tree, Content, Form, LineFault}
 use Rattle.mal_tokens.specs.declared.sign.Sign.TheVariants as signs
-use Rattle.mal_tokens.specs.declared.token.Token.{Token}
 use Rattle.mal_tokens.specs.declared.token.Token.TheVariants as tokens
 use Rattle.mal_line.specs.declared.piece.Piece.TheVariants as found
-use Rattle.mal_line.specs.declared.tree.Tree.{Tree}
-use Rattle.mal_line.specs.declared.content.Content.{Content}
-use Rattle.mal_line.specs.declared.line.Form.{Form}
 use Rattle.mal_line.specs.declared.line.Form.TheVariants as forms
-use Rattle.mal_line.specs.declared.line.LineFault.{LineFault}
 use Rattle.mal_line.specs.declared.line.LineFault.TheVariants as faults
 use Rattle.mal_line.specs.Prelude.{is_semicolon, pieces, add, adds, chain_at, dest_of, empty, piece_of, tree_of, content_of, IsForm, IsRefused, names_foreign, SpellsLine, behind_colon, fix_of, form_of, labelled, line_from, said, said_by}
 use Rattle.mal_line.proofs.Parting.{tree_again, tree_is}

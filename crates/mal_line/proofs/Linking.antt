@@ -1,9 +1,6 @@
 -- Reading the destinations of an assignment one after the other.
-use Rattle.std.proofs.Common.{◌≡◌, ℕ, suc, ◌+◌, ◌<◌, ◌≤◌, Bool, true, List, [], ◌∷◌, Some, None, length, drop, get_or, refl, sym, ap, ◌∙◌, arith, drop-cons}
-use Rattle.std.specs.Prelude.{bit_or}
-use Rattle.mic_words.specs.declared.machine.Machine.{Machine}
-use Rattle.mal_tokens.specs.declared.word.Word.{Word}
-use Rattle.mal_tokens.specs.declared.token.Token.{Token}
+use Rattle.mal_line.proofs.Common.{◌≡◌, ℕ, suc, ◌+◌, ◌<◌, ◌≤◌, Bool, true, List, [], ◌∷◌, Some, None, length, drop, get_or, refl, sym, ap, ◌∙◌, arith}
+use Rattle.mal_line.proofs.Common.{drop-cons, bit_or, Machine, Word, Token}
 use Rattle.mal_line.specs.Prelude.{bit, chain_at, dest_of, last}
 
 pub chain_step : (m : Machine) (some : Bool) (dests : ℕ) (ts : List Token) (t u : Token) (rest : List Token) (w : Word) → ts ≡ t ∷ u ∷ rest → dest_of t u ≡ Some w → chain_at m some dests ts ≡ chain_at m true (bit_or dests (bit w)) rest

@@ -1,21 +1,9 @@
 -- The parts of a statement are read exactly where they are spelled.
-use Rattle.std.proofs.Common.{◌≡◌, ℕ, suc, ◌+◌, Bool, true, false, List, [], ◌∷◌, ◌++◌, Option, Some, None, refl, sym, ap, subst, ◌∙◌, arith, cond}
-use Rattle.std.specs.Prelude.{option_and_then, is_some}
-use Rattle.std.proofs.lemmas.List.{append-nil}
-use Rattle.mic_words.specs.declared.machine.Machine.{Machine}
-use Rattle.source_text.specs.Prelude.{bound}
-use Rattle.micro_word.specs.declared.statement.Mem.{Mem}
+use Rattle.mal_line.proofs.Common.{◌≡◌, ℕ, suc, ◌+◌, Bool, true, false, List, [], ◌∷◌, ◌++◌, Option, Some, None, refl, sym, ap, subst, ◌∙◌, arith, cond}
+use Rattle.mal_line.proofs.Common.{option_and_then, is_some, append-nil, Machine, bound, Mem, Test, Token, Assignment, Piece, Next, Tree, PendingIf, Gathered}
 use Rattle.micro_word.specs.declared.statement.Mem.TheVariants as mems
-use Rattle.micro_word.specs.declared.statement.Test.{Test}
-use Rattle.mal_tokens.specs.declared.token.Token.{Token}
-use Rattle.mal_line.specs.declared.chain.Assignment.{Assignment}
-use Rattle.mal_line.specs.declared.piece.Piece.{Piece}
 use Rattle.mal_line.specs.declared.piece.Piece.TheVariants as found
-use Rattle.mal_line.specs.declared.next.Next.{Next}
 use Rattle.mal_line.specs.declared.next.Next.TheVariants as nexts
-use Rattle.mal_line.specs.declared.tree.Tree.{Tree}
-use Rattle.mal_line.specs.declared.gathering.PendingIf.{PendingIf}
-use Rattle.mal_line.specs.declared.gathering.Gathered.{Gathered}
 use Rattle.mal_line.specs.Prelude.{AreNothing, AreParts, AreTree, assign, assignments, counted, fetch_count, fetches, IsElse, IsGoto, IsIf, IsJumpLast, IsMem, jump, jumps_of, Kind, listed, listed_mem, memories, memory, nothing, pieces, add, add_behind, add_by, add_else, add_free, add_tokens, adds, empty, gathered_jump, is_access, piece_of, tree_of}
 use Rattle.mal_line.proofs.Piecing.{IsPiece, piece_again, piece_is}
 

@@ -1,23 +1,12 @@
 -- What stands between two semicolons is read exactly as it is spelled.
-use Rattle.std.proofs.Common.{◌≡◌, ℕ, Bool, true, false, List, [], ◌∷◌, ◌++◌, Option, Some, None, refl, sym, ap, subst, ◌∙◌, inl, inr, cond}
-use Rattle.std.specs.Prelude.{ℤ, pos, option_map, ◌≢◌}
-use Rattle.std.specs.List.{list_all}
-use Rattle.std.proofs.lemmas.Bool.{and_parts}
-use Rattle.mic_words.specs.declared.machine.Machine.{Machine}
-use Rattle.source_text.specs.Prelude.{chosen, mapped}
-use Rattle.micro_word.specs.declared.statement.Mem.{Mem}
+use Rattle.mal_line.proofs.Common.{◌≡◌, ℕ, Bool, true, false, List, [], ◌∷◌, ◌++◌, Option, Some, None, refl, sym, ap, subst, ◌∙◌, inl, inr, cond, ℤ, pos}
+use Rattle.mal_line.proofs.Common.{option_map, ◌≢◌, list_all, and_parts, Machine, chosen, mapped, Mem, Test, Word, Token, Assignment, Piece, Next}
 use Rattle.micro_word.specs.declared.statement.Mem.TheVariants as mems
-use Rattle.micro_word.specs.declared.statement.Test.{Test}
 use Rattle.micro_word.specs.declared.statement.Test.TheVariants as tests
-use Rattle.mal_tokens.specs.declared.word.Word.{Word}
 use Rattle.mal_tokens.specs.declared.word.Word.TheVariants as words
 use Rattle.mal_tokens.specs.declared.sign.Sign.TheVariants as signs
-use Rattle.mal_tokens.specs.declared.token.Token.{Token}
 use Rattle.mal_tokens.specs.declared.token.Token.TheVariants as tokens
-use Rattle.mal_line.specs.declared.chain.Assignment.{Assignment}
-use Rattle.mal_line.specs.declared.piece.Piece.{Piece}
 use Rattle.mal_line.specs.declared.piece.Piece.TheVariants as found
-use Rattle.mal_line.specs.declared.next.Next.{Next}
 use Rattle.mal_line.specs.declared.next.Next.TheVariants as nexts
 use Rattle.mal_line.specs.Prelude.{dest_tokens, is_dest, is_filled, IsAssignment, tail_tokens, is_number, is_byte_word, IsElse, IsFetch, IsGoto, IsIf, IsMem, test_word, by_offset, chain_at, dispatch, else_of, goto_of, if_of, piece_of, test_of}
 use Rattle.mal_line.proofs.Codings.{number_is}

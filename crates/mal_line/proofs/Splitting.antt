@@ -1,15 +1,8 @@
 -- Reading the pieces between semicolons one after the other.
-use Rattle.std.proofs.Common.{◌≡◌, ℕ, zero, suc, length-drop, ◌+◌, ◌<◌, ◌≤◌, List, [], ◌∷◌, Some, None, length, drop, take, refl, sym, ap, ◌∙◌, arith, inl, inr}
-use Rattle.std.proofs.lemmas.Bool.{cases_lt}
-use Rattle.std.specs.Prelude.{not, option_and_then}
-use Rattle.std.specs.List.{prefix_len}
-use Rattle.std.proofs.lemmas.List.{take_all}
+use Rattle.mal_line.proofs.Common.{◌≡◌, ℕ, zero, suc, length-drop, ◌+◌, ◌<◌, ◌≤◌, List, [], ◌∷◌, Some, None, length, drop, take, refl, sym, ap, ◌∙◌, arith, inl}
+use Rattle.mal_line.proofs.Common.{inr, cases_lt, not, option_and_then, prefix_len, take_all, fails_before_first, Machine, Token, Gathered}
 use Rattle.std.proofs.lemmas.List.Splits.{slice_split_first, slice_split_none}
-use Rattle.std.proofs.lemmas.List.Sums.{fails_before_first}
-use Rattle.mic_words.specs.declared.machine.Machine.{Machine}
-use Rattle.mal_tokens.specs.declared.token.Token.{Token}
 use Rattle.mal_tokens.specs.declared.token.Token.TheVariants as tokens
-use Rattle.mal_line.specs.declared.gathering.Gathered.{Gathered}
 use Rattle.mal_line.specs.Prelude.{is_semicolon, pieces, add_tokens, adds, ended}
 
 -- how many tokens stand before the first semicolon

@@ -1,26 +1,12 @@
 -- What a line says stands in a word of its machine.
-use Rattle.std.proofs.Common.{◌≡◌, ℕ, ◌<◌, Bool, true, false, List, [], ◌∷◌, Option, Some, None, refl, sym, ap, subst, ◌∙◌, arith, inl, inr, cond}
-use Rattle.std.specs.Prelude.{◌⊎◌, ◌&&◌, not, nat_lt, IsTrue}
-use Rattle.std.specs.List.{list_any, list_all, onto_first}
-use Rattle.std.proofs.lemmas.Bool.{or_parts, lt-ltb}
-use Rattle.mic_words.specs.declared.machine.Machine.{Machine}
-use Rattle.mic_words.specs.declared.machine.Machine.TheVariants.{Mic1, Mic2}
-use Rattle.source_text.specs.Prelude.{mapped}
-use Rattle.micro_word.specs.declared.statement.Part.{Part}
-use Rattle.micro_word.specs.declared.statement.Mem.{Mem}
-use Rattle.micro_word.specs.Prelude.{idle, row, fits_side, has_operation, is_mixed, is_part, may_be_a, may_be_b, may_fetch}
+use Rattle.mal_line.proofs.Common.{◌≡◌, ℕ, ◌<◌, Bool, true, false, List, [], ◌∷◌, Option, Some, None, refl, sym, ap, subst, ◌∙◌, arith, inl, inr, cond, ◌⊎◌}
+use Rattle.mal_line.proofs.Common.{◌&&◌, not, nat_lt, IsTrue, list_any, list_all, onto_first, or_parts, lt-ltb, Machine, Mic1, Mic2, mapped, Part, Mem, idle}
+use Rattle.mal_line.proofs.Common.{row, fits_side, has_operation, is_mixed, is_part, may_be_a, may_be_b, may_fetch, Token, Operation, Assignment, Tree, Content}
+use Rattle.mal_line.proofs.Common.{Parts, Form, Next}
 use Rattle.mal_tokens.specs.declared.sign.Sign.TheVariants as signs
-use Rattle.mal_tokens.specs.declared.token.Token.{Token}
 use Rattle.mal_tokens.specs.declared.token.Token.TheVariants as tokens
-use Rattle.mal_line.specs.declared.operation.Operation.{Operation}
-use Rattle.mal_line.specs.declared.chain.Assignment.{Assignment}
-use Rattle.mal_line.specs.declared.tree.Tree.{Tree}
-use Rattle.mal_line.specs.declared.content.Content.{Content}
 use Rattle.mal_line.specs.declared.content.Content.TheVariants as contents
-use Rattle.mal_line.specs.declared.content.Parts.{Parts}
-use Rattle.mal_line.specs.declared.line.Form.{Form}
 use Rattle.mal_line.specs.declared.line.Form.TheVariants as forms
-use Rattle.mal_line.specs.declared.next.Next.{Next}
 use Rattle.mal_line.specs.declared.next.Next.TheVariants as nexts
 use Rattle.mal_line.specs.Prelude.{fits, part_with, HasCoding, IsAssignment, AreParts, AreTree, assign, assignments, counted, fetch_count, fetches, is_semicolon, jump, Kind, listed, pieces, content_of, HasPart, is_foreign, IsForm, names_foreign, next_by_jump, part_by, part_of, parts_by, parts_of, SpellsLine, with_access}
 use Rattle.mal_line.proofs.Codings.{six_parts}

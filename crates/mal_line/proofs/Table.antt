@@ -1,19 +1,10 @@
 -- An expression has the coding that is looked up for it, and no other.
-use Rattle.std.proofs.Common.{◌≡◌, zero, suc, Bool, true, false, List, [], ◌∷◌, Option, Some, None, refl, sym, ap, subst, inl, inr, cond}
-use Rattle.std.specs.Prelude.{pos, not}
-use Rattle.mic_words.specs.declared.machine.Machine.{Machine}
-use Rattle.mic_words.specs.declared.machine.Machine.TheVariants.{Mic1, Mic2}
-use Rattle.micro_word.specs.declared.statement.AluOp.{AluOp}
+use Rattle.mal_line.proofs.Common.{◌≡◌, zero, suc, Bool, true, false, List, [], ◌∷◌, Option, Some, None, refl, sym, ap, subst, inl, inr, cond, pos, not}
+use Rattle.mal_line.proofs.Common.{Machine, Mic1, Mic2, AluOp, BusSource, is_h, Word, Token, Operation, Operand}
 use Rattle.micro_word.specs.declared.statement.AluOp.TheVariants as ops
-use Rattle.micro_word.specs.declared.statement.BusSource.{BusSource}
-use Rattle.micro_word.specs.Prelude.{is_h}
-use Rattle.mal_tokens.specs.declared.word.Word.{Word}
 use Rattle.mal_tokens.specs.declared.word.Word.TheVariants as words
 use Rattle.mal_tokens.specs.declared.sign.Sign.TheVariants as signs
-use Rattle.mal_tokens.specs.declared.token.Token.{Token}
 use Rattle.mal_tokens.specs.declared.token.Token.TheVariants as tokens
-use Rattle.mal_line.specs.declared.operation.Operation.{Operation}
-use Rattle.mal_line.specs.declared.expression.Operand.{Operand}
 use Rattle.mal_line.specs.declared.expression.Operand.TheVariants as operands
 use Rattle.mal_line.specs.Prelude.{IsOneOf, minus, one_token, plus, side, source_word, spelling, spellings, zero_token, from_one_source, joined, on_a, operand_by, operand_of, operation_in, paired, prefixed, single, source_of, sum_and_one, work}
 

@@ -1,15 +1,9 @@
 -- Assignments `D=D=E`: which tokens they are.
 use Rattle.std.specs.Prelude.{◌≡◌, ◌↔◌, ◌<◌, ℕ, Bool, true, false, List, [], ◌∷◌, ◌++◌, Option, Some, None, is_some, bit_or, fold, ◌==◌, length, Contains, IsTrue}
-use Rattle.std.specs.Option.{option_map_or}
-use Rattle.std.specs.List.{list_all}
-use Rattle.mic_words.specs.declared.machine.Machine.{Machine}
-use Rattle.micro_word.specs.declared.destination.Destination.{Destination}
+use Rattle.mal_line.specs.Common.{option_map_or, list_all, Machine, Destination, loads, register_bit, Word, Token}
 use Rattle.micro_word.specs.declared.destination.Destination.TheVariants as registers
-use Rattle.micro_word.specs.Prelude.{loads, register_bit}
-use Rattle.mal_tokens.specs.declared.word.Word.{Word}
 use Rattle.mal_tokens.specs.declared.word.Word.TheVariants as words
 use Rattle.mal_tokens.specs.declared.sign.Sign.TheVariants as signs
-use Rattle.mal_tokens.specs.declared.token.Token.{Token}
 use Rattle.mal_tokens.specs.declared.token.Token.TheVariants as tokens
 use Rattle.mal_line.specs.declared.operation.Operation.{Operation}
 use Rattle.mal_line.specs.declared.chain.Assignment.{Assignment}

@@ -1,20 +1,12 @@
 -- The table of expressions: how each operation on its sources is spelled.
 use Rattle.std.specs.Prelude.{◌≡◌, ℕ, pos, true, false, List, [], ◌∷◌, ◌++◌, ◌⊎◌, Bool, Option, Some, None}
-use Rattle.mic_words.specs.declared.machine.Machine.{Machine}
-use Rattle.mic_words.specs.declared.machine.Machine.TheVariants.{Mic1}
-use Rattle.micro_word.specs.declared.statement.AluOp.{AluOp}
+use Rattle.mal_line.specs.Common.{Machine, Mic1, AluOp, BusSource, Shift, Part, is_part, Word, Token}
 use Rattle.micro_word.specs.declared.statement.AluOp.TheVariants as ops
-use Rattle.micro_word.specs.declared.statement.BusSource.{BusSource}
 use Rattle.micro_word.specs.declared.statement.BusSource.TheVariants as bus
-use Rattle.micro_word.specs.declared.statement.Shift.{Shift}
 use Rattle.micro_word.specs.declared.statement.Shift.TheVariants as shifts
 use Rattle.micro_word.specs.declared.statement.Mem.TheVariants as mems
-use Rattle.micro_word.specs.declared.statement.Part.{Part}
-use Rattle.micro_word.specs.Prelude.{is_part}
-use Rattle.mal_tokens.specs.declared.word.Word.{Word}
 use Rattle.mal_tokens.specs.declared.word.Word.TheVariants as words
 use Rattle.mal_tokens.specs.declared.sign.Sign.TheVariants as signs
-use Rattle.mal_tokens.specs.declared.token.Token.{Token}
 use Rattle.mal_tokens.specs.declared.token.Token.TheVariants as tokens
 use Rattle.mal_line.specs.declared.operation.Operation.{Operation}
 use Rattle.mal_line.specs.declared.chain.Tail.{Tail}

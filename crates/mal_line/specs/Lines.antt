@@ -1,14 +1,8 @@
 -- A line of the microassembly language: what its tokens spell on a machine, and why they are refused.
 use Rattle.std.specs.Prelude.{◌≡◌, ◌≢◌, ℕ, IsTrue, Bool, true, false, List, [], ◌∷◌, ◌⊎◌, Option, Some, None, option_map}
-use Rattle.std.specs.List.{list_any}
-use Rattle.mic_words.specs.declared.machine.Machine.{Machine}
-use Rattle.mic_words.specs.declared.machine.Machine.TheVariants.{Mic1, Mic2}
-use Rattle.micro_word.specs.declared.statement.Part.{Part}
-use Rattle.micro_word.specs.Prelude.{idle, is_part}
-use Rattle.mal_tokens.specs.declared.word.Word.{Word}
+use Rattle.mal_line.specs.Common.{list_any, Machine, Mic1, Mic2, Part, idle, is_part, Word, Token}
 use Rattle.mal_tokens.specs.declared.word.Word.TheVariants as words
 use Rattle.mal_tokens.specs.declared.sign.Sign.TheVariants as signs
-use Rattle.mal_tokens.specs.declared.token.Token.{Token}
 use Rattle.mal_tokens.specs.declared.token.Token.TheVariants as tokens
 use Rattle.mal_line.specs.declared.chain.Assignment.{Assignment}
 use Rattle.mal_line.specs.declared.tree.Tree.{Tree}

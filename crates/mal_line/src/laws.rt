@@ -1,8 +1,6 @@
 //! What the reading of a line promises of all lines.
 ghost use Rattle.std.specs.Prelude.{List};
-ghost use Rattle.mic_words.specs.declared.machine.Machine.{Machine};
-ghost use Rattle.mal_tokens.specs.declared.token.Token.{Token};
-ghost use Rattle.mal_tokens.specs.declared.word.Word.{Word};
+ghost use Rattle.mal_line.specs.Common.{Machine, Token, Word};
 ghost use Rattle.mal_line.specs.Chains.{dest_bits, LoadsNamed};
 ghost use Rattle.mal_line.specs.declared.content.Content.{Content};
 ghost use Rattle.mal_line.specs.Lines.{HasPart, SpellsLine};

@@ -1,20 +1,10 @@
 -- The lines of a source say something together where none is refused after the others.
-use Rattle.std.proofs.Common.{◌≡◌, ℕ, suc, ◌+◌, ◌≤◌, Bool, true, false, List, [], ◌∷◌, ◌++◌, Option, Some, None, length, refl, sym, ap, subst, ◌∙◌, arith, inl, inr, cond, append_assoc, length-append}
-use Rattle.std.specs.Prelude.{Result, Ok, Err, nat_le, ◌||◌, ◌⊎◌, is_some, option_map, option_to_list, IsSome}
-use Rattle.std.specs.List.{cons_option}
-use Rattle.std.specs.Str.{bytes_eq}
-use Rattle.std.proofs.lemmas.List.{append-nil, map-append}
-use Rattle.std.proofs.lemmas.Bool.Decides.{nat_tests}
-use Rattle.std.proofs.lemmas.List.Folds.{list_any-append}
-use Rattle.std.proofs.lemmas.Bool.{or_from, or_parts}
-use Rattle.source_text.specs.Prelude.{Makes}
-use Rattle.mic_words.specs.declared.machine.Machine.{Machine}
-use Rattle.mal_line.specs.declared.content.Content.{Content}
+use Rattle.mal_parser.proofs.Common.{◌≡◌, ℕ, suc, ◌+◌, ◌≤◌, Bool, true, false, List, [], ◌∷◌, ◌++◌, Option, Some, None, length, refl, sym, ap, subst, ◌∙◌}
+use Rattle.mal_parser.proofs.Common.{arith, inl, inr, cond, append_assoc, length-append, Result, Ok, Err, nat_le, ◌||◌, ◌⊎◌, is_some, option_map}
+use Rattle.mal_parser.proofs.Common.{option_to_list, IsSome, cons_option, bytes_eq, append-nil, map-append, nat_tests, list_any-append, or_from, or_parts}
+use Rattle.mal_parser.proofs.Common.{Makes, Machine, Content, Parts, Draft, Fix}
 use Rattle.mal_line.specs.declared.content.Content.TheVariants as said
-use Rattle.mal_line.specs.declared.content.Parts.{Parts}
 use Rattle.mal_parser.specs.declared.error.MalError.TheVariants as errors
-use Rattle.mal_parser.specs.declared.source.Draft.{Draft}
-use Rattle.mal_parser.specs.declared.source.Fix.{Fix}
 use Rattle.mal_parser.specs.Prelude.{address_of, AreDistinct, fix_labels, has_fix, has_label, has_name, is_among, is_label, labels_of, AreAddresses, fallbacks_from, fixes_from, IsFine, statements_from, add_content, add_fix, empty, first, parser, Sketch, sketch_of}
 use Rattle.mal_parser.proofs.Resolved.{same_text, text_same}
 

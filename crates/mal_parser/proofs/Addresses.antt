@@ -1,10 +1,6 @@
 -- The labels of `.label` lines, and the address of each.
-use Rattle.std.proofs.Common.{◌≡◌, ℕ, suc, ◌+◌, Bool, true, false, List, [], ◌∷◌, ◌++◌, Option, Some, None, refl, ◌∙◌, cond, arith}
-use Rattle.std.specs.Prelude.{find, is_some, option_and_then, option_map, slice_get, ◌||◌}
-use Rattle.std.specs.Str.{bytes_eq}
-use Rattle.std.proofs.lemmas.List.{map-append}
-use Rattle.source_text.specs.Prelude.{place_of_name}
-use Rattle.mal_parser.specs.declared.source.Fix.{Fix}
+use Rattle.mal_parser.proofs.Common.{◌≡◌, ℕ, suc, ◌+◌, Bool, true, false, List, [], ◌∷◌, ◌++◌, Option, Some, None, refl, ◌∙◌, cond, arith, find, is_some}
+use Rattle.mal_parser.proofs.Common.{option_and_then, option_map, slice_get, ◌||◌, bytes_eq, map-append, place_of_name, Fix}
 use Rattle.mal_parser.specs.Prelude.{fix_labels, has_fix, address_at}
 
 -- a label that has a place is that of a line

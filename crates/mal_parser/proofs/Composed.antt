@@ -1,18 +1,9 @@
 -- The lines of a canonical text make the program that was printed.
-use Rattle.std.proofs.Common.{◌≡◌, ℕ, zero, suc, ◌+◌, ◌<◌, ◌≤◌, Bool, true, false, List, [], ◌∷◌, ◌++◌, Option, Some, None, length, refl, sym, ap, subst, ◌∙◌, arith, cond}
-use Rattle.std.specs.Prelude.{◌||◌, ◌&&◌, IfSome, IsSome, pos, map, nat_lt, slice_get, unwrap_or, option_map, option_and_then, option_to_list, find}
-use Rattle.std.specs.List.{cons_option, filter_map, list_all}
-use Rattle.std.specs.Str.{bytes_eq}
-use Rattle.std.proofs.lemmas.Bool.Decides.{nat_tests}
-use Rattle.std.proofs.lemmas.Bool.{or_from, or_right}
-use Rattle.source_text.specs.Prelude.{SayAll}
-use Rattle.mal_line.specs.declared.content.Content.{Content}
-use Rattle.mal_line.specs.declared.next.Next.{Next}
+use Rattle.mal_parser.proofs.Common.{◌≡◌, ℕ, zero, suc, ◌+◌, ◌<◌, ◌≤◌, Bool, true, false, List, [], ◌∷◌, ◌++◌, Option, Some, None, length, refl, sym, ap, subst}
+use Rattle.mal_parser.proofs.Common.{◌∙◌, arith, cond, ◌||◌, ◌&&◌, IfSome, IsSome, pos, map, nat_lt, slice_get, unwrap_or, option_map, option_and_then}
+use Rattle.mal_parser.proofs.Common.{option_to_list, find, cons_option, filter_map, list_all, bytes_eq, nat_tests, or_from, or_right, SayAll, Content, Next}
+use Rattle.mal_parser.proofs.Common.{printed, fix, Draft, Fix, Statement}
 use Rattle.mal_line.specs.declared.next.Next.TheVariants as nexts
-use Rattle.mal_print.specs.Prelude.{printed, fix}
-use Rattle.mal_parser.specs.declared.source.Draft.{Draft}
-use Rattle.mal_parser.specs.declared.source.Fix.{Fix}
-use Rattle.mal_parser.specs.declared.statement.Statement.{Statement}
 use Rattle.mal_parser.specs.Prelude.{address_of, AreDistinct, fix_labels, has_label, is_among, is_label, is_labelled, labels_of, AreAddresses, AreResolved, fallbacks, fallbacks_from, fixes, fixes_from, grammar, IsFine, IsFixedBy, IsProgramOf, IsResolvedNext, SpellsProgram, statements, statements_from, address_at, fixed_of, HasTargets, IsFallback, IsLabelled, IsMalProgram, label_at, MalView, canonical_text, canonical_lines, fix_count, fix_line, on_line, on_lines, relined}
 use Rattle.mal_parser.proofs.Resolved.{same_text, text_same}
 use Rattle.mal_parser.proofs.Fixing.{fixed_is}

@@ -1,17 +1,10 @@
 -- The refusals of a whole source.
-use Rattle.std.proofs.Common.{◌≡◌, ℕ, zero, suc, ◌+◌, ◌-◌, ◌≤◌, Bool, true, false, List, [], ◌∷◌, ◌++◌, Option, Some, None, length, refl, sym, ap, subst, ◌∙◌, arith, cond}
-use Rattle.std.specs.Prelude.{Err, find, slice_get, not, min, option_map, ◌||◌, ◌&&◌, IsSome}
-use Rattle.std.specs.List.{cons_option, list_any}
-use Rattle.std.proofs.lemmas.Bool.{and_right, or_right}
-use Rattle.mic_words.specs.declared.machine.Machine.{Machine}
-use Rattle.mal_line.specs.declared.content.Content.{Content}
+use Rattle.mal_parser.proofs.Common.{◌≡◌, ℕ, zero, suc, ◌+◌, ◌-◌, ◌≤◌, Bool, true, false, List, [], ◌∷◌, ◌++◌, Option, Some, None, length, refl, sym, ap, subst}
+use Rattle.mal_parser.proofs.Common.{◌∙◌, arith, cond, Err, find, slice_get, not, min, option_map, ◌||◌, ◌&&◌, IsSome, cons_option, list_any, and_right}
+use Rattle.mal_parser.proofs.Common.{or_right, Machine, Content, Next, MalError, Draft, Fix}
 use Rattle.mal_line.specs.declared.content.Content.TheVariants as said
-use Rattle.mal_line.specs.declared.next.Next.{Next}
 use Rattle.mal_line.specs.declared.next.Next.TheVariants as nexts
-use Rattle.mal_parser.specs.declared.error.MalError.{MalError}
 use Rattle.mal_parser.specs.declared.error.MalError.TheVariants as errors
-use Rattle.mal_parser.specs.declared.source.Draft.{Draft}
-use Rattle.mal_parser.specs.declared.source.Fix.{Fix}
 use Rattle.mal_parser.specs.Prelude.{address_of, has_label, is_labelled, AreAddresses, AreRefused, fallbacks_from, falls, falls_off, FallsOff, fixes_from, is_statement, IsAt, IsFine, IsFirst, names_unknown, NamesUnknown, Never, statements, statements_from, targets_of, by_entry, by_falling, by_unknown, earlier, falling, first, first_falling, first_unknown, knows, main1, number_of, resolved_program, sketch_of, unknown_draft, unknown_fix, unknown_in}
 use Rattle.mal_parser.proofs.Resolved.{any_position, at_position}
 

@@ -1,9 +1,6 @@
 -- The address that the `.label` lines give a statement.
-use Rattle.std.proofs.Common.{◌≡◌, ℕ, zero, suc, Bool, true, false, List, [], ◌∷◌, Option, Some, None, refl, sym, ap, subst, ◌∙◌, cond}
-use Rattle.std.specs.Prelude.{find, slice_get, option_map, ◌||◌}
-use Rattle.std.specs.Str.{bytes_eq}
-use Rattle.std.proofs.lemmas.Bool.{or_right}
-use Rattle.mal_parser.specs.declared.source.Fix.{Fix}
+use Rattle.mal_parser.proofs.Common.{◌≡◌, ℕ, zero, suc, Bool, true, false, List, [], ◌∷◌, Option, Some, None, refl, sym, ap, subst, ◌∙◌, cond, find, slice_get}
+use Rattle.mal_parser.proofs.Common.{option_map, ◌||◌, bytes_eq, or_right, Fix}
 use Rattle.mal_parser.specs.Prelude.{AreDistinct, fix_labels, is_among, IsFixedBy, address_at, fixed_of}
 use Rattle.mal_parser.proofs.Resolved.{same_text, text_same}
 

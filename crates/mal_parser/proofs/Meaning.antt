@@ -1,17 +1,8 @@
 -- The program of what fine lines say is the one that their labels are resolved to.
-use Rattle.std.proofs.Common.{◌≡◌, ℕ, zero, suc, ◌-◌, ◌≤◌, Bool, true, false, List, [], ◌∷◌, Option, Some, None, length, refl, sym, ap, subst, ◌∙◌, arith, cond}
-use Rattle.std.specs.Prelude.{Ok, IfSome, map, find, not, slice_get, option_map, option_to_list, unwrap_or, ◌&&◌}
-use Rattle.std.specs.List.{list_all}
-use Rattle.std.proofs.lemmas.Option.{slice_get_within}
-use Rattle.std.proofs.lemmas.Bool.{not-false}
-use Rattle.mic_words.specs.declared.machine.Machine.{Machine}
-use Rattle.micro_word.specs.declared.statement.Part.{Part}
-use Rattle.mal_line.specs.declared.content.Content.{Content}
-use Rattle.mal_line.specs.declared.next.Next.{Next}
+use Rattle.mal_parser.proofs.Common.{◌≡◌, ℕ, zero, suc, ◌-◌, ◌≤◌, Bool, true, false, List, [], ◌∷◌, Option, Some, None, length, refl, sym, ap, subst, ◌∙◌}
+use Rattle.mal_parser.proofs.Common.{arith, cond, Ok, IfSome, map, find, not, slice_get, option_map, option_to_list, unwrap_or, ◌&&◌, list_all}
+use Rattle.mal_parser.proofs.Common.{slice_get_within, not-false, Machine, Part, Content, Next, Draft, Fix, Statement}
 use Rattle.mal_line.specs.declared.next.Next.TheVariants as nexts
-use Rattle.mal_parser.specs.declared.source.Draft.{Draft}
-use Rattle.mal_parser.specs.declared.source.Fix.{Fix}
-use Rattle.mal_parser.specs.declared.statement.Statement.{Statement}
 use Rattle.mal_parser.specs.Prelude.{AreDistinct, fix_labels, has_label, is_labelled, labels_of, AreResolved, fallbacks, falls, fixes, IsFine, IsProgramOf, IsResolved, IsResolvedNext, statements, by_entry, by_falling, by_unknown, earlier, falling, first, first_falling, first_unknown, fixed_of, IsSound, knows, main1, resolved_next, number_of, resolved_program, program_with, resolved, sketch_of, target_number, unknown_draft, unknown_fix, unknown_in, IsFallback, label_at, MalView}
 use Rattle.mal_parser.proofs.Fixing.{fixed_is, fixed_there}
 use Rattle.mal_parser.proofs.Resolved.{among_at, any_position, at_position, draft_label, found_later, known_one, label_is, labelled_at, neither, no_line, one_place, program_is, target_label}

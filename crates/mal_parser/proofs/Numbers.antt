@@ -1,13 +1,7 @@
 -- The numbers of labelled statements, and one more.
-use Rattle.std.proofs.Common.{◌≡◌, ℕ, ◌+◌, Bool, true, false, List, [], ◌∷◌, ◌++◌, Option, Some, None, length, refl, sym, ap, subst, ◌∙◌, cond, arith}
-use Rattle.std.specs.Prelude.{is_some, not, ◌||◌}
-use Rattle.std.specs.List.{list_any, position_from}
-use Rattle.std.specs.Option.{option_or}
-use Rattle.std.specs.Ordering.{nat_cmp}
-use Rattle.std.specs.Cmp.Lexicographic.{slice_cmp, texts_ties}
-use Rattle.std.specs.BTreeMap.{BTreeMap, get, is_at}
+use Rattle.mal_parser.proofs.Common.{◌≡◌, ℕ, ◌+◌, Bool, true, false, List, [], ◌∷◌, ◌++◌, Option, Some, None, length, refl, sym, ap, subst, ◌∙◌, cond, arith}
+use Rattle.mal_parser.proofs.Common.{is_some, not, ◌||◌, list_any, position_from, option_or, nat_cmp, slice_cmp, texts_ties, BTreeMap, get, is_at, Draft}
 use Rattle.std.proofs.lemmas.Iterator.Adapters.{position_from-zero}
-use Rattle.mal_parser.specs.declared.source.Draft.{Draft}
 use Rattle.mal_parser.specs.Prelude.{AddsNumber, AreNumbers, has_label, has_name, is_label, is_labelled, is_numbered, with_number, number_of}
 use Rattle.mal_parser.proofs.Resolved.{same_text}
 

@@ -1,11 +1,7 @@
 -- A text is read as what it spells: its program, or its first refusal.
-use Rattle.std.proofs.Common.{◌≡◌, ℕ, ◌+◌, List, true, false, length, refl, sym, ap, subst, ◌∙◌, inl, inr}
-use Rattle.std.specs.Prelude.{Result, Ok, Err, IfOk, IfErr, ◌⊎◌}
-use Rattle.mic_words.specs.declared.machine.Machine.{Machine}
-use Rattle.source_text.specs.Prelude.{contents, Agrees, IsReadAsSpelled, Makes, FailsBy, Leads}
-use Rattle.mal_line.specs.declared.content.Content.{Content}
+use Rattle.mal_parser.proofs.Common.{◌≡◌, ℕ, ◌+◌, List, true, false, length, refl, sym, ap, subst, ◌∙◌, inl, inr, Result, Ok, Err, IfOk, IfErr, ◌⊎◌, Machine}
+use Rattle.mal_parser.proofs.Common.{contents, Agrees, IsReadAsSpelled, Makes, FailsBy, Leads, Content, MalError}
 use Rattle.mal_line.specs.Lines as lines
-use Rattle.mal_parser.specs.declared.error.MalError.{MalError}
 use Rattle.mal_parser.specs.declared.error.MalError.TheVariants as errors
 use Rattle.mal_parser.specs.Prelude.{MalView, grammar, is_memory, IsRefused, SpellsProgram, add_content, empty, IsSound, parser, resolved_program, ReadsLines, Sketch, sketch_of, step}
 use Rattle.mal_parser.proofs.Adding.{fine_made, made_fine}

@@ -1,12 +1,7 @@
 -- The lines of a text of plain lines are these lines.
-use Rattle.std.proofs.Common.{◌≡◌, ℕ, zero, suc, ◌-◌, true, false, List, [], ◌∷◌, ◌++◌, length, get_or, refl, ap, ◌∙◌, arith, cond}
-use Rattle.std.specs.Prelude.{◌==◌, ◌&&◌, map, take}
-use Rattle.std.specs.List.{list_all, onto_first}
+use Rattle.mal_parser.proofs.Common.{◌≡◌, ℕ, zero, suc, ◌-◌, true, false, List, [], ◌∷◌, ◌++◌, length, get_or, refl, ap, ◌∙◌, arith, cond, ◌==◌, ◌&&◌, map}
+use Rattle.mal_parser.proofs.Common.{take, list_all, onto_first, nat_tests, and_parts, begins_comment, contents, without_comment, before_more, parts, is_plain}
 use Rattle.std.specs.Str.Lines.{lines, lines_of_parts, strip_carriage_return}
-use Rattle.std.proofs.lemmas.Bool.Decides.{nat_tests}
-use Rattle.std.proofs.lemmas.Bool.{and_parts}
-use Rattle.source_text.specs.Prelude.{begins_comment, contents, without_comment, before_more, parts}
-use Rattle.mal_print.specs.Prelude.{is_plain}
 use Rattle.mal_parser.specs.Prelude.{text_of}
 
 abbrev pub ArePlain : List (List ℕ) → Type 0

@@ -1,15 +1,8 @@
 -- What printing a program needs to know of it, and the lines that are printed so far.
-use Rattle.std.proofs.Common.{◌≡◌, ℕ, zero, suc, ◌+◌, ◌<◌, List, [], ◌∷◌, ◌++◌, Option, Some, None, length, get_or, take, refl, sym, ap, subst, ◌∙◌, arith, append_assoc}
-use Rattle.std.specs.Prelude.{IsTrue, map, slice_get, option_map, option_and_then, option_to_list}
-use Rattle.std.specs.List.{cons_option, filter_map}
-use Rattle.std.proofs.lemmas.List.{map-append, take_more}
-use Rattle.std.proofs.lemmas.List.Elements.{filter_map-append}
-use Rattle.std.proofs.lemmas.Option.{get_or_from_slice_get}
-use Rattle.std.proofs.lemmas.Bool.{and_parts}
-use Rattle.mic_words.specs.declared.machine.Machine.{Machine}
+use Rattle.mal_parser.proofs.Common.{◌≡◌, ℕ, zero, suc, ◌+◌, ◌<◌, List, [], ◌∷◌, ◌++◌, Option, Some, None, length, get_or, take, refl, sym, ap, subst, ◌∙◌}
+use Rattle.mal_parser.proofs.Common.{arith, append_assoc, IsTrue, map, slice_get, option_map, option_and_then, option_to_list, cons_option, filter_map}
+use Rattle.mal_parser.proofs.Common.{map-append, take_more, filter_map-append, get_or_from_slice_get, and_parts, Machine, is_next, is_part, is_valid, Statement}
 use Rattle.micro_word.specs.declared.statement.Placed.{Placed}
-use Rattle.micro_word.specs.Prelude.{is_next, is_part, is_valid}
-use Rattle.mal_parser.specs.declared.statement.Statement.{Statement}
 use Rattle.mal_parser.specs.Prelude.{IsStatement, MalView, canonical_text, default_line, fix_line, labelled_line, statement_text, text_of}
 
 -- ---- targets

@@ -1,13 +1,8 @@
 -- What does not fit after others is refused, and nothing else is.
-use Rattle.std.proofs.Common.{◌≡◌, ℕ, ◌<◌, true, List, [], ◌∷◌, Option, Some, None, length, refl, sym, ap, ◌∙◌, arith, inl, inr, cond}
-use Rattle.std.specs.Prelude.{Ok, Err, nat_le, is_some}
-use Rattle.std.proofs.lemmas.Bool.{le-leb, leb-true}
-use Rattle.mic_words.specs.declared.machine.Machine.{Machine}
-use Rattle.mal_line.specs.declared.content.Content.{Content}
+use Rattle.mal_parser.proofs.Common.{◌≡◌, ℕ, ◌<◌, true, List, [], ◌∷◌, Option, Some, None, length, refl, sym, ap, ◌∙◌, arith, inl, inr, cond, Ok, Err, nat_le}
+use Rattle.mal_parser.proofs.Common.{is_some, le-leb, leb-true, Machine, Content, MalError, Draft}
 use Rattle.mal_line.specs.declared.content.Content.TheVariants as said
-use Rattle.mal_parser.specs.declared.error.MalError.{MalError}
 use Rattle.mal_parser.specs.declared.error.MalError.TheVariants as errors
-use Rattle.mal_parser.specs.declared.source.Draft.{Draft}
 use Rattle.mal_parser.specs.Prelude.{address_of, has_fix, has_name, fallbacks, fixes, IsMisfit, statements, add_content, add_fix, first, sketch_of}
 use Rattle.mal_parser.proofs.Adding.{picked, with_fallback, with_fix, with_statement}
 

@@ -1,9 +1,7 @@
 -- A program with other line numbers is a program.
-use Rattle.std.proofs.Common.{◌≡◌, ℕ, zero, suc, ◌+◌, ◌<◌, ◌≤◌, List, [], ◌∷◌, Option, Some, None, length, refl, sym, ap, subst, ◌∙◌}
-use Rattle.std.specs.Prelude.{IfSome, IsSome, slice_get, option_map}
-use Rattle.mal_line.specs.declared.next.Next.{Next}
+use Rattle.mal_parser.proofs.Common.{◌≡◌, ℕ, zero, suc, ◌+◌, ◌<◌, ◌≤◌, List, [], ◌∷◌, Option, Some, None, length, refl, sym, ap, subst, ◌∙◌, IfSome, IsSome}
+use Rattle.mal_parser.proofs.Common.{slice_get, option_map, Next, Statement}
 use Rattle.mal_line.specs.declared.next.Next.TheVariants as nexts
-use Rattle.mal_parser.specs.declared.statement.Statement.{Statement}
 use Rattle.mal_parser.specs.Prelude.{HasTargets, IsFallback, IsLabelled, IsMalProgram, IsStatement, label_at, MalView, on_line, on_lines}
 
 pub length_lines : (k : ℕ) (ss : List Statement) → length (on_lines k ss) ≡ length ss

@@ -1,21 +1,10 @@
 -- What the labels of a sound source are resolved to is a program.
-use Rattle.std.proofs.Common.{◌≡◌, ℕ, zero, suc, ◌+◌, ◌-◌, ◌<◌, Bool, true, false, List, [], ◌∷◌, Option, Some, None, length, get_or, refl, sym, ap, subst, ◌∙◌, arith, inl, inr, cond}
-use Rattle.std.specs.Prelude.{not, map, find, option_map, option_and_then, unwrap_or, slice_get, ◌||◌, nat_lt, IfSome, IsSome, All}
-use Rattle.std.proofs.lemmas.Bool.{cases_lt, and_parts, not-false, or_right}
-use Rattle.std.specs.List.{cons_option, list_any, position, position_or_len}
-use Rattle.std.specs.Str.{bytes_eq}
-use Rattle.std.proofs.lemmas.List.{length-map}
-use Rattle.std.proofs.lemmas.List.Quantifiers.{position-Some}
-use Rattle.std.proofs.lemmas.Option.{slice_get-map, slice_get-get_or, slice_get_within, get_or_from_slice_get}
-use Rattle.std.proofs.lemmas.Bool.Decides.{nat_tests}
-use Rattle.std.proofs.lemmas.Slice.Eq.{bytes_eq-Decides}
-use Rattle.std.proofs.lemmas.List.Elements.{All-head, All-tail}
-use Rattle.mic_words.specs.declared.machine.Machine.{Machine}
-use Rattle.mal_line.specs.declared.next.Next.{Next}
+use Rattle.mal_parser.proofs.Common.{◌≡◌, ℕ, zero, suc, ◌+◌, ◌-◌, ◌<◌, Bool, true, false, List, [], ◌∷◌, Option, Some, None, length, get_or, refl, sym, ap}
+use Rattle.mal_parser.proofs.Common.{subst, ◌∙◌, arith, inl, inr, cond, not, map, find, option_map, option_and_then, unwrap_or, slice_get, ◌||◌, nat_lt, IfSome}
+use Rattle.mal_parser.proofs.Common.{IsSome, All, cases_lt, and_parts, not-false, or_right, cons_option, list_any, position, position_or_len, bytes_eq}
+use Rattle.mal_parser.proofs.Common.{length-map, position-Some, slice_get-map, slice_get-get_or, slice_get_within, get_or_from_slice_get, nat_tests}
+use Rattle.mal_parser.proofs.Common.{bytes_eq-Decides, All-head, All-tail, Machine, Next, Draft, Fix, Statement}
 use Rattle.mal_line.specs.declared.next.Next.TheVariants as nexts
-use Rattle.mal_parser.specs.declared.source.Draft.{Draft}
-use Rattle.mal_parser.specs.declared.source.Fix.{Fix}
-use Rattle.mal_parser.specs.declared.statement.Statement.{Statement}
 use Rattle.mal_parser.specs.Prelude.{AreDistinct, has_label, is_among, is_label, is_labelled, labels_of, falls, address_at, earlier, falling, first_falling, first_unknown, fixed_of, IsDraft, IsSound, knows, main1, resolved_next, number_of, program_with, resolved, Sketch, target_number, unknown_draft, unknown_fix, unknown_in, HasTargets, IsFallback, IsLabelled, IsMalProgram, IsStatement, label_at}
 
 -- ---- places of lists

@@ -1,16 +1,10 @@
 -- The label of a statement is a label.
-use Rattle.std.proofs.Common.{◌≡◌, ℕ, List, ◌∷◌, Option, Some, None, subst, inl, inr}
-use Rattle.std.specs.Prelude.{IfSome, ◌⊎◌}
-use Rattle.source_text.specs.Prelude.{mapped, SaysLine}
-use Rattle.mic_words.specs.declared.machine.Machine.{Machine}
-use Rattle.mal_tokens.specs.declared.token.Token.{Token}
+use Rattle.mal_parser.proofs.Common.{◌≡◌, ℕ, List, ◌∷◌, Option, Some, None, subst, inl, inr, IfSome, ◌⊎◌, mapped, SaysLine, Machine, Token, spelled_as}
+use Rattle.mal_parser.proofs.Common.{IsLabelText, Parts, Form}
 use Rattle.mal_tokens.specs.declared.token.Token.TheVariants as tokens
 use Rattle.mal_tokens.specs.declared.sign.Sign.TheVariants as signs
 use Rattle.mal_tokens.specs.Tokens as tokens_spelled
-use Rattle.mal_tokens.specs.Prelude.{spelled_as, IsLabelText}
 use Rattle.mal_line.specs.declared.content.Content.TheVariants as said
-use Rattle.mal_line.specs.declared.content.Parts.{Parts}
-use Rattle.mal_line.specs.declared.line.Form.{Form}
 use Rattle.mal_line.specs.declared.line.Form.TheVariants as forms
 use Rattle.mal_line.specs.Lines as lines
 use Rattle.mal_parser.specs.Prelude.{grammar}

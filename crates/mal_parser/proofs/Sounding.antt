@@ -1,14 +1,7 @@
 -- What fine lines say together is sound.
-use Rattle.std.proofs.Common.{◌≡◌, ℕ, ◌+◌, ◌<◌, Bool, true, false, List, [], ◌∷◌, Option, Some, None, refl, subst, arith, cond}
-use Rattle.std.specs.Prelude.{IfSome, All, nat_lt, option_map, ℤ, pos, negsuc}
-use Rattle.std.specs.List.{cons_option}
-use Rattle.std.proofs.lemmas.Bool.Decides.{nat_tests}
-use Rattle.std.proofs.lemmas.List.Elements.{All-cons, All-nil}
-use Rattle.source_text.specs.Prelude.{SayAll}
-use Rattle.mic_words.specs.declared.machine.Machine.{Machine}
-use Rattle.mal_line.specs.declared.content.Content.{Content}
+use Rattle.mal_parser.proofs.Common.{◌≡◌, ℕ, ◌+◌, ◌<◌, Bool, true, false, List, [], ◌∷◌, Option, Some, None, refl, subst, arith, cond, IfSome, All, nat_lt}
+use Rattle.mal_parser.proofs.Common.{option_map, ℤ, pos, negsuc, cons_option, nat_tests, All-cons, All-nil, SayAll, Machine, Content, Fix}
 use Rattle.mal_line.specs.declared.content.Content.TheVariants as said
-use Rattle.mal_parser.specs.declared.source.Fix.{Fix}
 use Rattle.mal_parser.specs.Prelude.{address_of, fallbacks_from, fixes_from, grammar, IsFine, statements_from, first, IsDraft, IsSound, ReadsLines, sketch_of}
 use Rattle.mal_parser.proofs.Saying.{free_label}
 

@@ -1,19 +1,10 @@
 -- What the lines of a canonical text say.
-use Rattle.std.proofs.Common.{◌≡◌, ℕ, zero, suc, ◌<◌, true, List, [], ◌∷◌, ◌++◌, Option, Some, None, refl, ap, subst}
-use Rattle.std.specs.Prelude.{IfSome, IsSome, pos, map, slice_get, unwrap_or, option_map, option_and_then, option_to_list}
-use Rattle.std.specs.List.{cons_option, filter_map}
-use Rattle.source_text.specs.Prelude.{SayAll}
-use Rattle.mic_words.specs.declared.machine.Machine.{Machine}
-use Rattle.micro_word.specs.Prelude.{is_part}
-use Rattle.mal_tokens.specs.Prelude.{IsLabelText}
-use Rattle.mal_line.specs.declared.content.Content.{Content}
+use Rattle.mal_parser.proofs.Common.{◌≡◌, ℕ, zero, suc, ◌<◌, true, List, [], ◌∷◌, ◌++◌, Option, Some, None, refl, ap, subst, IfSome, IsSome, pos, map}
+use Rattle.mal_parser.proofs.Common.{slice_get, unwrap_or, option_map, option_and_then, option_to_list, cons_option, filter_map, SayAll, Machine, is_part}
+use Rattle.mal_parser.proofs.Common.{IsLabelText, Content, Parts, Next, by_targets, printed, fallback, fix, HasLabels, labelled, statement, IsLineOf}
+use Rattle.mal_parser.proofs.Common.{FallbacksAreReadBack, FixesAreReadBack, StatementsAreReadBack, Statement}
 use Rattle.mal_line.specs.declared.content.Content.TheVariants as said
-use Rattle.mal_line.specs.declared.content.Parts.{Parts}
-use Rattle.mal_line.specs.declared.next.Next.{Next}
 use Rattle.mal_line.specs.declared.next.Next.TheVariants as nexts
-use Rattle.mal_line.specs.Prelude.{by_targets}
-use Rattle.mal_print.specs.Prelude.{printed, fallback, fix, HasLabels, labelled, statement, IsLineOf, FallbacksAreReadBack, FixesAreReadBack, StatementsAreReadBack}
-use Rattle.mal_parser.specs.declared.statement.Statement.{Statement}
 use Rattle.mal_parser.specs.Prelude.{HasTargets, IsFallback, IsLabelled, IsMalProgram, label_at, MalView, by_labels, canonical_lines, default_line, fix_line, labelled_line, grammar}
 use Rattle.mal_parser.proofs.Printed.{ArePlain, plain_append}
 

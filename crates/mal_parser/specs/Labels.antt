@@ -1,10 +1,6 @@
 -- Labels of statements and of `.label` lines.
 use Rattle.std.specs.Prelude.{◌≡◌, ℕ, ℤ, pos, negsuc, Bool, true, false, List, [], ◌∷◌, Option, Some, None, if◌then◌else◌, is_some, map, nat_lt}
-use Rattle.std.specs.List.{filter_map, list_any, position}
-use Rattle.std.specs.Str.{bytes_eq}
-use Rattle.std.specs.Ordering.{nat_cmp}
-use Rattle.std.specs.Cmp.Lexicographic.{slice_cmp}
-use Rattle.std.specs.BTreeMap.{BTreeMap, get, IsUnchanged}
+use Rattle.mal_parser.specs.Common.{filter_map, list_any, position, bytes_eq, nat_cmp, slice_cmp, BTreeMap, get, IsUnchanged}
 use Rattle.mal_parser.specs.declared.source.Draft.{Draft}
 use Rattle.mal_parser.specs.declared.source.Fix.{Fix}
 

@@ -1,11 +1,7 @@
 -- Programs of the microassembly language, and what holds of each.
 use Rattle.std.specs.Prelude.{◌≡◌, ℕ, ◌+◌, ◌<◌, ◌≤◌, List, length, slice_get, codes, option_and_then, Option, Some, None, IsTrue, IsSome, IfSome}
-use Rattle.mic_words.specs.declared.machine.Machine.{Machine}
-use Rattle.micro_word.specs.Prelude.{is_part}
-use Rattle.mal_tokens.specs.Prelude.{IsLabelText}
-use Rattle.mal_line.specs.declared.next.Next.{Next}
+use Rattle.mal_parser.specs.Common.{Machine, is_part, IsLabelText, Next, EachTarget}
 use Rattle.mal_line.specs.declared.next.Next.TheVariants as nexts
-use Rattle.mal_line.specs.Prelude.{EachTarget}
 use Rattle.mal_parser.specs.declared.statement.Statement.{Statement}
 
 -- what contracts see of a program

@@ -1,16 +1,9 @@
 -- The canonical text of a program: the fixed addresses, what unused words hold, and the statements, each on a line of its own.
 use Rattle.std.specs.Prelude.{ℕ, pos, ◌+◌, length, List, [], ◌∷◌, ◌++◌, map, slice_get, Option, unwrap_or, option_map, option_and_then, option_to_list}
-use Rattle.std.specs.List.{filter_map}
-use Rattle.mic_words.specs.declared.machine.Machine.{Machine}
-use Rattle.micro_word.specs.declared.statement.Placed.{Placed}
-use Rattle.micro_word.specs.declared.statement.PlacedNext.{PlacedNext}
+use Rattle.mal_parser.specs.Common.{filter_map, Machine, Placed, PlacedNext, Token, Next, by_targets, printed, fallback, fix, or_semicolon, parts, statement}
 use Rattle.micro_word.specs.declared.statement.PlacedNext.TheVariants as placed
-use Rattle.mal_tokens.specs.declared.token.Token.{Token}
 use Rattle.mal_tokens.specs.declared.token.Token.TheVariants as tokens
-use Rattle.mal_line.specs.declared.next.Next.{Next}
 use Rattle.mal_line.specs.declared.next.Next.TheVariants as nexts
-use Rattle.mal_line.specs.Prelude.{by_targets}
-use Rattle.mal_print.specs.Prelude.{printed, fallback, fix, or_semicolon, parts, statement}
 use Rattle.mal_parser.specs.declared.statement.Statement.{Statement}
 use Rattle.mal_parser.specs.Program.{label_at, MalView}
 

@@ -1,22 +1,12 @@
 -- Computes which program a text spells, or its first refusal (`SpellsProgram` and `IsRefused` of `Text`): its lines one after the other, then its labels.
 use Rattle.std.specs.Prelude.{◌≡◌, ◌<◌, ◌≤◌, ◌↔◌, ℕ, ◌-◌, ◌&&◌, Bool, true, not, List, [], ◌∷◌, ◌++◌, Option, Some, None, Result, Ok, Err, if◌then◌else◌, nat_le, min, length, map, find, slice_get, is_some, option_map, option_and_then, unwrap_or, codes, All, IsTrue, IfSome, ⊤}
-use Rattle.std.specs.List.{position}
-use Rattle.std.specs.Str.{bytes_eq}
-use Rattle.mic_words.specs.declared.machine.Machine.{Machine}
+use Rattle.mal_parser.specs.Common.{position, bytes_eq, Machine, add_said, Parser, Step, is_part, Token, read, IsLabelText, Content, Parts, LineFault, Next}
+use Rattle.mal_parser.specs.Common.{HasPart, line_from, LinesReadAsSpelled, LinesRefusedAsFaulty, by_targets}
 use Rattle.source_text.specs.Parsing as parsing
-use Rattle.source_text.specs.Prelude.{add_said, Parser, Step}
-use Rattle.micro_word.specs.Prelude.{is_part}
-use Rattle.mal_tokens.specs.declared.token.Token.{Token}
-use Rattle.mal_tokens.specs.Prelude.{read, IsLabelText}
 use Rattle.mal_tokens.specs.Tokens as tokens
-use Rattle.mal_line.specs.declared.content.Content.{Content}
 use Rattle.mal_line.specs.declared.content.Content.TheVariants as contents
-use Rattle.mal_line.specs.declared.content.Parts.{Parts}
-use Rattle.mal_line.specs.declared.line.LineFault.{LineFault}
-use Rattle.mal_line.specs.declared.next.Next.{Next}
 use Rattle.mal_line.specs.declared.next.Next.TheVariants as nexts
 use Rattle.mal_line.specs.Lines as lines
-use Rattle.mal_line.specs.Prelude.{HasPart, line_from, LinesReadAsSpelled, LinesRefusedAsFaulty, by_targets}
 use Rattle.mal_parser.specs.declared.error.MalError.{MalError}
 use Rattle.mal_parser.specs.declared.error.MalError.TheVariants as errors
 use Rattle.mal_parser.specs.declared.source.Draft.{Draft}

@@ -1,16 +1,9 @@
 -- Which program a text spells, and which refusal a text has.
 use Rattle.std.specs.Prelude.{◌≡◌, ◌⊎◌, ◌+◌, ◌≤◌, ◌<◌, ℕ, Bool, true, false, not, ◌&&◌, List, [], ◌∷◌, ◌++◌, Option, Some, None, IsSome, length, slice_get, option_map, option_to_list, codes, Result, Err}
-use Rattle.std.specs.List.{cons_option, list_all, list_any}
-use Rattle.mic_words.specs.declared.machine.Machine.{Machine}
+use Rattle.mal_parser.specs.Common.{cons_option, list_all, list_any, Machine, Grammar, LineRefusals, Token, mal, Content, LineFault, Next}
 use Rattle.source_text.specs.Text as text
-use Rattle.source_text.specs.Prelude.{Grammar, LineRefusals}
-use Rattle.mal_tokens.specs.declared.token.Token.{Token}
-use Rattle.mal_tokens.specs.Prelude.{mal}
-use Rattle.mal_line.specs.declared.content.Content.{Content}
 use Rattle.mal_line.specs.declared.content.Content.TheVariants as said
-use Rattle.mal_line.specs.declared.line.LineFault.{LineFault}
 use Rattle.mal_line.specs.declared.line.LineFault.TheVariants as faults
-use Rattle.mal_line.specs.declared.next.Next.{Next}
 use Rattle.mal_line.specs.declared.next.Next.TheVariants as nexts
 use Rattle.mal_line.specs.Lines as lines
 use Rattle.mal_parser.specs.declared.error.MalError.{MalError}

@@ -1,11 +1,10 @@
 //! What holds of every text, and of every program that is printed.
 
-ghost use Rattle.mic_words.specs.declared.machine.Machine.{Machine};
+ghost use Rattle.mal_parser.specs.Common.{Machine, IsReadAsSpelled, AtMostOneProgram, AtMostOneRefusal, NeverBoth};
 ghost use Rattle.mal_parser.specs.ProgramText.{canonical_text, relined};
 ghost use Rattle.mal_parser.specs.Program.{IsMalProgram, MalView};
 ghost use Rattle.mal_parser.specs.Reading.{empty, parser, ReadsLines};
 ghost use Rattle.mal_parser.specs.Text.{grammar, SpellsProgram};
-ghost use Rattle.source_text.specs.Prelude.{IsReadAsSpelled, AtMostOneProgram, AtMostOneRefusal, NeverBoth};
 
 use crate::source::SourceReader;
 use mal_print::lines_spell_what_is_printed;

@@ -1,8 +1,7 @@
 //! From a program to its canonical text.
 
 ghost use Rattle.std.specs.Prelude.{◌≡◌, ◌≤◌, ◌<◌, ◌+◌, ◌++◌, ◌∷◌, [], length, IsSome, IsTrue, Some, IfOk, OnOk, pos};
-ghost use Rattle.micro_word.specs.Prelude.{is_next, is_valid};
-ghost use Rattle.mal_tokens.specs.declared.token.Token.{Token};
+ghost use Rattle.mal_parser.specs.Common.{is_next, is_valid, Token};
 ghost use Rattle.mal_parser.specs.Program.{HasTargets, IsLabelled, IsMalProgram};
 ghost use Rattle.mal_parser.specs.ProgramText.{by_addresses, by_label, by_labels, canonical_text, fallback_text, parts_text, placed_text, relined, statement_text, text_of, default_lines, fix_lines, fix_lines_at, statement_lines};
 ghost use Rattle.mal_parser.specs.Text.{SpellsProgram};

@@ -1,25 +1,11 @@
 -- The canonical assignment of a part is an assignment of its operation to its destinations.
-use Rattle.std.proofs.Common.{◌≡◌, ℕ, Bool, true, false, List, [], ◌∷◌, Option, Some, None, length, refl, sym, ap, subst, ◌∙◌, inl, nat_lt}
-use Rattle.std.specs.Prelude.{◌&&◌, ◌==◌}
-use Rattle.std.specs.List.{AllByRecursion as Each, list_all}
-use Rattle.std.proofs.lemmas.Bool.{agree_below_at, and_from, and_parts, eqb-true, ltb-true}
-use Rattle.mic_words.specs.declared.machine.Machine.{Machine}
-use Rattle.mic_words.specs.declared.machine.Machine.TheVariants.{Mic1}
-use Rattle.micro_word.specs.declared.statement.AluOp.{AluOp}
+use Rattle.mal_print.proofs.Common.{◌≡◌, ℕ, Bool, true, false, List, [], ◌∷◌, Option, Some, None, length, refl, sym, ap, subst, ◌∙◌, inl, nat_lt, ◌&&◌, ◌==◌}
+use Rattle.mal_print.proofs.Common.{AllByRecursion as Each, list_all, agree_below_at, and_from, and_parts, eqb-true, ltb-true, Machine, Mic1, AluOp, BusSource}
+use Rattle.mal_print.proofs.Common.{Shift, Mem, Part, row, fits_side, may_be_a, may_be_b, may_fetch, Word, Token, Operation, Assignment, Next}
 use Rattle.micro_word.specs.declared.statement.AluOp.TheVariants as ops
-use Rattle.micro_word.specs.declared.statement.BusSource.{BusSource}
 use Rattle.micro_word.specs.declared.statement.BusSource.TheVariants as bus
-use Rattle.micro_word.specs.declared.statement.Shift.{Shift}
 use Rattle.micro_word.specs.declared.statement.Shift.TheVariants as shifts
-use Rattle.micro_word.specs.declared.statement.Mem.{Mem}
 use Rattle.micro_word.specs.declared.statement.Test.TheVariants as tests
-use Rattle.micro_word.specs.declared.statement.Part.{Part}
-use Rattle.micro_word.specs.Prelude.{row, fits_side, may_be_a, may_be_b, may_fetch}
-use Rattle.mal_tokens.specs.declared.word.Word.{Word}
-use Rattle.mal_tokens.specs.declared.token.Token.{Token}
-use Rattle.mal_line.specs.declared.operation.Operation.{Operation}
-use Rattle.mal_line.specs.declared.chain.Assignment.{Assignment}
-use Rattle.mal_line.specs.declared.next.Next.{Next}
 use Rattle.mal_line.specs.declared.next.Next.TheVariants as nexts
 use Rattle.mal_line.specs.Expressions as table
 use Rattle.mal_line.specs.Prelude.{fits, source_word, spelling, tail_with, dest_bits, is_dest, is_expr, is_expr_word, is_filled, IsAssignment}

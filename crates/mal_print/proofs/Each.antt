@@ -1,29 +1,15 @@
 -- What holds of each token that may stand in a statement holds of each token of its text.
-use Rattle.std.proofs.Common.{◌≡◌, Bool, true, false, List, [], ◌∷◌, ◌++◌, Option, Some, None, refl, pos}
-use Rattle.std.specs.List.{AllByRecursion as Each, list_all}
-use Rattle.std.specs.Prelude.{◌&&◌, not}
-use Rattle.std.proofs.lemmas.Bool.{and_parts, cond_both, not-true}
-use Rattle.mic_words.specs.declared.machine.Machine.{Machine}
-use Rattle.mic_words.specs.declared.machine.Machine.TheVariants.{Mic1, Mic2}
-use Rattle.micro_word.specs.declared.statement.AluOp.{AluOp}
+use Rattle.mal_print.proofs.Common.{◌≡◌, Bool, true, false, List, [], ◌∷◌, ◌++◌, Option, Some, None, refl, pos, AllByRecursion as Each, list_all, ◌&&◌, not}
+use Rattle.mal_print.proofs.Common.{and_parts, cond_both, not-true, Machine, Mic1, Mic2, AluOp, BusSource, Shift, Mem, Test, Part, row, fits_side, may_be_a}
+use Rattle.mal_print.proofs.Common.{may_be_b, may_fetch, Word, Sign, Token, Next}
 use Rattle.micro_word.specs.declared.statement.AluOp.TheVariants as ops
-use Rattle.micro_word.specs.declared.statement.BusSource.{BusSource}
 use Rattle.micro_word.specs.declared.statement.BusSource.TheVariants as bus
-use Rattle.micro_word.specs.declared.statement.Shift.{Shift}
 use Rattle.micro_word.specs.declared.statement.Shift.TheVariants as shifts
-use Rattle.micro_word.specs.declared.statement.Mem.{Mem}
 use Rattle.micro_word.specs.declared.statement.Mem.TheVariants as mems
-use Rattle.micro_word.specs.declared.statement.Test.{Test}
 use Rattle.micro_word.specs.declared.statement.Test.TheVariants as tests
-use Rattle.micro_word.specs.declared.statement.Part.{Part}
-use Rattle.micro_word.specs.Prelude.{row, fits_side, may_be_a, may_be_b, may_fetch}
-use Rattle.mal_tokens.specs.declared.word.Word.{Word}
 use Rattle.mal_tokens.specs.declared.word.Word.TheVariants as words
-use Rattle.mal_tokens.specs.declared.sign.Sign.{Sign}
 use Rattle.mal_tokens.specs.declared.sign.Sign.TheVariants as signs
-use Rattle.mal_tokens.specs.declared.token.Token.{Token}
 use Rattle.mal_tokens.specs.declared.token.Token.TheVariants as tokens
-use Rattle.mal_line.specs.declared.next.Next.{Next}
 use Rattle.mal_line.specs.declared.next.Next.TheVariants as nexts
 use Rattle.mal_line.specs.Prelude.{minus, one_token, plus, side, source_word, spelling, tail_with, zero_token, dest_tokens, tail_tokens, is_foreign_word, is_semicolon, test_word, EachTarget}
 use Rattle.mal_print.specs.Prelude.{all_dests, assignment, beside, byte_word, chain, dests_of, fetches, has_dest, heads, is_absent, leads, memory, or_semicolon, parts, tested, value}

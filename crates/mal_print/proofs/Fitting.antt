@@ -1,11 +1,6 @@
 -- What holds of a part that stands in a word of the machine.
-use Rattle.std.proofs.Common.{◌≡◌, Bool, true, List, [], ◌∷◌, refl}
-use Rattle.std.specs.Prelude.{not, nat_lt}
-use Rattle.std.specs.List.{filter, list_all}
-use Rattle.std.proofs.lemmas.Bool.{and_from, and_parts, cond_both}
-use Rattle.mic_words.specs.declared.machine.Machine.{Machine}
-use Rattle.micro_word.specs.declared.statement.Part.{Part}
-use Rattle.micro_word.specs.Prelude.{row, fits_side, has_operation, is_mixed, is_part, may_be_a, may_be_b, may_fetch}
+use Rattle.mal_print.proofs.Common.{◌≡◌, Bool, true, List, [], ◌∷◌, refl, not, nat_lt, filter, list_all, and_from, and_parts, cond_both, Machine, Part, row}
+use Rattle.mal_print.proofs.Common.{fits_side, has_operation, is_mixed, is_part, may_be_a, may_be_b, may_fetch}
 
 pub filtered : {A : Type 0} (q p : A → Bool) (ws : List A) → list_all q ws ≡ true → list_all q (filter p ws) ≡ true
 filtered q p [] h = refl

@@ -1,3 +1,4 @@
+pub mod Common
 pub mod Widths
 pub mod Fitting
 pub mod Each

@@ -1,22 +1,11 @@
 -- The canonical parts of a statement, divided by semicolons, are its parts.
-use Rattle.std.proofs.Common.{◌≡◌, ℕ, suc, Bool, true, false, List, [], ◌∷◌, ◌++◌, Option, Some, None, refl, sym, ap, subst, ◌∙◌, append_assoc, cond}
-use Rattle.std.specs.List.{AllByRecursion as Each}
-use Rattle.std.proofs.lemmas.List.{append-nil}
-use Rattle.std.proofs.lemmas.List.Elements.{All-from_recursion}
+use Rattle.mal_print.proofs.Common.{◌≡◌, ℕ, suc, Bool, true, false, List, [], ◌∷◌, ◌++◌, Option, Some, None, refl, sym, ap, subst, ◌∙◌, append_assoc, cond}
+use Rattle.mal_print.proofs.Common.{AllByRecursion as Each, append-nil, All-from_recursion, Machine, Mic1, Mic2, Mem, Part, Word, Token, Assignment, Tree, Next}
 use Rattle.std.proofs.lemmas.List.Splits.{slice_split_at, slice_split_none}
-use Rattle.mic_words.specs.declared.machine.Machine.{Machine}
-use Rattle.mic_words.specs.declared.machine.Machine.TheVariants.{Mic1, Mic2}
-use Rattle.micro_word.specs.declared.statement.Mem.{Mem}
 use Rattle.micro_word.specs.declared.statement.Mem.TheVariants as mems
-use Rattle.micro_word.specs.declared.statement.Part.{Part}
-use Rattle.mal_tokens.specs.declared.word.Word.{Word}
 use Rattle.mal_tokens.specs.declared.word.Word.TheVariants as words
 use Rattle.mal_tokens.specs.declared.sign.Sign.TheVariants as signs
-use Rattle.mal_tokens.specs.declared.token.Token.{Token}
 use Rattle.mal_tokens.specs.declared.token.Token.TheVariants as tokens
-use Rattle.mal_line.specs.declared.chain.Assignment.{Assignment}
-use Rattle.mal_line.specs.declared.tree.Tree.{Tree}
-use Rattle.mal_line.specs.declared.next.Next.{Next}
 use Rattle.mal_line.specs.declared.next.Next.TheVariants as nexts
 use Rattle.mal_line.specs.Prelude.{dest_tokens, AreParts, AreTree, assign, assignments, counted, fetch_count, fetches, IsJumpLast, is_semicolon, jump, jumps_of, Kind, listed, listed_mem, memories, memory, nothing, pieces}
 use Rattle.mal_print.specs.StatementText as text

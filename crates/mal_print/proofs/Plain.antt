@@ -1,19 +1,9 @@
 -- What is printed has no newline, no carriage return and no slash.
-use Rattle.std.proofs.Common.{◌≡◌, ℕ, Bool, true, List, [], ◌∷◌, ◌++◌, refl, ap, ◌∙◌, arith, cond}
-use Rattle.std.specs.Prelude.{◌&&◌, codes}
-use Rattle.std.specs.List.{list_all}
-use Rattle.std.proofs.lemmas.Bool.Decides.{nat_tests}
-use Rattle.std.proofs.lemmas.Bool.{and_from, and_parts, cond_both}
-use Rattle.std.proofs.lemmas.List.Folds.{list_all-append}
-use Rattle.mic_base.specs.Prelude.{is_name_byte}
-use Rattle.source_text.specs.Prelude.{named}
-use Rattle.mal_tokens.specs.declared.word.Word.{Word}
+use Rattle.mal_print.proofs.Common.{◌≡◌, ℕ, Bool, true, List, [], ◌∷◌, ◌++◌, refl, ap, ◌∙◌, arith, cond, ◌&&◌, codes, list_all, nat_tests, and_from, and_parts}
+use Rattle.mal_print.proofs.Common.{cond_both, list_all-append, is_name_byte, named, Word, Sign, Token, sign_text, word_text, IsTextOf, spelled_as, IsLexeme}
 use Rattle.mal_tokens.specs.declared.word.Word.TheVariants as words
-use Rattle.mal_tokens.specs.declared.sign.Sign.{Sign}
 use Rattle.mal_tokens.specs.declared.sign.Sign.TheVariants as signs
-use Rattle.mal_tokens.specs.declared.token.Token.{Token}
 use Rattle.mal_tokens.specs.declared.token.Token.TheVariants as tokens
-use Rattle.mal_tokens.specs.Prelude.{sign_text, word_text, IsTextOf, spelled_as, IsLexeme}
 use Rattle.mal_print.specs.Prelude.{is_spaced, is_spacing, printed_after, token_text, is_plain}
 use Rattle.mal_print.proofs.Spelling.{AreLexemes}
 

@@ -1,15 +1,9 @@
 -- What is printed spells its tokens, where each text is its token's.
-use Rattle.std.proofs.Common.{◌≡◌, ℕ, Bool, true, false, List, [], ◌∷◌, ◌++◌, refl, ap, sym, subst, ◌∙◌, cond}
-use Rattle.std.specs.Prelude.{◌&&◌, ◌||◌, codes}
-use Rattle.std.specs.List.{AllByRecursion as Each}
-use Rattle.std.proofs.lemmas.Bool.{cond_both}
-use Rattle.mic_base.specs.Prelude.{is_name_byte}
-use Rattle.source_text.specs.Prelude.{begins_with, ends_with, AreBlank}
-use Rattle.mal_tokens.specs.declared.token.Token.{Token}
+use Rattle.mal_print.proofs.Common.{◌≡◌, ℕ, Bool, true, false, List, [], ◌∷◌, ◌++◌, refl, ap, sym, subst, ◌∙◌, cond, ◌&&◌, ◌||◌, codes, AllByRecursion as Each}
+use Rattle.mal_print.proofs.Common.{cond_both, is_name_byte, begins_with, ends_with, AreBlank, Token, Sign, sign_text, may_end, spelled_as, IsLexeme}
+use Rattle.mal_print.proofs.Common.{SpellsTokens}
 use Rattle.mal_tokens.specs.declared.token.Token.TheVariants as tokens
-use Rattle.mal_tokens.specs.declared.sign.Sign.{Sign}
 use Rattle.mal_tokens.specs.declared.sign.Sign.TheVariants as signs
-use Rattle.mal_tokens.specs.Prelude.{sign_text, may_end, spelled_as, IsLexeme, SpellsTokens}
 use Rattle.mal_print.specs.Prelude.{is_open, is_spaced, is_spacing, is_wordy, printed_after, token_text}
 
 -- the text that is printed of each token spells it

@@ -1,24 +1,13 @@
 -- The canonical text of a statement spells that statement.
-use Rattle.std.proofs.Common.{◌≡◌, ℕ, zero, suc, ◌<◌, ◌≤◌, ◌/◌, ◌%◌, Bool, true, false, List, [], ◌∷◌, ◌++◌, Option, Some, None, refl, ap, ◌∙◌, inl, arith}
-use Rattle.std.specs.Prelude.{◌&&◌, ◌||◌, ◌^◌, IfSome, Ok, codes, nat_lt, option_map, pos}
+use Rattle.mal_print.proofs.Common.{◌≡◌, ℕ, zero, suc, ◌<◌, ◌≤◌, ◌/◌, ◌%◌, Bool, true, false, List, [], ◌∷◌, ◌++◌, Option, Some, None, refl, ap, ◌∙◌, inl}
+use Rattle.mal_print.proofs.Common.{arith, ◌&&◌, ◌||◌, ◌^◌, IfSome, Ok, codes, nat_lt, option_map, pos, digit_char, AllByRecursion as Each, list_all, nat_tests}
+use Rattle.mal_print.proofs.Common.{Machine, Part, is_part, hex_text, is_name_byte, number_of, Token, IsLabelText, label_lexeme, number_lexeme, sign_lexeme}
+use Rattle.mal_print.proofs.Common.{word_lexeme, IsLexeme, Parts, Content, Form, Next}
 use Rattle.std.specs.Fmt.{digits}
-use Rattle.std.specs.Char.{digit_char}
-use Rattle.std.specs.List.{AllByRecursion as Each, list_all}
-use Rattle.std.proofs.lemmas.Bool.Decides.{nat_tests}
-use Rattle.mic_words.specs.declared.machine.Machine.{Machine}
-use Rattle.micro_word.specs.declared.statement.Part.{Part}
-use Rattle.micro_word.specs.Prelude.{is_part}
-use Rattle.mic_base.specs.Prelude.{hex_text, is_name_byte, number_of}
 use Rattle.mal_tokens.specs.declared.sign.Sign.TheVariants as signs
-use Rattle.mal_tokens.specs.declared.token.Token.{Token}
 use Rattle.mal_tokens.specs.declared.token.Token.TheVariants as tokens
-use Rattle.mal_tokens.specs.Prelude.{IsLabelText, label_lexeme, number_lexeme, sign_lexeme, word_lexeme, IsLexeme}
-use Rattle.mal_line.specs.declared.content.Parts.{Parts}
-use Rattle.mal_line.specs.declared.content.Content.{Content}
 use Rattle.mal_line.specs.declared.content.Content.TheVariants as contents
-use Rattle.mal_line.specs.declared.line.Form.{Form}
 use Rattle.mal_line.specs.declared.line.Form.TheVariants as forms
-use Rattle.mal_line.specs.declared.next.Next.{Next}
 use Rattle.mal_line.specs.declared.next.Next.TheVariants as nexts
 use Rattle.mal_line.specs.Prelude.{content_of, is_foreign, IsForm, names_foreign, next_by_jump, part_by, part_of, parts_by, parts_of, with_access, EachTarget}
 use Rattle.mal_print.specs.Prelude.{IsLineOf, address_of, number_text, printed, fallback, fix, HasLabels, is_absent, labelled, or_semicolon, parts, statement}

@@ -1,7 +1,5 @@
 -- A labelled statement is one of the program's.
-use Rattle.std.proofs.Common.{◌≡◌, ◌<◌, ℕ, zero, suc, List, [], ◌∷◌, length, Some, arith}
-use Rattle.mal_parser.specs.declared.statement.Statement.{Statement}
-use Rattle.mal_parser.specs.Prelude.{label_at}
+use Rattle.mal_shipped.proofs.Common.{◌≡◌, ◌<◌, ℕ, zero, suc, List, [], ◌∷◌, length, Some, arith, Statement, label_at}
 
 pub labelled_inside : (ss : List Statement) (s : ℕ) (name : List ℕ) → label_at ss s ≡ Some name → s < length ss
 labelled_inside [] s name e = absurd (cc)

@@ -1,3 +1,4 @@
+pub mod Common
 mod Texts
 mod Placed
 mod Valid

@@ -1,19 +1,11 @@
 -- Line numbers: the program of a text, without them, is the listed one.
-use Rattle.std.proofs.Common.{◌≡◌, ℕ, zero, suc, ◌+◌, ◌<◌, List, [], ◌∷◌, ◌++◌, length, take, map, Option, Some, None, Result, Ok, Err, ◌⊎◌, inl, inr, refl, sym, ap, ◌∙◌, subst}
-use Rattle.std.specs.Prelude.{option_map, slice_get, slice_index}
-use Rattle.std.proofs.lemmas.List.{map-append, take_more}
-use Rattle.std.proofs.lemmas.Option.{slice_get_within, get_or_from_slice_get}
-use Rattle.mic_words.specs.declared.machine.Machine.{Machine}
-use Rattle.mic_words.specs.declared.machine.Machine.TheVariants.{Mic1, Mic2}
-use Rattle.mal_parser.specs.declared.statement.Statement.{Statement}
-use Rattle.mal_parser.specs.declared.error.MalError.{MalError}
-use Rattle.mal_parser.specs.declared.error.MalError.TheVariants.{OutOfMemory}
-use Rattle.mal_parser.specs.Prelude.{canonical_text, on_line, on_lines, relined, SpellsProgram, IsMalProgram, MalView}
-use Rattle.micro_word.specs.declared.statement.Placed.{Placed}
-use Rattle.store_placement.specs.Prelude.{demands_of, placed_default, Decodes, IsFilled}
+use Rattle.mal_shipped.proofs.Common.{◌≡◌, ℕ, zero, suc, ◌+◌, ◌<◌, List, [], ◌∷◌, ◌++◌, length, take, map, Option, Some, None, Result, Ok, Err, ◌⊎◌, inl, inr}
+use Rattle.mal_shipped.proofs.Common.{refl, sym, ap, ◌∙◌, subst, option_map, slice_get, slice_index, map-append, take_more, slice_get_within}
+use Rattle.mal_shipped.proofs.Common.{get_or_from_slice_get, Machine, Mic1, Mic2, Statement, MalError, OutOfMemory, canonical_text, on_line, on_lines, relined}
+use Rattle.mal_shipped.proofs.Common.{SpellsProgram, IsMalProgram, MalView, Placed, demands_of, placed_default, Decodes, IsFilled, listed_program, text_of}
+use Rattle.mal_shipped.proofs.Common.{unlined, without_line, program1, rows1, program2, rows2}
 use Rattle.mal_shipped.proofs.Valid.{valid}
 use Rattle.mal_shipped.proofs.Texts.{canonical}
-use Rattle.mal_shipped.specs.Prelude.{listed_program, text_of, unlined, without_line, program1, rows1, program2, rows2}
 
 pub one_more : (ss : List Statement) (k : ℕ) (s : Statement) → slice_get ss k ≡ Some s →
     map without_line (take k ss) ++ without_line s ∷ [] ≡ map without_line (take (k + 1) ss)

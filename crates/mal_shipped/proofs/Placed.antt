@@ -1,16 +1,10 @@
 -- The listed addresses are the chosen placement.
-use Rattle.std.proofs.Common.{◌≡◌, ℕ, List, refl, ◌<◌, zero, suc, ◌&&◌, Bool, true, nat_lt, [], ◌∷◌, length, All, Option, Some, None, subst, arith}
-use Rattle.std.specs.Prelude.{slice_index_or}
-use Rattle.std.specs.List.{list_all}
-use Rattle.std.proofs.lemmas.Bool.{ltb-true, and_parts}
-use Rattle.mic_words.specs.declared.machine.Machine.{Machine}
-use Rattle.mic_words.specs.declared.machine.Machine.TheVariants.{Mic1, Mic2}
-use Rattle.store_placement.specs.declared.pair.Pair.{Pair}
-use Rattle.store_placement.specs.Prelude.{AreFixedInside, IsOfStatements, AreWithin, demands_of, IsListed}
+use Rattle.mal_shipped.proofs.Common.{◌≡◌, ℕ, List, refl, ◌<◌, zero, suc, ◌&&◌, Bool, true, nat_lt, [], ◌∷◌, length, All, Option, Some, None, subst, arith}
+use Rattle.mal_shipped.proofs.Common.{slice_index_or, list_all, ltb-true, and_parts, Machine, Mic1, Mic2, Pair, AreFixedInside, IsOfStatements, AreWithin}
+use Rattle.mal_shipped.proofs.Common.{demands_of, IsListed, listed_program, addresses_of, program1, rows1, program2, rows2, addresses1, addresses2}
 use Rattle.store_placement.specs.Chosen as chosen
 use Rattle.store_placement.specs.Forced as forced
 use Rattle.store_placement.specs.First as first
-use Rattle.mal_shipped.specs.Prelude.{listed_program, addresses_of, program1, rows1, program2, rows2, addresses1, addresses2}
 
 pub listed1 : IsListed (demands_of program1) addresses1
 unfolding program1 rows1 demands_of chosen.is_taken chosen.free_lows chosen.free_addresses chosen.open_pairs chosen.is_single chosen.singles chosen.before_singles forced.forced forced.all_forced first.below

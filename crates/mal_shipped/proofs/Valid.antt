@@ -1,20 +1,9 @@
 -- Both programs are programs: each statement may stand where it stands, and no label stands twice.
-use Rattle.std.proofs.Common.{◌≡◌, ◌<◌, ℕ, zero, suc, ◌+◌, add-zero, zero-add, ◌&&◌, not, Bool, true, false, nat_lt, List, [], ◌∷◌, length, Option, Some, None, is_some, refl, sym, ap, subst, arith}
-use Rattle.std.specs.Prelude.{slice_get, IsSome, IfSome}
-use Rattle.std.specs.List.{list_any}
-use Rattle.std.specs.Str.{bytes_eq}
-use Rattle.std.proofs.lemmas.Bool.{ltb-true, and_parts, not-true, or_right}
-use Rattle.std.proofs.lemmas.Slice.Eq.{bytes_eq-Decides}
-use Rattle.mic_words.specs.declared.machine.Machine.{Machine}
-use Rattle.micro_word.specs.Prelude.{is_part}
-use Rattle.mic_base.specs.Prelude.{is_name}
-use Rattle.mal_tokens.specs.Prelude.{is_reserved, IsLabelText}
-use Rattle.mal_line.specs.declared.next.Next.{Next}
+use Rattle.mal_shipped.proofs.Common.{◌≡◌, ◌<◌, ℕ, zero, suc, ◌+◌, add-zero, zero-add, ◌&&◌, not, Bool, true, false, nat_lt, List, [], ◌∷◌, length, Option}
+use Rattle.mal_shipped.proofs.Common.{Some, None, is_some, refl, sym, ap, subst, arith, slice_get, IsSome, IfSome, list_any, bytes_eq, ltb-true, and_parts}
+use Rattle.mal_shipped.proofs.Common.{not-true, or_right, bytes_eq-Decides, Machine, is_part, is_name, is_reserved, IsLabelText, Next, Statement, MalView}
+use Rattle.mal_shipped.proofs.Common.{label_at, HasTargets, IsStatement, IsMalProgram, Mic1, Mic2, listed_program, program1, rows1, program2, rows2}
 use Rattle.mal_line.specs.declared.next.Next.TheVariants as nexts
-use Rattle.mal_parser.specs.declared.statement.Statement.{Statement}
-use Rattle.mal_parser.specs.Prelude.{MalView, label_at, HasTargets, IsStatement, IsMalProgram}
-use Rattle.mic_words.specs.declared.machine.Machine.TheVariants.{Mic1, Mic2}
-use Rattle.mal_shipped.specs.Prelude.{listed_program, program1, rows1, program2, rows2}
 
 -- ---- each statement may stand where it stands
 

@@ -1,15 +1,8 @@
 -- The words of a loaded shipped microprogram are those that are listed.
-use Rattle.std.proofs.Common.{◌≡◌, ◌≢◌, ◌<◌, ℕ, zero, suc, ◌+◌, add-zero, ◌==◌, Bool, true, false, List, [], ◌∷◌, length, map, Some, refl, sym, ap, ◌∙◌, subst, IsTrue, arith}
-use Rattle.std.specs.Prelude.{slice_get, slice_index}
-use Rattle.std.proofs.lemmas.Bool.{eqb-false, eqb-true}
-use Rattle.mic_words.specs.declared.machine.Machine.{Machine}
-use Rattle.mic_words.specs.declared.machine.Machine.TheVariants.{Mic1, Mic2}
-use Rattle.micro_word.specs.declared.statement.Placed.{Placed}
-use Rattle.micro_word.specs.Prelude.{is_valid, microword_of, statement_of}
-use Rattle.mal_parser.specs.declared.statement.Statement.{Statement}
-use Rattle.mal_parser.specs.Prelude.{MalView}
-use Rattle.store_placement.specs.Prelude.{placed_statement, placed_default, IsFilled, Decodes}
-use Rattle.mal_shipped.specs.Prelude.{ListingRow, listed_program, addresses_of, program1, rows1, program2, rows2, shipped, HasShipped}
+use Rattle.mal_shipped.proofs.Common.{◌≡◌, ◌≢◌, ◌<◌, ℕ, zero, suc, ◌+◌, add-zero, ◌==◌, Bool, true, false, List, [], ◌∷◌, length, map, Some, refl, sym, ap, ◌∙◌}
+use Rattle.mal_shipped.proofs.Common.{subst, IsTrue, arith, slice_get, slice_index, eqb-false, eqb-true, Machine, Mic1, Mic2, Placed, is_valid, microword_of}
+use Rattle.mal_shipped.proofs.Common.{statement_of, Statement, MalView, placed_statement, placed_default, IsFilled, Decodes, ListingRow, listed_program}
+use Rattle.mal_shipped.proofs.Common.{addresses_of, program1, rows1, program2, rows2, shipped, HasShipped}
 
 -- the statement at an address among these rows, the first of which has this number; else what unused words hold
 abbrev statement_among : Placed → (ℕ → ℕ) → ℕ → List ListingRow → ℕ → Placed

@@ -1,14 +1,8 @@
 -- The definitions, computed on programs whose images are known.
-use Rattle.std.proofs.Common.{◌≡◌, ℕ, pos, negsuc, List, [], ◌∷◌, Some, None, codes, refl}
-use Rattle.ijvm_instr.specs.declared.instr.Instr.TheVariants.{Bipush, Out, Halt, Iload, Iadd, Istore, Ireturn, In, Dup}
-use Rattle.ijvm_program.specs.declared.line.CodeLine.{CodeLine}
-use Rattle.ijvm_program.specs.declared.line.Jump.TheVariants.{IfIcmpeq, Goto}
-use Rattle.ijvm_program.specs.declared.line.Operation.{Operation}
+use Rattle.method_linker.proofs.Common.{◌≡◌, ℕ, pos, negsuc, List, [], ◌∷◌, Some, None, codes, refl, Bipush, Out, Halt, Iload, Iadd, Istore, Ireturn, In, Dup}
+use Rattle.method_linker.proofs.Common.{CodeLine, IfIcmpeq, Goto, Operation, ProgramView, pool_of, text_of, code_bytes, layout_of, unit_code}
 use Rattle.ijvm_program.specs.declared.line.Operation.TheVariants.{Plain, Constant, Call, To}
-use Rattle.ijvm_program.specs.Prelude.{ProgramView}
 use Rattle.ijvm_instr.specs.Prelude.{first_far}
-use Rattle.ijvm_text.specs.Prelude.{pool_of, text_of, code_bytes}
-use Rattle.method_linker.specs.Prelude.{layout_of, unit_code}
 
 abbrev at_line : ℕ → Operation → CodeLine
 at_line line operation = record { line = line; operation = operation }

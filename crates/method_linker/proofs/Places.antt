@@ -1,13 +1,7 @@
 -- Places of lines in a unit's code.
-use Rattle.std.proofs.Common.{◌≡◌, ℕ, pos, ◌-ℤ◌, ◌+◌, ◌<◌, ◌≤◌, ◌^◌, List, [], ◌∷◌, ◌++◌, length, map, get_or, ap, ◌∙◌, zero-add, to_z, of_z, arith}
-use Rattle.std.specs.List.{range_with_len, sum_by}
-use Rattle.std.specs.Int.{w32}
-use Rattle.std.proofs.lemmas.Int.{ints}
+use Rattle.method_linker.proofs.Common.{◌≡◌, ℕ, pos, ◌-ℤ◌, ◌+◌, ◌<◌, ◌≤◌, ◌^◌, List, [], ◌∷◌, ◌++◌, length, map, get_or, ap, ◌∙◌, zero-add, to_z, of_z, arith}
+use Rattle.method_linker.proofs.Common.{range_with_len, sum_by, w32, ints, sum_by-take-le, sum_by_more, CodeLine, line_size, line_address, line_places}
 use Rattle.std.proofs.lemmas.List.FromFn.{map-range_with_len_more, length-map-range_with_len, get_or-map-range_with_len}
-use Rattle.std.proofs.lemmas.List.Sums.{sum_by-take-le, sum_by_more}
-use Rattle.ijvm_program.specs.declared.line.CodeLine.{CodeLine}
-use Rattle.ijvm_program.specs.Prelude.{line_size, line_address}
-use Rattle.method_linker.specs.Prelude.{line_places}
 
 -- one more place, after the places so far
 pub places_more : (lines : List CodeLine) (n place : ℕ) (places more : List ℕ) → places ≡ map (line_address lines) (range_with_len 0 n) →

@@ -1,10 +1,6 @@
 -- The words of a pool.
-use Rattle.std.proofs.Common.{◌≡◌, ℕ, List, ◌++◌, length, map, ap, refl, ◌∙◌, sym, arith, length-append}
-use Rattle.std.proofs.lemmas.List.{append-nil, length-map}
-use Rattle.ijvm_text.specs.Prelude.{begins, pool_of, length-begins}
-use Rattle.ijvm_program.specs.declared.line.Constant.{Constant}
-use Rattle.ijvm_program.specs.Prelude.{ProgramView}
-use Rattle.method_linker.specs.Prelude.{entries_of, layout_of, method_part, pool_size}
+use Rattle.method_linker.proofs.Common.{◌≡◌, ℕ, List, ◌++◌, length, map, ap, refl, ◌∙◌, sym, arith, length-append, append-nil, length-map, begins, pool_of}
+use Rattle.method_linker.proofs.Common.{length-begins, Constant, ProgramView, entries_of, layout_of, method_part, pool_size}
 
 abbrev value : Constant → ℕ
 value c = c.value

@@ -1,15 +1,9 @@
 -- The text of a program, line by line and method by method.
-use Rattle.std.proofs.Common.{◌≡◌, ℕ, ◌+◌, ◌<◌, ◌≤◌, ℤ, List, [], ◌∷◌, ◌++◌, length, drop, map, get_or, None, sym, ap, ◌∙◌, zero-add, subst, arith}
-use Rattle.std.specs.List.{flat_map, enumerate_from}
-use Rattle.std.proofs.lemmas.List.{drop_all, drop_more, get_or_default}
+use Rattle.method_linker.proofs.Common.{◌≡◌, ℕ, ◌+◌, ◌<◌, ◌≤◌, ℤ, List, [], ◌∷◌, ◌++◌, length, drop, map, get_or, None, sym, ap, ◌∙◌, zero-add, subst, arith}
+use Rattle.method_linker.proofs.Common.{flat_map, enumerate_from, drop_all, drop_more, get_or_default, Instr, Text, Units, Adds, joined, no_code, then}
+use Rattle.method_linker.proofs.Common.{code_bytes, AddsPart, AddsParts, AreUnits, no_parts, part_then, whole, CodeLine, ProgramView, UnitView, distance}
+use Rattle.method_linker.proofs.Common.{layout_of, line_instr, line_jumps, method_part, unit_code, unit_jumps, AddsLine, AddsLines, AddsUnit}
 use Rattle.std.proofs.lemmas.List.FromFn.{length-enumerate_from, get_or-enumerate_from}
-use Rattle.ijvm_instr.specs.declared.instr.Instr.{Instr}
-use Rattle.ijvm_text.specs.declared.text.Text.{Text}
-use Rattle.ijvm_text.specs.declared.units.Units.{Units}
-use Rattle.ijvm_text.specs.Prelude.{Adds, joined, no_code, then, code_bytes, AddsPart, AddsParts, AreUnits, no_parts, part_then, whole}
-use Rattle.ijvm_program.specs.declared.line.CodeLine.{CodeLine}
-use Rattle.ijvm_program.specs.Prelude.{ProgramView, UnitView}
-use Rattle.method_linker.specs.Prelude.{distance, layout_of, line_instr, line_jumps, method_part, unit_code, unit_jumps, AddsLine, AddsLines, AddsUnit}
 
 -- ---- lines
 

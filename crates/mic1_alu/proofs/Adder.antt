@@ -1,8 +1,6 @@
 -- A sum of two words, bit by bit with carries.
-use Rattle.std.proofs.Common.{◌≡◌, ℕ, zero, suc, ◌+◌, ◌*◌, ◌/◌, ◌%◌, ◌^◌, ◌<◌, refl, sym, ap, ◌∙◌, arith}
-use Rattle.std.specs.Int.{bit_at}
+use Rattle.mic1_alu.proofs.Common.{◌≡◌, ℕ, zero, suc, ◌+◌, ◌*◌, ◌/◌, ◌%◌, ◌^◌, ◌<◌, refl, sym, ap, ◌∙◌, arith, bit_at, wrap}
 use Rattle.std.proofs.lemmas.Nat.Bits.{bit_at_lowest, bit_at-suc, bit_at-lt, bit_at_cat_low, same_from_bits_below}
-use Rattle.mic_words.specs.Prelude.{wrap}
 
 -- the carry into bit i of a sum of two numbers and a first carry
 abbrev pub ripple : ℕ → ℕ → ℕ → ℕ → ℕ

@@ -1,12 +1,8 @@
 -- The carries of the slices: those that the rounds settle, and those of a sum.
-use Rattle.std.proofs.Common.{◌≡◌, ℕ, zero, suc, ◌+◌, ◌-◌, ◌*◌, ◌/◌, ◌%◌, ◌^◌, ◌<◌, Bool, true, false, min, max, refl, sym, ap, ◌∙◌, arith}
-use Rattle.std.specs.Prelude.{if◌then◌else◌}
-use Rattle.std.specs.Int.{bit_at}
-use Rattle.std.specs.Int.Bits.{bit_and, bit_or}
-use Rattle.std.proofs.lemmas.Nat.{and_le_l, and_le_r, or_lt, xor_lt}
+use Rattle.mic1_alu.proofs.Common.{◌≡◌, ℕ, zero, suc, ◌+◌, ◌-◌, ◌*◌, ◌/◌, ◌%◌, ◌^◌, ◌<◌, Bool, true, false, min, max, refl, sym, ap, ◌∙◌, arith, if◌then◌else◌}
+use Rattle.mic1_alu.proofs.Common.{bit_at, bit_and, bit_or, and_le_l, and_le_r, or_lt, xor_lt, Wires, combined, hands_on, left_at, right_at, slice_bit}
+use Rattle.mic1_alu.proofs.Common.{slice_carry, carry_to, before, AreHandedOn}
 use Rattle.std.proofs.lemmas.Nat.Bits.{bit_at_and, bit_at_or, bit_at_lowest, bit_at_above, bit_at_ones, bit_at-zero, bit_at-lt, same_from_bits_below}
-use Rattle.mic1_alu.specs.declared.wires.Wires.{Wires}
-use Rattle.mic1_alu.specs.Prelude.{combined, hands_on, left_at, right_at, slice_bit, slice_carry, carry_to, before, AreHandedOn}
 use Rattle.mic1_alu.proofs.Adder.{ripple, sum_of_bits}
 use Rattle.mic1_alu.proofs.Rounds.{before_far, before_near, bit_at-shifted}
 use Rattle.mic1_alu.proofs.Slice.{left_word, right_word, left_bit, right_bit, gate_is, carry_is, and_bit, or_bit, not_bit}

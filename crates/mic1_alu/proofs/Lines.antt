@@ -1,8 +1,5 @@
 -- A control line on each bit of a word.
-use Rattle.std.proofs.Common.{◌≡◌, ℕ, ◌%◌, ◌^◌, ◌<◌, Bool, true, false, ◌∙◌, arith}
-use Rattle.std.specs.Int.Bits.{bit_and}
-use Rattle.std.proofs.lemmas.Nat.{and_mask}
-use Rattle.mic1_alu.specs.Prelude.{enabled}
+use Rattle.mic1_alu.proofs.Common.{◌≡◌, ℕ, ◌%◌, ◌^◌, ◌<◌, Bool, true, false, ◌∙◌, arith, bit_and, and_mask, enabled}
 
 -- what a line lets through
 pub through : (on : Bool) (x : ℕ) → x < 2 ^ 32 → bit_and x (enabled on 4294967295) ≡ enabled on x

@@ -1,11 +1,8 @@
 -- Carries through the rounds.
-use Rattle.std.proofs.Common.{◌≡◌, ℕ, zero, suc, ◌+◌, ◌-◌, ◌*◌, ◌/◌, ◌%◌, ◌^◌, ◌<◌, ◌≤◌, ⊎_elim, min, max, cond, sym, ap, ◌∙◌, add-zero, arith}
-use Rattle.std.specs.Int.{bit_at}
-use Rattle.std.specs.Int.Bits.{bit_and, bit_or}
+use Rattle.mic1_alu.proofs.Common.{◌≡◌, ℕ, zero, suc, ◌+◌, ◌-◌, ◌*◌, ◌/◌, ◌%◌, ◌^◌, ◌<◌, ◌≤◌, ⊎_elim, min, max, cond, sym, ap, ◌∙◌, add-zero, arith, bit_at}
+use Rattle.mic1_alu.proofs.Common.{bit_and, bit_or, pow_pos, before, AreHandedOn}
 use Rattle.std.proofs.lemmas.Bool.{cases_lt, le-leb, lt-leb}
-use Rattle.std.proofs.lemmas.Nat.{pow_pos}
 use Rattle.std.proofs.lemmas.Nat.Bits.{bit_at_and, bit_at_or, bit_at-zero, bit_at_cat_low, bit_at_cat_high}
-use Rattle.mic1_alu.specs.Prelude.{before, AreHandedOn}
 
 pub before_far : (reach i : ℕ) (carry : ℕ → ℕ) → reach ≤ i → before reach carry i ≡ carry (i - reach)
 before_far reach i carry h = ap (λ b. cond b (carry (i - reach)) 0) (le-leb reach i h)

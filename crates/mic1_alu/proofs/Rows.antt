@@ -1,11 +1,7 @@
 -- For each row of the table the gates give the operation's arithmetic.
-use Rattle.std.proofs.Common.{◌≡◌, ℕ, ◌-◌, ◌^◌, ◌<◌, refl, ◌∙◌, arith}
-use Rattle.std.specs.Int.Bits.{bit_xor, xor_zero_r, or_zero_r, xor_add_and}
-use Rattle.std.proofs.lemmas.Nat.{and_mask}
-use Rattle.mic_words.specs.Prelude.{wrap}
+use Rattle.mic1_alu.proofs.Common.{◌≡◌, ℕ, ◌-◌, ◌^◌, ◌<◌, refl, ◌∙◌, arith, xor_zero_r, or_zero_r, xor_add_and, and_mask, wrap, gates, controls_of, AluOp}
+use Rattle.std.specs.Int.Bits.{bit_xor}
 use Rattle.micro_word.specs.Prelude.{alu, row}
-use Rattle.mic1_alu.specs.Prelude.{gates, controls_of}
-use Rattle.micro_word.specs.declared.statement.AluOp.{AluOp}
 use Rattle.micro_word.specs.declared.statement.AluOp.TheVariants as ops
 
 xor_ones : (a : ℕ) → a < 2 ^ 32 → bit_xor a 4294967295 ≡ 4294967295 - a

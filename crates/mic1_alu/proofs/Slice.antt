@@ -1,11 +1,8 @@
 -- One bit of what the gates give.
-use Rattle.std.proofs.Common.{◌≡◌, ◌&&◌, ℕ, ◌+◌, ◌-◌, ◌/◌, ◌%◌, ◌^◌, ◌<◌, Bool, true, false, min, max, refl, sym, ap, ◌∙◌, arith, w32}
-use Rattle.std.specs.Int.{bit_at}
-use Rattle.std.specs.Int.Bits.{bit_and, bit_or, bit_xor}
-use Rattle.std.proofs.lemmas.Nat.{and_le_l}
+use Rattle.mic1_alu.proofs.Common.{◌≡◌, ◌&&◌, ℕ, ◌+◌, ◌-◌, ◌/◌, ◌%◌, ◌^◌, ◌<◌, Bool, true, false, min, max, refl, sym, ap, ◌∙◌, arith, w32, bit_at, bit_and}
+use Rattle.mic1_alu.proofs.Common.{bit_or, and_le_l, Wires, gate, hands_on, left_at, right_at, slice_bit, slice_carry}
+use Rattle.std.specs.Int.Bits.{bit_xor}
 use Rattle.std.proofs.lemmas.Nat.Bits.{bit_at_and, bit_at_or, bit_at_xor, bit_at_not, bit_at-lt}
-use Rattle.mic1_alu.specs.declared.wires.Wires.{Wires}
-use Rattle.mic1_alu.specs.Prelude.{gate, hands_on, left_at, right_at, slice_bit, slice_carry}
 
 -- the words of both sides
 abbrev pub left_word : Wires → ℕ → ℕ

@@ -1,25 +1,8 @@
 -- What a store promises that was judged beside one which keeps its promises.
-use Rattle.std.proofs.Common.{◌≡◌, ℕ, List, inl, inr, refl, sym, subst}
-use Rattle.console_port.specs.World.{World}
-use Rattle.ijvm_instr.specs.declared.instr.Instr.{Instr}
-use Rattle.ijvm_instr.specs.declared.instr.Instr.TheVariants.{Err, Halt}
-use Rattle.ijvm_meaning.specs.Cost.{Timing, cost}
-use Rattle.ijvm_meaning.specs.Frames.{State, start_of}
-use Rattle.verifier_facts.specs.Accepted.{VerifiedView}
-use Rattle.mic1_datapath.specs.Micro.{Micro}
-use Rattle.mic1_datapath.specs.Mic1.{mic1_meaning, IsReady}
-use Rattle.ijvm_simulation.specs.Stands.{Origin, IsAt}
-use Rattle.ijvm_simulation.specs.Passes.{Moment}
-use Rattle.ijvm_simulation.specs.Outcomes.{Went, Overran}
-use Rattle.ijvm_simulation.specs.Verified.{Loads, Fine, IsNext}
-use Rattle.ijvm_simulation.specs.Law.{Boots, Law, Moves, Overruns, ShowsState, Stops, StopsBehind, Takes, reset_moment}
-use Rattle.ijvm_simulation.specs.Promises.{Promises}
-use Rattle.mic1_checks.specs.declared.judged.Costs.{Costs}
-use Rattle.mic1_checks.specs.Ready.{IsReadyOrArriving}
-use Rattle.mic1_checks.specs.Situation.{StandsBefore}
-use Rattle.mic1_checks.specs.Spent.{CarriesAll, MovesOn, timing_by}
-use Rattle.mic1_checks.specs.Words.{HasWords}
-use Rattle.mic1_checker.specs.Ready.{IsReadyInWords}
+use Rattle.mic1_checker.proofs.Common.{◌≡◌, ℕ, List, inl, inr, refl, sym, subst, World, Instr, Err, Halt, Timing, cost, State, start_of, VerifiedView, Micro}
+use Rattle.mic1_checker.proofs.Common.{mic1_meaning, IsReady, Origin, IsAt, Moment, Went, Overran, Loads, Fine, IsNext, Boots, Law, Moves, Overruns, ShowsState}
+use Rattle.mic1_checker.proofs.Common.{Stops, StopsBehind, Takes, reset_moment, Promises, Costs, IsReadyOrArriving, StandsBefore, CarriesAll, MovesOn}
+use Rattle.mic1_checker.proofs.Common.{timing_by, HasWords, IsReadyInWords}
 
 module _ (store' : List ℕ) (entry' : ℕ) (o : Origin) where
   abbrev Arriving : State → Micro → World → Type 0

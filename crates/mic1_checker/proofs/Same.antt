@@ -1,12 +1,6 @@
 -- What holds of a checked store holds of equal words and an equal entry.
-use Rattle.std.proofs.Common.{◌≡◌, ℕ, List, Option, subst}
-use Rattle.std.specs.Prelude.{Result}
-use Rattle.mic_clock.specs.View.{BoardView}
-use Rattle.verifier_facts.specs.Accepted.{VerifiedView}
-use Rattle.mic1_datapath.specs.declared.mic1.Mic1.{Mic1}
-use Rattle.ijvm_simulation.specs.Answers.{RunsAsDefined, IsCutWhereReadFails, IsCutWhereWriteFails}
-use Rattle.mic1_checks.specs.declared.judged.Costs.{Costs}
-use Rattle.mic1_checker.specs.Checked.{checked_with}
+use Rattle.mic1_checker.proofs.Common.{◌≡◌, ℕ, List, Option, subst, Result, BoardView, VerifiedView, Mic1, RunsAsDefined, IsCutWhereReadFails}
+use Rattle.mic1_checker.proofs.Common.{IsCutWhereWriteFails, Costs, checked_with}
 
 pub along : (P : List ℕ → ℕ → Type 0) {words words' : List ℕ} {entry entry' : ℕ} → words ≡ words' → entry ≡ entry' → P words entry → P words' entry'
 along P {words} {words'} {entry} {entry'} e f h = subst (λ (n : ℕ). P words' n) f (subst (λ (ws : List ℕ). P ws entry) e h)

@@ -1,8 +1,5 @@
 -- The comparison of two writes decides whether they are one.
-use Rattle.std.proofs.Common.{◌≡◌, ◌&&◌, eqb, ap, ◌∙◌}
-use Rattle.std.specs.Bool.{Decides}
-use Rattle.std.proofs.lemmas.Bool.Decides.{Decides-and, Decides-eqb, Decides-like}
-use Rattle.mic1_cycles.specs.declared.symbols.Write.{Write}
+use Rattle.mic1_checks.proofs.Common.{◌≡◌, ◌&&◌, eqb, ap, ◌∙◌, Decides, Decides-and, Decides-eqb, Decides-like, Write}
 
 one : (a b : Write) → (a.at ≡ b.at) × (a.value ≡ b.value) → a ≡ b
 one a b h =

@@ -1,27 +1,7 @@
 -- The environment in which a symbolic run stands for a machine's.
-use Rattle.std.proofs.Common.{◌≡◌, ◌<◌, ℕ, true, List, sym, ◌∙◌, subst}
-use Rattle.std.specs.Prelude.{slice_index}
-use Rattle.console_port.specs.World.{World}
-use Rattle.ijvm_instr.specs.declared.instr.Instr.{Instr}
-use Rattle.ijvm_meaning.specs.Frames.{State}
-use Rattle.verifier_facts.specs.Accepted.{VerifiedView}
-use Rattle.mic_datapath.specs.Registers.{arrived}
-use Rattle.mic1_datapath.specs.Micro.{Micro}
-use Rattle.mic1_datapath.specs.Mic1.{mic1_meaning, IsReady}
-use Rattle.ijvm_simulation.specs.Stands.{Origin, IsAt}
-use Rattle.ijvm_simulation.specs.Outcomes.{Went}
-use Rattle.ijvm_simulation.specs.Passes.{Moment}
-use Rattle.micro_terms.specs.declared.node.Node.{Node}
-use Rattle.micro_terms.specs.Environment.{Environment}
-use Rattle.micro_terms.specs.Meaning.{Fits}
-use Rattle.micro_terms.specs.Ordered.{AreOrdered, HasEnvironments}
-use Rattle.mic1_cycles.specs.declared.symbols.Symbols.{Symbols}
-use Rattle.mic1_cycles.specs.Symbols.{HasSigns, micro_of}
-use Rattle.mic1_checks.specs.declared.instruction.Instruction.{Instruction}
-use Rattle.mic1_checks.specs.declared.shape.Shape.{Shape}
-use Rattle.mic1_checks.specs.Ready.{shape_of}
-use Rattle.mic1_checks.specs.Situation.{StandsBefore, StartsBefore, Suits}
-use Rattle.mic1_checks.specs.Start.{IsStart, HasRegisters, shaped_symbols, start_moment}
+use Rattle.mic1_checks.proofs.Common.{◌≡◌, ◌<◌, ℕ, true, List, sym, ◌∙◌, subst, slice_index, World, Instr, State, VerifiedView, arrived, Micro, mic1_meaning}
+use Rattle.mic1_checks.proofs.Common.{IsReady, Origin, IsAt, Went, Moment, Node, Environment, Fits, AreOrdered, HasEnvironments, Symbols, HasSigns, micro_of}
+use Rattle.mic1_checks.proofs.Common.{Instruction, Shape, shape_of, StandsBefore, StartsBefore, Suits, IsStart, HasRegisters, shaped_symbols, start_moment}
 use Rattle.mic1_checks.proofs.Starts.{Started, started, twin, twin_stands, stand, stand_shaped, signs, signs_shaped}
 
 -- the settled symbols stand for the machine's twin at any entry, and those of its shape for the machine itself

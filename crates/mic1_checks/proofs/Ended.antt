@@ -1,11 +1,6 @@
 -- A path that has ended with the world as it was.
-use Rattle.std.proofs.Common.{◌≡◌, ◌≢◌, ◌==◌, ◌++◌, ℕ, false, List, [], ◌∷◌, length, refl, ap, ◌∙◌, arith}
-use Rattle.std.specs.Prelude.{drop}
-use Rattle.micro_terms.specs.Environment.{Environment}
-use Rattle.mic1_cycles.specs.declared.path.Path.{Path}
-use Rattle.mic1_cycles.specs.Paths.{trail_of}
-use Rattle.mic1_cycles.specs.Trail.{given_by, world_of, written_by}
-use Rattle.mic1_checks.specs.Ends.{HasEnded}
+use Rattle.mic1_checks.proofs.Common.{◌≡◌, ◌≢◌, ◌==◌, ◌++◌, ℕ, false, List, [], ◌∷◌, length, refl, ap, ◌∙◌, arith, drop, Environment, Path, trail_of, given_by}
+use Rattle.mic1_checks.proofs.Common.{world_of, written_by, HasEnded}
 
 none_in : {X : Type 0} (xs : List X) → length xs ≡ 0 → xs ≡ []
 none_in [] h = refl

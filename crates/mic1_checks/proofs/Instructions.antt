@@ -1,21 +1,8 @@
 -- Each instruction that does not end the run is in the list, and more leaves are no harm.
-use Rattle.std.proofs.Common.{◌≡◌, ◌⊎◌, inl, inr, ℕ, ◌+◌, ◌<◌, List, Some, length, refl, ◌∙◌, subst, arith}
-use Rattle.std.specs.Prelude.{slice_index_or}
-use Rattle.std.specs.List.{Contains}
-use Rattle.console_port.specs.World.{byte_in}
-use Rattle.ijvm_instr.specs.declared.instr.Instr.{Instr}
-use Rattle.ijvm_instr.specs.declared.instr.Instr.TheVariants.{Nop, Bipush, LdcW, Iload, Istore, Pop, Dup, Swap, Iadd, Isub, Iand, Iinc, Ifeq, Iflt}
-use Rattle.ijvm_instr.specs.declared.instr.Instr.TheVariants.{IfIcmpeq, Goto, Ireturn, Ior, Invokevirtual, WideIload, WideIstore, WideIinc, In, Out, Err, Halt}
-use Rattle.ijvm_meaning.specs.Frames.{State}
-use Rattle.ijvm_simulation.specs.Bytes.{Reads}
-use Rattle.ijvm_simulation.specs.Stands.{Origin}
-use Rattle.mic1_checks.specs.declared.instruction.Instruction.{Instruction}
-use Rattle.mic1_checks.specs.Situation.{Suits}
-use Rattle.mic1_checks.specs.declared.leaf.Counts.{Counts}
-use Rattle.mic1_checks.specs.declared.shape.Shape.{Shape}
-use Rattle.mic1_checks.specs.Carried.{CarriesInstruction, Onward}
-use Rattle.mic1_checks.specs.Listed.{CarriesEach, CarriesTakes, instructions, plain, row_number, wide}
-use Rattle.mic1_checks.specs.Ready.{shape_of}
+use Rattle.mic1_checks.proofs.Common.{◌≡◌, ◌⊎◌, inl, inr, ℕ, ◌+◌, ◌<◌, List, Some, length, refl, ◌∙◌, subst, arith, slice_index_or, Contains, byte_in, Instr}
+use Rattle.mic1_checks.proofs.Common.{Nop, Bipush, LdcW, Iload, Istore, Pop, Dup, Swap, Iadd, Isub, Iand, Iinc, Ifeq, Iflt, IfIcmpeq, Goto, Ireturn, Ior}
+use Rattle.mic1_checks.proofs.Common.{Invokevirtual, WideIload, WideIstore, WideIinc, In, Out, Err, Halt, State, Reads, Origin, Instruction, Suits, Counts}
+use Rattle.mic1_checks.proofs.Common.{Shape, CarriesInstruction, Onward, CarriesEach, CarriesTakes, instructions, plain, row_number, wide, shape_of}
 
 some_is : (a b : ℕ) → Some a ≡ Some b → a ≡ b
 some_is a b e = cc

@@ -1,19 +1,6 @@
 -- Words stay words.
-use Rattle.std.proofs.Common.{◌<◌, ℕ, zero, suc, List, [], ◌∷◌, Option, Some, None, sym, subst, arith}
-use Rattle.std.specs.Prelude.{slice_index, slice_set, unwrap_or}
-use Rattle.std.specs.List.{All}
-use Rattle.std.proofs.lemmas.List.Elements.{All-cons, All-nil}
-use Rattle.mic_words.specs.Arithmetic.{signed_byte}
-use Rattle.micro_terms.specs.declared.node.Node.{Node}
-use Rattle.micro_terms.specs.Environment.{Environment}
-use Rattle.micro_terms.specs.Meaning.{Fits}
-use Rattle.mic1_cycles.specs.declared.path.Path.{Path}
-use Rattle.mic1_cycles.specs.declared.symbols.Write.{Write}
-use Rattle.mic1_cycles.specs.Paths.{IsPath}
-use Rattle.mic1_cycles.specs.Symbols.{word_in}
-use Rattle.mic1_cycles.specs.Trail.{written_by}
-use Rattle.mic1_passes.specs.Moments.{moment}
-use Rattle.mic1_checks.specs.Words.{HasWords}
+use Rattle.mic1_checks.proofs.Common.{◌<◌, ℕ, zero, suc, List, [], ◌∷◌, Option, Some, None, sym, subst, arith, slice_index, slice_set, unwrap_or, All, All-cons}
+use Rattle.mic1_checks.proofs.Common.{All-nil, signed_byte, Node, Environment, Fits, Path, Write, IsPath, word_in, written_by, moment, HasWords}
 
 one : (words : List ℕ) (a v : ℕ) → v < 4294967296 → ((i : ℕ) → slice_index words i < 4294967296) → (i : ℕ) → slice_index (slice_set words a v) i < 4294967296
 one [] a v h all i = all i

@@ -1,20 +1,8 @@
 -- What is known at a boundary of an accepted image's run.
-use Rattle.std.proofs.Common.{◌≡◌, ℕ, zero, suc, ◌+◌, ◌^◌, ◌<◌, ◌≤◌, length, arith, sym, ap, ◌∙◌, List, [], subst}
-use Rattle.mic_words.specs.Arithmetic.{wrap, plus}
-use Rattle.console_port.specs.World.{byte_in, console_at}
-use Rattle.ijvm_instr.specs.declared.instr.Instr.{Instr}
-use Rattle.ijvm_meaning.specs.Frames.{base, frames_of}
-use Rattle.ijvm_simulation.specs.Accesses.{IsMapEnd}
+use Rattle.mic1_checks.proofs.Common.{◌≡◌, ℕ, zero, suc, ◌+◌, ◌^◌, ◌<◌, ◌≤◌, length, arith, sym, ap, ◌∙◌, List, [], subst, wrap, plus, console_at, Instr, base}
+use Rattle.mic1_checks.proofs.Common.{frames_of, IsMapEnd, above, byte_kept, Environment, Range, IsIn, end_of, Symbols, Instruction, HasBytes, StartsBefore}
+use Rattle.mic1_checks.proofs.Common.{register_ranges, byte_in}
 use Rattle.ijvm_simulation.specs.Images as images
-use Rattle.ijvm_simulation.specs.Stack.{above}
-use Rattle.ijvm_simulation.specs.Words.{byte_kept}
-use Rattle.micro_terms.specs.Environment.{Environment}
-use Rattle.micro_terms.specs.declared.range.Range.{Range}
-use Rattle.micro_terms.specs.Ranges.{IsIn, end_of}
-use Rattle.mic1_cycles.specs.declared.symbols.Symbols.{Symbols}
-use Rattle.mic1_checks.specs.declared.instruction.Instruction.{Instruction}
-use Rattle.mic1_checks.specs.Situation.{HasBytes, StartsBefore}
-use Rattle.mic1_checks.specs.Start.{register_ranges}
 
 -- PC, SP and LV are in their ranges, and the others in that of any word
 in_ranges : (word : ℕ → ℕ) → ((i : ℕ) → word i < 4294967296) → word 2 < 0x10000 → 0x7FFF ≤ word 3 → word 3 < 0x20000 →

@@ -1,26 +1,8 @@
 -- What a leaf says, and that two halves of a tree make a whole.
-use Rattle.std.proofs.Common.{◌≡◌, ℕ, true, false, List, [], ◌∷◌, ◌++◌, sym, subst, inl, inr}
-use Rattle.std.specs.List.{Contains}
-use Rattle.std.proofs.lemmas.Bool.{cases_Bool}
-use Rattle.std.proofs.lemmas.List.Elements.{All-push, Contains-push}
-use Rattle.mic1_datapath.specs.Micro.{Micro}
-use Rattle.mic1_datapath.specs.Mic1.{mic1_meaning, IsReady}
-use Rattle.ijvm_simulation.specs.Stands.{IsAt}
-use Rattle.ijvm_simulation.specs.Passes.{Moment}
-use Rattle.ijvm_simulation.specs.Law.{Moves, Overruns}
-use Rattle.micro_terms.specs.Environment.{Environment}
-use Rattle.mic1_cycles.specs.declared.symbols.Symbols.{Symbols}
-use Rattle.mic1_cycles.specs.declared.question.Answer.{Answer}
-use Rattle.mic1_cycles.specs.declared.path.Path.{Path}
-use Rattle.mic1_cycles.specs.declared.refusal.Stop.TheVariants.{Limit, OutOfMap}
-use Rattle.mic1_cycles.specs.Questions.{AreAnswered, truth}
-use Rattle.mic1_passes.specs.Moments.{moment, StopsAt}
-use Rattle.mic1_checks.specs.Transfer.{Carries, LeadAlike, LimitAlike, OneEnd, Transfers, TransfersLimits}
-use Rattle.mic1_checks.specs.declared.leaf.Counts.{Counts}
-use Rattle.mic1_checks.specs.declared.left.Operands.{Operands}
-use Rattle.mic1_checks.specs.Ready.{IsReadyOrArriving}
-use Rattle.mic1_checks.specs.Start.{start_moment}
-use Rattle.mic1_checks.specs.Carried.{CarriedBy, CarriesOver}
+use Rattle.mic1_checks.proofs.Common.{◌≡◌, ℕ, true, false, List, [], ◌∷◌, ◌++◌, sym, subst, inl, inr, Contains, cases_Bool, All-push, Contains-push, Micro}
+use Rattle.mic1_checks.proofs.Common.{mic1_meaning, IsReady, IsAt, Moment, Moves, Overruns, Environment, Symbols, Answer, Path, Limit, OutOfMap, AreAnswered}
+use Rattle.mic1_checks.proofs.Common.{truth, moment, StopsAt, Carries, LeadAlike, LimitAlike, OneEnd, Transfers, TransfersLimits, Counts, Operands}
+use Rattle.mic1_checks.proofs.Common.{IsReadyOrArriving, start_moment, CarriedBy, CarriesOver}
 
 -- each question has one answer
 pub either : (e : Environment) (answers so not_so : List Answer) (a : Answer) (P : Type 0) → AreAnswered e answers →

@@ -1,23 +1,9 @@
 -- What instructions leave of the operands.
-use Rattle.std.proofs.Common.{◌≡◌, inl, inr, ℕ, ◌+◌, ◌*◌, ◌<◌, ◌≤◌, true, List, [], Option, Some, None, length, sym, ap, ◌∙◌, subst, arith}
-use Rattle.std.proofs.lemmas.List.{length-set}
-use Rattle.std.proofs.lemmas.Bool.Decides.{Decides-eqb}
-use Rattle.mic_words.specs.Arithmetic.{wrap, plus}
-use Rattle.console_port.specs.World.{byte_in}
-use Rattle.ijvm_instr.specs.declared.instr.Instr.{Instr}
-use Rattle.ijvm_instr.specs.declared.instr.Instr.TheVariants.{Invokevirtual, Ior, Istore, WideIstore}
+use Rattle.mic1_checks.proofs.Common.{◌≡◌, inl, inr, ℕ, ◌+◌, ◌*◌, ◌<◌, ◌≤◌, true, List, [], Option, Some, None, length, sym, ap, ◌∙◌, subst, arith, length-set}
+use Rattle.mic1_checks.proofs.Common.{Decides-eqb, wrap, plus, byte_in, Instr, Invokevirtual, Ior, Istore, WideIstore, State, base, frames_of, Reads, Stores}
+use Rattle.mic1_checks.proofs.Common.{Went, byte_bound, Environment, Symbols, Instruction, Above, Empty, AreLeft, wide_index_in, StartsBefore, is_wide_istore}
 use Rattle.ijvm_image.specs.Image.{ImageView}
-use Rattle.ijvm_meaning.specs.Frames.{State, base, frames_of}
-use Rattle.ijvm_simulation.specs.Bytes.{Reads}
-use Rattle.ijvm_simulation.specs.Outcomes.{Stores, Went}
 use Rattle.ijvm_simulation.specs.Images as images
-use Rattle.ijvm_simulation.specs.Words.{byte_bound}
-use Rattle.micro_terms.specs.Environment.{Environment}
-use Rattle.mic1_cycles.specs.declared.symbols.Symbols.{Symbols}
-use Rattle.mic1_checks.specs.declared.instruction.Instruction.{Instruction}
-use Rattle.mic1_checks.specs.declared.left.Operands.TheVariants.{Above, Empty}
-use Rattle.mic1_checks.specs.Left.{AreLeft, wide_index_in}
-use Rattle.mic1_checks.specs.Situation.{StartsBefore, is_wide_istore}
 use Rattle.mic1_checks.proofs.Knowledge.{byte_there}
 
 -- if an operand is left, the last one is above this local

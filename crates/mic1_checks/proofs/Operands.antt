@@ -1,22 +1,10 @@
 -- Where an instruction has an operand, the last one is in TOS and at SP.
-use Rattle.std.proofs.Common.{◌≡◌, ℕ, suc, ◌+◌, ◌<◌, ◌≤◌, true, false, ◌==◌, List, [], ◌∷◌, Option, Some, None, length, refl, sym, ap, ◌∙◌, arith}
-use Rattle.std.specs.Prelude.{slice_index}
-use Rattle.mic_words.specs.Arithmetic.{wrap}
-use Rattle.ijvm_instr.specs.declared.instr.Instr.{Instr}
-use Rattle.ijvm_instr.specs.declared.instr.Instr.TheVariants.{Nop, Bipush, LdcW, Iload, Istore, Pop, Dup, Swap, Iadd, Isub, Iand, Iinc, Ifeq, Iflt}
-use Rattle.ijvm_instr.specs.declared.instr.Instr.TheVariants.{IfIcmpeq, Goto, Ireturn, Ior, Invokevirtual, WideIload, WideIstore, WideIinc, In, Out, Err, Halt}
-use Rattle.ijvm_instr.specs.Instructions.{row_of}
+use Rattle.mic1_checks.proofs.Common.{◌≡◌, ℕ, suc, ◌+◌, ◌<◌, ◌≤◌, true, false, ◌==◌, List, [], ◌∷◌, Option, Some, None, length, refl, sym, ap, ◌∙◌, arith}
+use Rattle.mic1_checks.proofs.Common.{slice_index, wrap, Instr, Nop, Bipush, LdcW, Iload, Istore, Pop, Dup, Swap, Iadd, Isub, Iand, Iinc, Ifeq, Iflt, IfIcmpeq}
+use Rattle.mic1_checks.proofs.Common.{Goto, Ireturn, Ior, Invokevirtual, WideIload, WideIstore, WideIinc, In, Out, Err, Halt, row_of, base, operands_at}
+use Rattle.mic1_checks.proofs.Common.{need_of, Reads, above, IsTop, OperandsAt, Environment, Symbols, Instruction, HasOperand, StartsBefore, takes_operand}
 use Rattle.ijvm_image.specs.Image.{ImageView}
-use Rattle.ijvm_meaning.specs.Frames.{base, operands_at}
-use Rattle.verifier_facts.specs.Paths.{need_of}
-use Rattle.ijvm_simulation.specs.Bytes.{Reads}
 use Rattle.ijvm_simulation.specs.Images as images
-use Rattle.ijvm_simulation.specs.Stack.{above}
-use Rattle.ijvm_simulation.specs.Stands.{IsTop, OperandsAt}
-use Rattle.micro_terms.specs.Environment.{Environment}
-use Rattle.mic1_cycles.specs.declared.symbols.Symbols.{Symbols}
-use Rattle.mic1_checks.specs.declared.instruction.Instruction.{Instruction}
-use Rattle.mic1_checks.specs.Situation.{HasOperand, StartsBefore, takes_operand}
 
 no_other : (a code : ℕ) (second : Option ℕ) → a ≡ code → takes_operand code second ≡ false → takes_operand a second ≡ true → ⊥
 no_other a code second is other takes =

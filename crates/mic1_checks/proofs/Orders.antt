@@ -1,14 +1,7 @@
 -- Writes in another order.
-use Rattle.std.proofs.Common.{◌≡◌, ◌≢◌, ◌==◌, ℕ, true, false, inl, inr, sym, zero, suc, ◌<◌, ◌+◌, List, [], ◌∷◌, ◌++◌, length, take}
-use Rattle.std.proofs.Common.{get_or, refl, ap, ◌∙◌, arith}
-use Rattle.std.specs.Prelude.{slice_index_or, slice_set}
-use Rattle.std.specs.List.{All, Any, remove}
-use Rattle.std.proofs.lemmas.Bool.{cases_Bool}
-use Rattle.std.proofs.lemmas.Bool.Decides.{Decides-eqb}
-use Rattle.std.proofs.lemmas.List.{set-set, take_more}
-use Rattle.std.proofs.lemmas.List.Elements.{All-head, All-tail}
-use Rattle.mic1_cycles.specs.declared.symbols.Write.{Write}
-use Rattle.mic1_cycles.specs.Trail.{written_by}
+use Rattle.mic1_checks.proofs.Common.{◌≡◌, ◌≢◌, ◌==◌, ℕ, true, false, inl, inr, sym, zero, suc, ◌<◌, ◌+◌, List, [], ◌∷◌, ◌++◌, length, take, get_or, refl, ap}
+use Rattle.mic1_checks.proofs.Common.{◌∙◌, arith, slice_index_or, slice_set, All, Any, remove, cases_Bool, Decides-eqb, set-set, take_more, All-head, All-tail}
+use Rattle.mic1_checks.proofs.Common.{Write, written_by}
 
 -- of two places the order does not matter
 exchanged : (words : List ℕ) (i j a b : ℕ) → i ≢ j → slice_set (slice_set words i a) j b ≡ slice_set (slice_set words j b) i a

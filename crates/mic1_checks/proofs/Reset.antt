@@ -1,25 +1,10 @@
 -- A reset, and that the first cycle after it is that of a machine which has been clocked.
-use Rattle.std.proofs.Common.{◌≡◌, ◌+◌, ◌-◌, ◌<◌, ℕ, zero, suc, Bool, true, List, Option, [], ◌∷◌, refl, sym, ap, ◌∙◌, subst, arith}
-use Rattle.std.specs.Prelude.{slice_index}
-use Rattle.std.proofs.lemmas.List.Elements.{All-cons, All-nil}
-use Rattle.mic_words.specs.Arithmetic.{signed_byte}
-use Rattle.console_port.specs.World.{World}
-use Rattle.ijvm_meaning.specs.Frames.{State}
-use Rattle.verifier_facts.specs.Accepted.{VerifiedView}
-use Rattle.mic1_datapath.specs.Micro.{Micro}
-use Rattle.mic1_datapath.specs.Mic1.{mic1_meaning, driven, initial, step_of_word}
-use Rattle.ijvm_simulation.specs.Stands.{Origin}
-use Rattle.ijvm_simulation.specs.Images.{map, first}
-use Rattle.ijvm_simulation.specs.Verified.{Loads}
-use Rattle.ijvm_simulation.specs.Passes.{Moment, pass}
-use Rattle.ijvm_simulation.specs.Law.{Moves, reset_moment}
-use Rattle.mic1_cycles.specs.declared.symbols.Byte.{Byte}
-use Rattle.mic1_cycles.specs.declared.symbols.Symbols.{Symbols}
-use Rattle.mic1_cycles.specs.Symbols.{micro_of, word_in, byte_in, HasSigns, IsSignedIn}
-use Rattle.mic1_checks.specs.Boot.{IsReset}
-use Rattle.mic1_checks.specs.Words.{HasWords}
+use Rattle.mic1_checks.proofs.Common.{◌≡◌, ◌+◌, ◌-◌, ◌<◌, ℕ, zero, suc, Bool, true, List, Option, [], ◌∷◌, refl, sym, ap, ◌∙◌, subst, arith, slice_index}
+use Rattle.mic1_checks.proofs.Common.{All-cons, All-nil, signed_byte, World, State, VerifiedView, Micro, mic1_meaning, driven, initial, step_of_word, Origin}
+use Rattle.mic1_checks.proofs.Common.{map, first, Loads, Moment, pass, Moves, reset_moment, Byte, Symbols, micro_of, word_in, HasSigns, IsSignedIn, IsReset}
+use Rattle.mic1_checks.proofs.Common.{HasWords, Environment}
+use Rattle.mic1_cycles.specs.Prelude.{byte_in}
 use Rattle.mic1_checks.proofs.KeptWords.{IsWord, in_front}
-use Rattle.micro_terms.specs.Environment.{Environment}
 
 -- whether a machine has been clocked before makes no difference to its cycles
 abbrev pub with_clocked : Bool → Moment Micro → Moment Micro

@@ -1,15 +1,8 @@
 -- The second count of a leaf, found by its first one, and the cycles that follow.
-use Rattle.std.proofs.Common.{◌≡◌, ◌<◌, ◌+◌, ◌-◌, ◌==◌, ◌&&◌, ◌%◌, if◌then◌else◌, ℕ}
-use Rattle.std.proofs.Common.{zero, suc, Bool, true, false, List, [], ◌∷◌, Option, Some, inl, inr, length, refl, sym, ap, ◌∙◌, arith}
-use Rattle.std.specs.Prelude.{slice_index_or, unwrap_or}
-use Rattle.std.specs.List.{All, Contains}
-use Rattle.std.proofs.lemmas.Bool.{cases_Bool}
-use Rattle.std.proofs.lemmas.List.Elements.{All-contains, All-head, All-tail, All-weaker}
+use Rattle.mic1_checks.proofs.Common.{◌≡◌, ◌<◌, ◌+◌, ◌-◌, ◌==◌, ◌&&◌, ◌%◌, if◌then◌else◌, ℕ, zero, suc, Bool, true, false, List, [], ◌∷◌, Option, Some, inl}
+use Rattle.mic1_checks.proofs.Common.{inr, length, refl, sym, ap, ◌∙◌, arith, slice_index_or, unwrap_or, All, Contains, cases_Bool, All-contains, All-head}
+use Rattle.mic1_checks.proofs.Common.{All-tail, All-weaker, Always, IfTaken, ByEntry, cycles_of, Counts, Agree, DecideSeconds, cost_by, second_in, spent_by}
 use Rattle.ijvm_instr.specs.declared.row.Cost.{Cost}
-use Rattle.ijvm_instr.specs.declared.row.Cost.TheVariants.{Always, IfTaken, ByEntry}
-use Rattle.ijvm_meaning.specs.Cost.{cycles_of}
-use Rattle.mic1_checks.specs.declared.leaf.Counts.{Counts}
-use Rattle.mic1_checks.specs.Spent.{Agree, DecideSeconds, cost_by, second_in, spent_by}
 
 is_same : (a b : ℕ) → (a == b) ≡ true → a ≡ b
 is_same a b h = grind (arith, h)

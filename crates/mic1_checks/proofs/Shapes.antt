@@ -1,6 +1,5 @@
 -- The four shapes.
-use Rattle.std.proofs.Common.{Bool, true, false, List, [], ◌∷◌}
-use Rattle.mic1_checks.specs.declared.shape.Shape.{Shape}
+use Rattle.mic1_checks.proofs.Common.{Bool, true, false, List, [], ◌∷◌, Shape}
 
 abbrev pub SETTLED : Shape
 SETTLED = record { byte = false; word = false }

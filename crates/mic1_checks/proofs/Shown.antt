@@ -1,13 +1,5 @@
 -- What a machine shows at a boundary.
-use Rattle.std.proofs.Common.{◌≡◌, ℕ, true, List, arith}
-use Rattle.std.proofs.lemmas.Bool.Decides.{nat_tests}
-use Rattle.console_port.specs.World.{World}
-use Rattle.ijvm_meaning.specs.Frames.{State}
-use Rattle.mic1_datapath.specs.Micro.{Micro}
-use Rattle.mic1_datapath.specs.Mic1.{mic1_meaning}
-use Rattle.ijvm_simulation.specs.Stands.{Origin, IsAt}
-use Rattle.ijvm_simulation.specs.Law.{ShowsState}
-use Rattle.mic1_checks.specs.Ready.{IsReadyOrArriving}
+use Rattle.mic1_checks.proofs.Common.{◌≡◌, ℕ, true, List, arith, nat_tests, World, State, Micro, mic1_meaning, Origin, IsAt, ShowsState, IsReadyOrArriving}
 
 pub shown : (store : List ℕ) (entry : ℕ) (o : Origin) (s : State) (m : Micro) (w : World) → IsAt mic1_meaning IsReadyOrArriving entry o s m w →
     ShowsState mic1_meaning store (IsAt mic1_meaning IsReadyOrArriving entry o) o.given s m w

@@ -1,26 +1,9 @@
 -- Symbols that stand for a boundary.
-use Rattle.std.proofs.Common.{◌≡◌, ◌<◌, ℕ, zero, suc, Bool, true, false, if◌then◌else◌, List, [], ◌∷◌, Option, Some, None, refl, sym, ap, ◌∙◌, subst, arith}
-use Rattle.std.specs.Prelude.{slice_index, unwrap_or, is_some}
-use Rattle.mic_datapath.specs.Registers.{arrived}
-use Rattle.std.specs.List.{All}
-use Rattle.std.proofs.lemmas.List.Elements.{All-head, All-tail}
-use Rattle.console_port.specs.World.{World}
-use Rattle.mic_words.specs.Arithmetic.{signed_byte}
-use Rattle.ijvm_meaning.specs.Frames.{State}
-use Rattle.mic1_datapath.specs.Micro.{Micro}
-use Rattle.mic1_datapath.specs.Mic1.{mic1_meaning, IsReady}
-use Rattle.ijvm_simulation.specs.Stands.{Origin, IsAt}
-use Rattle.micro_terms.specs.Environment.{Environment}
-use Rattle.micro_terms.specs.Meaning.{Fits}
-use Rattle.micro_terms.specs.declared.node.Node.{Node}
-use Rattle.micro_terms.specs.Ordered.{AreOrdered, HasEnvironments}
-use Rattle.mic1_cycles.specs.declared.symbols.Byte.{Byte}
-use Rattle.mic1_cycles.specs.declared.symbols.Symbols.{Symbols}
-use Rattle.mic1_cycles.specs.Symbols.{micro_of, word_in, byte_in, HasSigns, IsSigned, IsSignedIn}
-use Rattle.mic1_checks.specs.declared.shape.Shape.{Shape}
-use Rattle.mic1_checks.specs.Ready.{IsReadyOrArriving, shape_of}
-use Rattle.mic1_checks.specs.Start.{IsStart, HasRegisters, shaped_symbols}
-use Rattle.mic1_checks.specs.Words.{HasWords, free_words}
+use Rattle.mic1_checks.proofs.Common.{◌≡◌, ◌<◌, ℕ, zero, suc, Bool, true, false, if◌then◌else◌, List, [], ◌∷◌, Option, Some, None, refl, sym, ap, ◌∙◌, subst}
+use Rattle.mic1_checks.proofs.Common.{arith, slice_index, unwrap_or, is_some, arrived, All, All-head, All-tail, World, signed_byte, State, Micro, mic1_meaning}
+use Rattle.mic1_checks.proofs.Common.{IsReady, Origin, IsAt, Environment, Fits, Node, AreOrdered, HasEnvironments, Byte, Symbols, micro_of, word_in, HasSigns}
+use Rattle.mic1_checks.proofs.Common.{IsSigned, IsSignedIn, Shape, IsReadyOrArriving, shape_of, IsStart, HasRegisters, shaped_symbols, HasWords, free_words}
+use Rattle.mic1_cycles.specs.Prelude.{byte_in}
 
 below : (xs : List ℕ) (i : ℕ) → All (λ x. x < 4294967296) xs → slice_index xs i < 4294967296
 below [] i h = omega arith

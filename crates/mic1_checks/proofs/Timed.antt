@@ -1,19 +1,7 @@
 -- What is carried over, in the cycles of the second store.
-use Rattle.std.proofs.Common.{◌≡◌, ◌⊎◌, ℕ, List, inl, inr, refl, sym, subst}
-use Rattle.std.specs.List.{Contains}
-use Rattle.mic1_datapath.specs.Micro.{Micro}
-use Rattle.ijvm_instr.specs.declared.instr.Instr.{Instr}
-use Rattle.ijvm_instr.specs.declared.instr.Instr.TheVariants.{Err, Halt}
-use Rattle.ijvm_meaning.specs.Cost.{Timing, cost, entry_of, is_taken}
-use Rattle.ijvm_meaning.specs.Frames.{State}
-use Rattle.verifier_facts.specs.Accepted.{VerifiedView}
-use Rattle.ijvm_simulation.specs.Stands.{Origin}
-use Rattle.ijvm_simulation.specs.Passes.{Moment}
+use Rattle.mic1_checks.proofs.Common.{◌≡◌, ◌⊎◌, ℕ, List, inl, inr, refl, sym, subst, Contains, Micro, Instr, Err, Halt, Timing, cost, entry_of, is_taken, State}
+use Rattle.mic1_checks.proofs.Common.{VerifiedView, Origin, Moment, Counts, CarriedBy, Onward, row_number, DecideSeconds, GoesOn, MovesOn, spent_by, timing_by}
 use Rattle.mic1_checks.specs.declared.judged.Costs.{Costs}
-use Rattle.mic1_checks.specs.declared.leaf.Counts.{Counts}
-use Rattle.mic1_checks.specs.Carried.{CarriedBy, Onward}
-use Rattle.mic1_checks.specs.Listed.{row_number}
-use Rattle.mic1_checks.specs.Spent.{DecideSeconds, GoesOn, MovesOn, spent_by, timing_by}
 use Rattle.mic1_checks.proofs.Seconds.{cost_is, spent_is}
 
 -- what a leaf carries over, where the leaves decide the second counts

@@ -1,26 +1,11 @@
 -- What the first store's law says of the second.
-use Rattle.std.proofs.Common.{◌≡◌, ℕ, ◌+◌, ◌==◌, ◌<◌, true, false, Option, Some, None, List, [], ◌∷◌, length, refl, sym, ap, ◌∙◌, subst, arith}
-use Rattle.std.specs.Prelude.{drop, ◌++◌, unwrap_or}
-use Rattle.mic_datapath.specs.Registers.{arrived}
-use Rattle.mic1_cycles.specs.declared.symbols.Byte.{Byte}
-use Rattle.mic1_checks.specs.Ready.{IsReadyOrArriving}
-use Rattle.console_port.specs.World.{World, StackLimit, OutOfMap}
-use Rattle.mic_clock.specs.Meaning.{Outcome, Refused}
-use Rattle.mic1_datapath.specs.Micro.{Micro}
-use Rattle.mic1_datapath.specs.Mic1.{mic1_meaning, IsReady}
-use Rattle.ijvm_meaning.specs.Frames.{State, base, frames_of}
-use Rattle.ijvm_simulation.specs.Stands.{Origin, IsAt, FramesStand, IsMemory, IsTop, RegistersStand}
-use Rattle.ijvm_simulation.specs.Passes.{Moment, is_inside, outcome_at}
-use Rattle.micro_terms.specs.Environment.{Environment}
-use Rattle.mic1_cycles.specs.Trail.{given_by}
-use Rattle.mic1_cycles.specs.Symbols.{byte_in as byte_symbol}
-use Rattle.mic1_cycles.specs.declared.path.Path.{Path}
-use Rattle.mic1_cycles.specs.Paths.{refusal_of}
-use Rattle.mic1_cycles.specs.declared.refusal.Stop.TheVariants.{OutOfMap as Out}
-use Rattle.mic1_passes.specs.Moments.{moment}
-use Rattle.mic1_checks.specs.declared.left.Operands.{Operands}
-use Rattle.mic1_checks.specs.Left.{AreLeft}
-use Rattle.mic1_checks.specs.Transfer.{AreAlike, Transfers, TransfersLimits, OneEnd}
+use Rattle.mic1_checks.proofs.Common.{◌≡◌, ℕ, ◌+◌, ◌==◌, ◌<◌, true, false, Option, Some, None, List, [], ◌∷◌, length, refl, sym, ap, ◌∙◌, subst, arith, drop}
+use Rattle.mic1_checks.proofs.Common.{◌++◌, unwrap_or, arrived, Byte, IsReadyOrArriving, World, StackLimit, Outcome, Refused, Micro, mic1_meaning, IsReady}
+use Rattle.mic1_checks.proofs.Common.{State, base, frames_of, Origin, IsAt, FramesStand, IsMemory, IsTop, RegistersStand, Moment, is_inside, outcome_at}
+use Rattle.mic1_checks.proofs.Common.{Environment, given_by, Path, refusal_of, OutOfMap as Out, moment, Operands, AreLeft, AreAlike, Transfers, TransfersLimits}
+use Rattle.mic1_checks.proofs.Common.{OneEnd}
+use Rattle.console_port.specs.Prelude.{OutOfMap}
+use Rattle.mic1_cycles.specs.Prelude.{byte_in as byte_symbol}
 use Rattle.mic1_checks.proofs.Passes.{Same, only, only_refused, not_both}
 
 -- where MPC is the entry, no pass goes on

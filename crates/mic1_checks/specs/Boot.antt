@@ -1,14 +1,6 @@
 -- From a reset to the first boundary.
 use Rattle.std.specs.Prelude.{◌≡◌, ◌<◌, ℕ, List, None, slice_index}
-use Rattle.mic1_datapath.specs.Mic1.{mic1_meaning, IsReady}
-use Rattle.ijvm_meaning.specs.Cost.{Timing}
-use Rattle.ijvm_meaning.specs.Frames.{State}
-use Rattle.verifier_facts.specs.Accepted.{VerifiedView}
-use Rattle.ijvm_simulation.specs.Stands.{Origin, IsAt}
-use Rattle.ijvm_simulation.specs.Law.{Boots, reset_moment}
-use Rattle.ijvm_simulation.specs.Verified.{Loads}
-use Rattle.micro_terms.specs.Environment.{Environment}
-use Rattle.mic1_cycles.specs.declared.symbols.Symbols.{Symbols}
+use Rattle.mic1_checks.specs.Common.{mic1_meaning, IsReady, Timing, State, VerifiedView, Origin, IsAt, Boots, reset_moment, Loads, Environment, Symbols}
 use Rattle.mic1_checks.specs.declared.leaf.Counts.{Counts}
 use Rattle.mic1_checks.specs.Carried.{CarriedBy}
 

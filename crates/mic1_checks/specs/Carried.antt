@@ -1,23 +1,7 @@
 -- What a second control store takes of an instruction, if a first one takes it.
 use Rattle.std.specs.Prelude.{◌≡◌, ◌<◌, ℕ, List}
-use Rattle.std.specs.List.{Contains}
-use Rattle.mic1_datapath.specs.Micro.{Micro}
-use Rattle.mic1_datapath.specs.Mic1.{mic1_meaning, IsReady}
-use Rattle.ijvm_instr.specs.declared.instr.Instr.{Instr}
-use Rattle.ijvm_meaning.specs.Cost.{Timing, cost}
-use Rattle.ijvm_meaning.specs.Frames.{State}
-use Rattle.verifier_facts.specs.Accepted.{VerifiedView}
-use Rattle.ijvm_simulation.specs.Stands.{Origin, IsAt}
-use Rattle.ijvm_simulation.specs.Passes.{Moment}
-use Rattle.ijvm_simulation.specs.Law.{Moves, Overruns, Takes}
-use Rattle.ijvm_simulation.specs.Outcomes.{Went, Overran}
-use Rattle.micro_terms.specs.Environment.{Environment}
-use Rattle.mic1_cycles.specs.declared.path.Path.{Path}
-use Rattle.mic1_cycles.specs.declared.question.Answer.{Answer}
-use Rattle.mic1_cycles.specs.declared.symbols.Symbols.{Symbols}
-use Rattle.mic1_cycles.specs.Questions.{AreAnswered}
-use Rattle.mic1_cycles.specs.Symbols.{HasSigns}
-use Rattle.mic1_passes.specs.declared.run.Followed.{Followed}
+use Rattle.mic1_checks.specs.Common.{Contains, Micro, mic1_meaning, IsReady, Instr, Timing, cost, State, VerifiedView, Origin, IsAt, Moment, Moves, Overruns}
+use Rattle.mic1_checks.specs.Common.{Takes, Went, Overran, Environment, Path, Answer, Symbols, AreAnswered, HasSigns, Followed}
 use Rattle.mic1_passes.specs.declared.run.Followed.TheVariants as ends
 use Rattle.mic1_checks.specs.declared.instruction.Instruction.{Instruction}
 use Rattle.mic1_checks.specs.declared.leaf.Counts.{Counts}

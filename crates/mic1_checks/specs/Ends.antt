@@ -1,17 +1,7 @@
 -- Where HALT and ERR lead in a control store.
 use Rattle.std.specs.Prelude.{◌≡◌, ◌≢◌, ◌+◌, ◌<◌, ℕ, List, length}
-use Rattle.console_port.specs.World.{byte_in}
-use Rattle.ijvm_instr.specs.declared.instr.Instr.{Instr}
+use Rattle.mic1_checks.specs.Common.{byte_in, Instr, State, VerifiedView, Micro, mic1_meaning, Origin, IsAt, Moment, StopsBehind, Path, Followed}
 use Rattle.ijvm_instr.specs.declared.instr.Instr.TheVariants.{Err, Halt}
-use Rattle.ijvm_meaning.specs.Frames.{State}
-use Rattle.verifier_facts.specs.Accepted.{VerifiedView}
-use Rattle.mic1_datapath.specs.Micro.{Micro}
-use Rattle.mic1_datapath.specs.Mic1.{mic1_meaning}
-use Rattle.ijvm_simulation.specs.Stands.{Origin, IsAt}
-use Rattle.ijvm_simulation.specs.Passes.{Moment}
-use Rattle.ijvm_simulation.specs.Law.{StopsBehind}
-use Rattle.mic1_cycles.specs.declared.path.Path.{Path}
-use Rattle.mic1_passes.specs.declared.run.Followed.{Followed}
 use Rattle.mic1_passes.specs.declared.run.Followed.TheVariants as ends
 use Rattle.mic1_checks.specs.declared.ends.Ends.{Ends}
 use Rattle.mic1_checks.specs.declared.shape.Shape.{Shape}

@@ -1,10 +1,6 @@
 -- What is known of the operands that an instruction leaves, and where TOS has to be the last of them.
 use Rattle.std.specs.Prelude.{◌≡◌, ◌<◌, ◌+◌, ◌*◌, ℕ, List, [], length}
-use Rattle.mic_words.specs.Arithmetic.{plus, wrap}
-use Rattle.console_port.specs.World.{byte_in}
-use Rattle.ijvm_meaning.specs.Frames.{State, base, frames_of}
-use Rattle.micro_terms.specs.Environment.{Environment}
-use Rattle.mic1_cycles.specs.declared.path.Path.{Path}
+use Rattle.mic1_checks.specs.Common.{plus, wrap, byte_in, State, base, frames_of, Environment, Path}
 use Rattle.mic1_checks.specs.declared.left.Operands.{Operands}
 use Rattle.mic1_checks.specs.declared.left.Operands.TheVariants.{Unknown, Empty, Above}
 

@@ -1,3 +1,4 @@
+pub mod Common
 pub mod Boot
 pub mod Carried
 pub mod Ends

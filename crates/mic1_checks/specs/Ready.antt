@@ -1,8 +1,6 @@
 -- When a Mic-1 is ready for an instruction: its opcode is in MBR or on the way there, and a word may be on the way to MDR.
 use Rattle.std.specs.Prelude.{◌≡◌, ℕ, true, List, is_some}
-use Rattle.console_port.specs.World.{World, byte_in}
-use Rattle.mic_datapath.specs.Registers.{arrived}
-use Rattle.mic1_datapath.specs.Micro.{Micro}
+use Rattle.mic1_checks.specs.Common.{World, byte_in, arrived, Micro}
 use Rattle.mic1_checks.specs.declared.shape.Shape.{Shape}
 
 -- before the instruction at an address: PC there, its byte in MBR or to be there, and MPC at the entry

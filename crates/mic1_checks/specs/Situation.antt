@@ -1,19 +1,7 @@
 -- A boundary of an accepted image's run, at which an instruction comes next.
 use Rattle.std.specs.Prelude.{◌≡◌, ◌==◌, ◌||◌, ◌&&◌, ◌+◌, ◌<◌, ℕ, Bool, false, Option, Some, None, length, slice_index}
-use Rattle.mic_words.specs.Arithmetic.{plus}
-use Rattle.console_port.specs.World.{byte_in}
-use Rattle.ijvm_instr.specs.declared.instr.Instr.{Instr}
-use Rattle.ijvm_meaning.specs.Frames.{State}
-use Rattle.verifier_facts.specs.Accepted.{VerifiedView}
-use Rattle.mic1_datapath.specs.Micro.{Micro}
-use Rattle.mic1_datapath.specs.Mic1.{mic1_meaning}
-use Rattle.ijvm_simulation.specs.Stands.{Origin, IsAt, RegistersStand}
-use Rattle.ijvm_simulation.specs.Passes.{Moment}
-use Rattle.ijvm_simulation.specs.Verified.{Loads, Fine, IsNext}
-use Rattle.micro_terms.specs.Environment.{Environment}
-use Rattle.mic1_cycles.specs.declared.known.Known.{Known}
-use Rattle.mic1_cycles.specs.declared.symbols.Symbols.{Symbols}
-use Rattle.mic1_cycles.specs.Known.{Knows, StandsAt}
+use Rattle.mic1_checks.specs.Common.{plus, byte_in, Instr, State, VerifiedView, Micro, mic1_meaning, Origin, IsAt, RegistersStand, Moment, Loads, Fine, IsNext}
+use Rattle.mic1_checks.specs.Common.{Environment, Known, Symbols, Knows, StandsAt}
 use Rattle.mic1_checks.specs.declared.instruction.Instruction.{Instruction}
 use Rattle.mic1_checks.specs.Ready.{IsReadyOrArriving}
 use Rattle.mic1_checks.specs.Start.{IsStart}

@@ -1,21 +1,8 @@
 -- What the second store spends, by what the first spends, and all that it does then.
 use Rattle.std.specs.Prelude.{◌≡◌, ◌⊎◌, ◌<◌, ◌+◌, ◌-◌, ◌==◌, ◌&&◌, if◌then◌else◌, ℕ, List, [], ◌∷◌, Option, Some, None, slice_index, unwrap_or}
-use Rattle.std.specs.List.{All}
-use Rattle.console_port.specs.World.{World}
-use Rattle.mic1_datapath.specs.Micro.{Micro}
-use Rattle.mic1_datapath.specs.Mic1.{mic1_meaning, IsReady}
-use Rattle.ijvm_instr.specs.declared.instr.Instr.{Instr}
+use Rattle.mic1_checks.specs.Common.{All, World, Micro, mic1_meaning, IsReady, Instr, Cost, Always, IfTaken, ByEntry, Timing, cost, State, VerifiedView, Origin}
+use Rattle.mic1_checks.specs.Common.{IsAt, Moment, Boots, Moves, Overruns, ShowsState, StopsBehind, Takes, reset_moment, Went, Overran, Loads}
 use Rattle.ijvm_instr.specs.declared.instr.Instr.TheVariants.{Err, Halt}
-use Rattle.ijvm_instr.specs.declared.row.Cost.{Cost}
-use Rattle.ijvm_instr.specs.declared.row.Cost.TheVariants.{Always, IfTaken, ByEntry}
-use Rattle.ijvm_meaning.specs.Cost.{Timing, cost}
-use Rattle.ijvm_meaning.specs.Frames.{State}
-use Rattle.verifier_facts.specs.Accepted.{VerifiedView}
-use Rattle.ijvm_simulation.specs.Stands.{Origin, IsAt}
-use Rattle.ijvm_simulation.specs.Passes.{Moment}
-use Rattle.ijvm_simulation.specs.Law.{Boots, Moves, Overruns, ShowsState, StopsBehind, Takes, reset_moment}
-use Rattle.ijvm_simulation.specs.Outcomes.{Went, Overran}
-use Rattle.ijvm_simulation.specs.Verified.{Loads}
 use Rattle.mic1_checks.specs.declared.judged.Costs.{Costs}
 use Rattle.mic1_checks.specs.declared.leaf.Counts.{Counts}
 use Rattle.mic1_checks.specs.Boot.{BOOT}

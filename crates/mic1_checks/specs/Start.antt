@@ -1,14 +1,6 @@
 -- The boundary from which symbolic runs start: its numbers, and the moment that it stands for.
 use Rattle.std.specs.Prelude.{◌≡◌, ℕ, true, List, [], ◌∷◌, Some, None, if◌then◌else◌, slice_get}
-use Rattle.mic_words.specs.Arithmetic.{signed_byte}
-use Rattle.mic1_datapath.specs.Micro.{Micro}
-use Rattle.ijvm_simulation.specs.Passes.{Moment}
-use Rattle.micro_terms.specs.Environment.{Environment}
-use Rattle.micro_terms.specs.declared.node.Node.{Node}
-use Rattle.micro_terms.specs.declared.node.Node.TheVariants.{Free}
-use Rattle.micro_terms.specs.declared.range.Range.{Range}
-use Rattle.mic1_cycles.specs.declared.symbols.Symbols.{Symbols}
-use Rattle.mic1_cycles.specs.Symbols.{micro_of}
+use Rattle.mic1_checks.specs.Common.{signed_byte, Micro, Moment, Environment, Node, Free, Range, Symbols, micro_of}
 use Rattle.mic1_checks.specs.declared.shape.Shape.{Shape}
 
 -- the numbers of the registers, and the words of those that are known

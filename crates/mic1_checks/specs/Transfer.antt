@@ -1,18 +1,7 @@
 -- When the passes of two control stores end alike, and what then carries over from the first store to the second.
 use Rattle.std.specs.Prelude.{◌≡◌, ℕ, ◌+◌, ◌<◌, ◌==◌, false, List, Some, unwrap_or}
-use Rattle.mic1_datapath.specs.Micro.{Micro}
-use Rattle.mic1_datapath.specs.Mic1.{mic1_meaning, IsReady}
-use Rattle.ijvm_meaning.specs.Frames.{State}
-use Rattle.ijvm_simulation.specs.Stands.{Origin, IsAt}
-use Rattle.ijvm_simulation.specs.Passes.{Moment, pass}
-use Rattle.ijvm_simulation.specs.Law.{Moves, Overruns}
-use Rattle.micro_terms.specs.Environment.{Environment}
-use Rattle.mic1_cycles.specs.Trail.{written_by}
-use Rattle.mic1_cycles.specs.declared.path.Path.{Path}
-use Rattle.mic1_cycles.specs.declared.refusal.Stop.{Stop}
-use Rattle.mic1_cycles.specs.declared.refusal.Stop.TheVariants.{Limit, OutOfMap}
-use Rattle.mic1_cycles.specs.declared.symbols.Write.{Write}
-use Rattle.mic1_passes.specs.Moments.{moment, StopsAt}
+use Rattle.mic1_checks.specs.Common.{Micro, mic1_meaning, IsReady, State, Origin, IsAt, Moment, pass, Moves, Overruns, Environment, written_by, Path, Stop}
+use Rattle.mic1_checks.specs.Common.{Limit, OutOfMap, Write, moment, StopsAt}
 use Rattle.mic1_checks.specs.declared.left.Operands.{Operands}
 use Rattle.mic1_checks.specs.Left.{AreLeft, HasTop}
 use Rattle.mic1_checks.specs.Ready.{IsReadyOrArriving}

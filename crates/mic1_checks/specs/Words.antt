@@ -1,9 +1,6 @@
 -- That the registers and the memory of a Mic-1 hold words, which its meaning alone does not say.
 use Rattle.std.specs.Prelude.{◌<◌, ℕ, List, [], ◌∷◌, slice_index, unwrap_or}
-use Rattle.std.specs.List.{All}
-use Rattle.console_port.specs.World.{World}
-use Rattle.mic_words.specs.Arithmetic.{signed_byte}
-use Rattle.mic1_datapath.specs.Micro.{Micro}
+use Rattle.mic1_checks.specs.Common.{All, World, signed_byte, Micro}
 
 -- what a boundary leaves free, in the order of the numbers: eight registers, MBR without and with its sign, and the word under way
 abbrev pub free_words : Micro → List ℕ

@@ -1,8 +1,7 @@
 //! An instruction in two control stores.
 ghost use Rattle.std.specs.Prelude.{◌≡◌, Ok, None};
 ghost use Rattle.std.specs.List.{Contains};
-ghost use Rattle.mic_words.specs.declared.machine.Machine.TheVariants.{Mic1};
-ghost use Rattle.micro_terms.specs.Ordered.{AreOrdered};
+ghost use Rattle.mic1_checks.specs.Common.{Mic1, AreOrdered};
 ghost use Rattle.mic1_checks.specs.declared.shape.Shape.{Shape};
 ghost use Rattle.mic1_checks.specs.Carried.{CarriesInstruction};
 ghost use Rattle.mic1_checks.specs.Start.{HasRegisters};

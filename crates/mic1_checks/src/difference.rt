@@ -1,7 +1,6 @@
 //! How two paths differ.
 ghost use Rattle.std.specs.Prelude.{◌≡◌, Ok, None, IsTrue};
-ghost use Rattle.micro_terms.specs.Meaning.{Holds};
-ghost use Rattle.mic1_cycles.specs.Known.{Knows};
+ghost use Rattle.mic1_checks.specs.Common.{Holds, Knows};
 ghost use Rattle.mic1_checks.specs.Transfer.{AreAlike, LeaveAlike};
 
 use crate::finding::{Difference, Register};

@@ -1,8 +1,7 @@
 //! HALT and ERR in a control store.
 ghost use Rattle.std.specs.Prelude.{◌≡◌, ℕ, Ok, None, IfOk, IfSome, length};
-ghost use Rattle.mic_words.specs.declared.machine.Machine.TheVariants.{Mic1};
+ghost use Rattle.mic1_checks.specs.Common.{Mic1, AreOrdered};
 ghost use Rattle.mic1_checks.specs.declared.shape.Shape.{Shape};
-ghost use Rattle.micro_terms.specs.Ordered.{AreOrdered};
 ghost use Rattle.mic1_checks.specs.Ends.{EndsAfter, HasEndedAfter, TakesEnds};
 ghost use Rattle.mic1_checks.specs.Start.{HasRegisters};
 

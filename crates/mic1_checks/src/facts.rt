@@ -1,12 +1,7 @@
 //! What is known at a boundary of an accepted image's run.
 ghost use Rattle.std.specs.Prelude.{◌≡◌, ℕ, true, IfOk};
 ghost use Rattle.std.specs.List.{All};
-ghost use Rattle.mic_words.specs.Arithmetic.{plus};
-ghost use Rattle.console_port.specs.World.{byte_in};
-ghost use Rattle.ijvm_instr.specs.declared.instr.Instr.{Instr};
-ghost use Rattle.micro_terms.specs.Environment.{Environment};
-ghost use Rattle.micro_terms.specs.Meaning.{Grows, Holds};
-ghost use Rattle.mic1_cycles.specs.Known.{StandsAt};
+ghost use Rattle.mic1_checks.specs.Common.{plus, byte_in, Instr, Environment, Grows, Holds, StandsAt};
 ghost use Rattle.mic1_checks.specs.Situation.{HasBytes, HasOperand, IsKnown, StartsBefore, is_wide_istore, takes_operand};
 
 use crate::instruction::{ISTORE, Instruction, WIDE};

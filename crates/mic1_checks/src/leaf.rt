@@ -1,8 +1,6 @@
 //! Two control stores, followed from one boundary under the same answers.
 ghost use Rattle.std.specs.Prelude.{◌≡◌, ◌==◌, ℕ, IsTrue, Ok, [], ◌∷◌};
-ghost use Rattle.mic_words.specs.declared.machine.Machine.TheVariants.{Mic1};
-ghost use Rattle.micro_terms.specs.Meaning.{Grows, Holds};
-ghost use Rattle.mic1_cycles.specs.Known.{Knows};
+ghost use Rattle.mic1_checks.specs.Common.{Mic1, Grows, Holds, Knows};
 ghost use Rattle.mic1_checks.specs.Transfer.{IsNoEnd};
 ghost use Rattle.mic1_checks.specs.Carried.{AreAtBoundary, AreAtLimit, CarriesFrom};
 

@@ -1,13 +1,6 @@
 //! The operands that an instruction leaves, of which TOS has the last one.
 ghost use Rattle.std.specs.Prelude.{◌≡◌, ◌≢◌, IfOk, IsTrue};
-ghost use Rattle.mic_words.specs.Arithmetic.{plus};
-ghost use Rattle.console_port.specs.World.{byte_in};
-ghost use Rattle.ijvm_instr.specs.declared.instr.Instr.{Instr};
-ghost use Rattle.ijvm_meaning.specs.Frames.{State};
-ghost use Rattle.ijvm_simulation.specs.Outcomes.{Went};
-ghost use Rattle.micro_terms.specs.Environment.{Environment};
-ghost use Rattle.micro_terms.specs.Meaning.{Grows, Holds, IsNode};
-ghost use Rattle.micro_terms.specs.Value.{value};
+ghost use Rattle.mic1_checks.specs.Common.{plus, byte_in, Instr, State, Went, Environment, Grows, Holds, IsNode, value};
 ghost use Rattle.mic1_checks.specs.Left.{AreLeft, HasTop, wide_index_in};
 ghost use Rattle.mic1_checks.specs.Situation.{StartsBefore};
 

@@ -1,11 +1,6 @@
 //! The symbols of a boundary.
 ghost use Rattle.std.specs.Prelude.{◌≡◌, ◌<◌, ℕ, IfOk};
-ghost use Rattle.micro_terms.specs.Environment.{Environment};
-ghost use Rattle.micro_terms.specs.Meaning.{Grows, Holds};
-ghost use Rattle.mic1_cycles.specs.Symbols.{HasSigns};
-ghost use Rattle.mic1_cycles.specs.Questions.{AreAnswered};
-ghost use Rattle.mic1_cycles.specs.Paths.{IsPath};
-ghost use Rattle.mic1_passes.specs.Moments.{moment};
+ghost use Rattle.mic1_checks.specs.Common.{Environment, Grows, Holds, HasSigns, AreAnswered, IsPath, moment};
 ghost use Rattle.mic1_checks.specs.Start.{IsStart, start_moment};
 
 use crate::left::Operands;

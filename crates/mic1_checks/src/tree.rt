@@ -1,8 +1,7 @@
 //! All answers to what two paths ask.
 ghost use Rattle.std.specs.Prelude.{◌≡◌, ◌++◌, Ok, None, IfOk, [], ◌∷◌};
 ghost use Rattle.std.specs.List.{Contains};
-ghost use Rattle.mic_words.specs.declared.machine.Machine.TheVariants.{Mic1};
-ghost use Rattle.micro_terms.specs.Meaning.{Grows, Holds};
+ghost use Rattle.mic1_checks.specs.Common.{Mic1, Grows, Holds};
 ghost use Rattle.mic1_checks.specs.Carried.{CarriesFrom};
 
 use crate::finding::{Difference, Unlike};

@@ -1,9 +1,7 @@
 //! Whether the writes of two paths leave the same memory.
 ghost use Rattle.std.specs.Prelude.{◌≡◌, ◌<◌, ◌∷◌, Ok, None, IfOk, IfSome, IsTrue, length};
 ghost use Rattle.std.specs.List.{Any, remove};
-ghost use Rattle.micro_terms.specs.Environment.{Environment};
-ghost use Rattle.micro_terms.specs.Meaning.{Holds};
-ghost use Rattle.mic1_cycles.specs.Known.{Knows};
+ghost use Rattle.mic1_checks.specs.Common.{Environment, Holds, Knows};
 ghost use Rattle.mic1_checks.specs.Transfer.{LeaveAlike};
 
 use crate::finding::Difference;

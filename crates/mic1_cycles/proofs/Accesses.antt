@@ -1,18 +1,10 @@
 -- Where accesses lead.
-use Rattle.std.proofs.Common.{◌≡◌, ℕ, ◌+◌, ◌<◌, ◌≤◌, ◌/◌, ◌%◌, ◌==◌, nat_lt, Bool, true, false, if◌then◌else◌, List, [], ◌∷◌, ◌++◌, Option, Some, None, length, refl, sym, ap, ◌∙◌, arith, append_assoc}
-use Rattle.std.specs.Prelude.{slice_index, slice_set, drop}
+use Rattle.mic1_cycles.proofs.Common.{◌≡◌, ℕ, ◌+◌, ◌<◌, ◌≤◌, ◌/◌, ◌%◌, ◌==◌, nat_lt, Bool, true, false, if◌then◌else◌, List, [], ◌∷◌, ◌++◌, Option, Some, None}
+use Rattle.mic1_cycles.proofs.Common.{length, refl, sym, ap, ◌∙◌, arith, append_assoc, slice_index, slice_set, drop, World, byte_in, next_byte, console_at}
+use Rattle.mic1_cycles.proofs.Common.{write_refusal, read_refusal, fetch_refusal, read_value, untaken_after, given_after, Mem, signed_byte, byte_under_way}
+use Rattle.mic1_cycles.proofs.Common.{first_refusal, Ports, Byte, Write, Trail, world_of, written_by, given_by, IsAccessed, IsTransferred, IsFetched, AccessLaw}
 use Rattle.std.proofs.lemmas.List.{drop-drop, set_past}
-use Rattle.console_port.specs.World.{World, byte_in, next_byte, console_at, write_refusal, read_refusal, fetch_refusal, read_value, untaken_after, given_after}
-use Rattle.micro_word.specs.declared.statement.Mem.{Mem}
 use Rattle.micro_word.specs.declared.statement.Mem.TheVariants as mems
-use Rattle.mic_words.specs.Arithmetic.{signed_byte}
-use Rattle.mic_datapath.specs.Memory.{byte_under_way, first_refusal}
-use Rattle.mic_datapath.specs.declared.ports.Ports.{Ports}
-use Rattle.mic1_cycles.specs.declared.symbols.Byte.{Byte}
-use Rattle.mic1_cycles.specs.declared.symbols.Write.{Write}
-use Rattle.mic1_cycles.specs.Trail.{Trail, world_of, written_by, given_by}
-use Rattle.mic1_cycles.specs.Cycle.{IsAccessed}
-use Rattle.mic1_cycles.specs.Access.{IsTransferred, IsFetched, AccessLaw}
 use Rattle.mic1_cycles.proofs.Trails.{written_push, size_kept, given_push}
 
 if_true : {A : Type 0} (b : Bool) (x y : A) → b ≡ true → (if b then x else y) ≡ x

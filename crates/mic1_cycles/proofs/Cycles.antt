@@ -1,16 +1,6 @@
 -- A cycle of symbols is one of what they stand for.
-use Rattle.std.proofs.Common.{◌≡◌, ℕ, Bool, true, Option, length, ◌∙◌}
-use Rattle.console_port.specs.World.{World}
-use Rattle.micro_word.specs.declared.statement.Placed.{Placed}
-use Rattle.mic_clock.specs.Meaning.{Done}
-use Rattle.mic_datapath.specs.Memory.{outcome}
-use Rattle.mic_datapath.specs.Next.{next_address}
-use Rattle.mic1_datapath.specs.Mic1.{microstep}
-use Rattle.mic1_cycles.specs.declared.symbols.Byte.{Byte}
-use Rattle.mic1_cycles.specs.declared.symbols.Symbols.{Symbols}
-use Rattle.mic1_cycles.specs.Symbols.{assigned_symbols, moved_symbols, micro_of, HasSigns}
-use Rattle.mic1_cycles.specs.Trail.{Trail, world_of}
-use Rattle.mic1_cycles.specs.Cycle.{IsComputed, ports_of, IsAccessed, LeadsTo, CycleLaw}
+use Rattle.mic1_cycles.proofs.Common.{◌≡◌, ℕ, Bool, true, Option, length, ◌∙◌, World, Placed, Done, outcome, next_address, microstep, Byte, Symbols}
+use Rattle.mic1_cycles.proofs.Common.{assigned_symbols, moved_symbols, micro_of, HasSigns, Trail, world_of, IsComputed, ports_of, IsAccessed, LeadsTo, CycleLaw}
 use Rattle.mic1_cycles.proofs.Loads.{are_signed}
 use Rattle.mic1_cycles.proofs.Settled.{result_is, settled_is, step_from}
 

@@ -1,15 +1,9 @@
 -- What loaded symbols stand for.
-use Rattle.std.proofs.Common.{◌≡◌, ℕ, Bool, true, false, if◌then◌else◌, Option, Some, None, refl, sym}
-use Rattle.std.specs.Prelude.{unwrap_or}
-use Rattle.micro_word.specs.Destinations.{loads}
+use Rattle.mic1_cycles.proofs.Common.{◌≡◌, ℕ, Bool, true, false, if◌then◌else◌, Option, Some, None, refl, sym, unwrap_or, loads, BusSource, arrived, source}
+use Rattle.mic1_cycles.proofs.Common.{assigned, Byte, Symbols, source_symbol, assigned_symbols, micro_of, word_in, IsSigned, IsSignedIn, HasSigns}
+use Rattle.mic1_cycles.specs.Prelude.{byte_in}
 use Rattle.micro_word.specs.declared.destination.Destination.TheVariants as registers
-use Rattle.micro_word.specs.declared.statement.BusSource.{BusSource}
 use Rattle.micro_word.specs.declared.statement.BusSource.TheVariants as sources
-use Rattle.mic_datapath.specs.Registers.{arrived}
-use Rattle.mic1_datapath.specs.Microstep.{source, assigned}
-use Rattle.mic1_cycles.specs.declared.symbols.Byte.{Byte}
-use Rattle.mic1_cycles.specs.declared.symbols.Symbols.{Symbols}
-use Rattle.mic1_cycles.specs.Symbols.{source_symbol, assigned_symbols, micro_of, word_in, byte_in, IsSigned, IsSignedIn, HasSigns}
 
 module _ (word : ℕ → ℕ) where
   pub on_bus : (entry : ℕ) (clocked : Bool) (empty : ℕ) (s : Symbols) (b : Option BusSource) → word empty ≡ 0 → HasSigns word s →

@@ -1,12 +1,7 @@
 -- Where a read leads.
-use Rattle.std.proofs.Common.{◌≡◌, ◌≤◌, ℕ, Some, inl, inr, length, sym, subst, arith}
+use Rattle.mic1_cycles.proofs.Common.{◌≡◌, ◌≤◌, ℕ, Some, inl, inr, length, sym, subst, arith, Environment, Symbols, Trail, ports_of, AccessLaws, IsTransferred}
+use Rattle.mic1_cycles.proofs.Common.{Reads}
 use Rattle.micro_word.specs.declared.statement.Mem.TheVariants as mems
-use Rattle.micro_terms.specs.Environment.{Environment}
-use Rattle.mic1_cycles.specs.declared.symbols.Symbols.{Symbols}
-use Rattle.mic1_cycles.specs.Trail.{Trail}
-use Rattle.mic1_cycles.specs.Cycle.{ports_of}
-use Rattle.mic1_cycles.specs.Access.{AccessLaws, IsTransferred}
-use Rattle.mic1_cycles.specs.Sites.{Reads}
 
 pub read_leads : (e : Environment) (laws : AccessLaws e.word e.start) (s : Symbols) (t : Trail) (word taken' : ℕ) → length e.start.words ≤ 4294967293 →
     Reads e s.mar t.writes t.taken word taken' →

@@ -1,16 +1,9 @@
 -- Accesses that are refused.
-use Rattle.std.proofs.Common.{◌≡◌, ◌≢◌, ℕ, ◌<◌, ◌≤◌, ◌/◌, ◌==◌, nat_lt, Bool, true, false, Some, None, length, refl, ◌∙◌, arith}
-use Rattle.console_port.specs.World.{World, Refusal, StackLimit, OutOfMap, console_at, read_refusal, write_refusal, fetch_refusal}
-use Rattle.console_port.specs.declared.map.TheConstants.{STACK_SIDE}
-use Rattle.micro_word.specs.declared.statement.Placed.{Placed}
-use Rattle.mic_clock.specs.Meaning.{Refused}
-use Rattle.mic_datapath.specs.Memory.{access_refusal}
-use Rattle.mic1_datapath.specs.Mic1.{microstep}
-use Rattle.mic1_cycles.specs.declared.symbols.Symbols.{Symbols}
-use Rattle.mic1_cycles.specs.Symbols.{assigned_symbols, micro_of, HasSigns}
-use Rattle.mic1_cycles.specs.Trail.{Trail, world_of}
-use Rattle.mic1_cycles.specs.Cycle.{IsComputed, ports_of}
-use Rattle.mic1_cycles.specs.Refusals.{RefusalLaws}
+use Rattle.mic1_cycles.proofs.Common.{◌≡◌, ◌≢◌, ℕ, ◌<◌, ◌≤◌, ◌/◌, ◌==◌, nat_lt, Bool, true, false, Some, None, length, refl, ◌∙◌, arith, World, Refusal}
+use Rattle.mic1_cycles.proofs.Common.{StackLimit, console_at, read_refusal, write_refusal, fetch_refusal, STACK_SIDE, Placed, access_refusal, microstep}
+use Rattle.mic1_cycles.proofs.Common.{Symbols, assigned_symbols, micro_of, HasSigns, Trail, world_of, IsComputed, ports_of, RefusalLaws}
+use Rattle.console_port.specs.Prelude.{OutOfMap}
+use Rattle.mic_clock.specs.Prelude.{Refused}
 use Rattle.mic1_cycles.proofs.Settled.{result_is, settled_is, step_by, step_from}
 use Rattle.mic1_cycles.proofs.Trails.{size_kept}
 

@@ -1,15 +1,8 @@
 -- What a cycle computes, and the registers after its clock edge.
-use Rattle.std.proofs.Common.{◌≡◌, ℕ, Bool, true, Option, sym, ap, ◌∙◌}
-use Rattle.console_port.specs.World.{World, Refusal}
-use Rattle.micro_word.specs.Operation.{alu, shifted}
-use Rattle.micro_word.specs.declared.statement.Placed.{Placed}
-use Rattle.mic_clock.specs.Meaning.{Outcome}
-use Rattle.mic_datapath.specs.Memory.{written, sampled, word_under_way, byte_under_way, access_refusal, outcome}
-use Rattle.mic1_datapath.specs.Micro.{Micro}
-use Rattle.mic1_datapath.specs.Microstep.{assigned, ports_of as ports_of_micro, result_of, settled, next_micro}
-use Rattle.mic1_cycles.specs.declared.symbols.Symbols.{Symbols}
-use Rattle.mic1_cycles.specs.Symbols.{assigned_symbols, micro_of, HasSigns}
-use Rattle.mic1_cycles.specs.Cycle.{IsComputed}
+use Rattle.mic1_cycles.proofs.Common.{◌≡◌, ℕ, Bool, true, Option, sym, ap, ◌∙◌, World, Refusal, alu, shifted, Placed, Outcome, written, sampled, word_under_way}
+use Rattle.mic1_cycles.proofs.Common.{byte_under_way, access_refusal, outcome, Micro, assigned, result_of, settled, next_micro, Symbols, assigned_symbols}
+use Rattle.mic1_cycles.proofs.Common.{micro_of, HasSigns, IsComputed}
+use Rattle.mic1_datapath.specs.Prelude.{ports_of as ports_of_micro}
 use Rattle.mic1_cycles.proofs.Loads.{on_bus, are_assigned}
 
 -- the rest of a cycle, whose accesses are refused or not

@@ -1,12 +1,7 @@
 -- Memory after writes.
-use Rattle.std.proofs.Common.{◌≡◌, ◌≢◌, ℕ, ◌+◌, ◌<◌, ◌≤◌, ◌%◌, ◌/◌, List, [], ◌∷◌, ◌++◌, length, take, get_or, refl, ap, ◌∙◌, arith}
-use Rattle.std.specs.Prelude.{slice_index, slice_set}
-use Rattle.std.specs.List.{All}
+use Rattle.mic1_cycles.proofs.Common.{◌≡◌, ◌≢◌, ℕ, ◌+◌, ◌<◌, ◌≤◌, ◌%◌, ◌/◌, List, [], ◌∷◌, ◌++◌, length, take, get_or, refl, ap, ◌∙◌, arith, slice_index}
+use Rattle.mic1_cycles.proofs.Common.{slice_set, All, All-head, All-tail, byte_in, byte_of, Write, written_by, given_by}
 use Rattle.std.proofs.lemmas.List.{take_more, length-set, get_or-set_other}
-use Rattle.std.proofs.lemmas.List.Elements.{All-head, All-tail}
-use Rattle.console_port.specs.World.{byte_in, byte_of}
-use Rattle.mic1_cycles.specs.declared.symbols.Write.{Write}
-use Rattle.mic1_cycles.specs.Trail.{written_by, given_by}
 
 module _ (word : ℕ → ℕ) where
   pub written_push : (ws : List Write) (w : Write) (words : List ℕ) →

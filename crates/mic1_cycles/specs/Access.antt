@@ -1,11 +1,8 @@
 -- The accesses of a cycle of symbols: a write or a read, and then a fetch.
 use Rattle.std.specs.Prelude.{◌≡◌, ◌<◌, ◌≤◌, ◌/◌, ◌+◌, ◌++◌, ℕ, Bool, true, false, [], ◌∷◌, Option, Some, None, length, slice_index, drop}
-use Rattle.console_port.specs.World.{World, byte_in, next_byte, console_at}
-use Rattle.micro_word.specs.declared.statement.Mem.{Mem}
+use Rattle.mic1_cycles.specs.Common.{World, byte_in, next_byte, console_at, Mem, written, sampled, word_under_way, byte_under_way, memory_refusal, byte_refusal}
+use Rattle.mic1_cycles.specs.Common.{Ports, signed_byte}
 use Rattle.micro_word.specs.declared.statement.Mem.TheVariants as mems
-use Rattle.mic_datapath.specs.Memory.{written, sampled, word_under_way, byte_under_way, memory_refusal, byte_refusal}
-use Rattle.mic_datapath.specs.declared.ports.Ports.{Ports}
-use Rattle.mic_words.specs.Arithmetic.{signed_byte}
 use Rattle.mic1_cycles.specs.declared.symbols.Byte.{Byte}
 use Rattle.mic1_cycles.specs.Symbols.{word_in, byte_in as byte_symbol, IsSignedIn}
 use Rattle.mic1_cycles.specs.Trail.{Trail, world_of, written_by}

@@ -1,15 +1,7 @@
 -- One cycle of symbols, and the cycle of Mic-1 that it stands for.
 use Rattle.std.specs.Prelude.{◌≡◌, ℕ, Bool, true, Option, None, length}
-use Rattle.console_port.specs.World.{World}
-use Rattle.micro_word.specs.Operation.{alu, shifted}
-use Rattle.micro_word.specs.declared.statement.Mem.{Mem}
-use Rattle.micro_word.specs.declared.statement.Part.{Part}
-use Rattle.micro_word.specs.declared.statement.Placed.{Placed}
-use Rattle.mic_clock.specs.Meaning.{Done}
-use Rattle.mic_datapath.specs.Memory.{written, sampled, word_under_way, byte_under_way, access_refusal, ports_with}
-use Rattle.mic_datapath.specs.Next.{next_address}
-use Rattle.mic_datapath.specs.declared.ports.Ports.{Ports}
-use Rattle.mic1_datapath.specs.Mic1.{microstep}
+use Rattle.mic1_cycles.specs.Common.{World, alu, shifted, Mem, Part, Placed, Done, written, sampled, word_under_way, byte_under_way, access_refusal, ports_with}
+use Rattle.mic1_cycles.specs.Common.{next_address, Ports, microstep}
 use Rattle.mic1_cycles.specs.declared.symbols.Byte.{Byte}
 use Rattle.mic1_cycles.specs.declared.symbols.Symbols.{Symbols}
 use Rattle.mic1_cycles.specs.Symbols.{source_symbol, assigned_symbols, moved_symbols, micro_of, word_in, byte_in, HasSigns, IsSignedIn}

@@ -1,9 +1,6 @@
 -- When what is known of a start is true of it.
 use Rattle.std.specs.Prelude.{◌≡◌, ◌≤◌, ◌<◌, ℕ, length, slice_index}
-use Rattle.std.specs.List.{All}
-use Rattle.console_port.specs.World.{byte_in, console_at}
-use Rattle.micro_terms.specs.Ranges.{IsIn}
-use Rattle.micro_terms.specs.Environment.{Environment}
+use Rattle.mic1_cycles.specs.Common.{All, byte_in, console_at, IsIn, Environment}
 use Rattle.mic1_cycles.specs.declared.known.Known.{Known}
 
 -- the word of the second number stands in memory, at the address that the first one stands for

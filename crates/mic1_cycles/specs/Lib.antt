@@ -1,3 +1,4 @@
+pub mod Common
 pub mod Access
 pub mod Cycle
 pub mod Known

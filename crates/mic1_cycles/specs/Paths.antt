@@ -1,13 +1,6 @@
 -- The moment that a path stands for, and where a cycle of it leads.
 use Rattle.std.specs.Prelude.{◌≡◌, ℕ, Bool, Some, length}
-use Rattle.console_port.specs.World.{Refusal, StackLimit, OutOfMap}
-use Rattle.micro_word.specs.declared.statement.Mem.{Mem}
-use Rattle.micro_word.specs.declared.statement.Placed.{Placed}
-use Rattle.mic_clock.specs.Meaning.{Refused}
-use Rattle.mic_datapath.specs.Memory.{access_refusal}
-use Rattle.mic_datapath.specs.declared.ports.Ports.{Ports}
-use Rattle.mic1_datapath.specs.Mic1.{microstep}
-use Rattle.micro_terms.specs.Environment.{Environment}
+use Rattle.mic1_cycles.specs.Common.{Refusal, StackLimit, OutOfMap, Mem, Placed, Refused, access_refusal, Ports, microstep, Environment}
 use Rattle.mic1_cycles.specs.declared.path.Path.{Path}
 use Rattle.mic1_cycles.specs.declared.refusal.Stop.{Stop}
 use Rattle.mic1_cycles.specs.declared.refusal.Stop.TheVariants as stops

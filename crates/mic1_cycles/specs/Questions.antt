@@ -1,12 +1,7 @@
 -- The true answer to a question about a word.
 use Rattle.std.specs.Prelude.{◌≡◌, ◌==◌, ◌/◌, nat_lt, ℕ, Bool, List, length}
-use Rattle.std.specs.List.{All}
-use Rattle.console_port.specs.World.{console_at}
-use Rattle.console_port.specs.declared.map.TheConstants.{STACK_SIDE}
-use Rattle.micro_word.specs.declared.statement.Test.{Test}
+use Rattle.mic1_cycles.specs.Common.{All, console_at, STACK_SIDE, Test, flag, Environment}
 use Rattle.micro_word.specs.declared.statement.Test.TheVariants as tests
-use Rattle.mic_datapath.specs.Next.{flag}
-use Rattle.micro_terms.specs.Environment.{Environment}
 use Rattle.mic1_cycles.specs.declared.question.Answer.{Answer}
 use Rattle.mic1_cycles.specs.declared.question.Question.{Question}
 use Rattle.mic1_cycles.specs.declared.question.Question.TheVariants as questions

@@ -1,11 +1,7 @@
 -- Accesses that are refused, and the cycles that they end.
 use Rattle.std.specs.Prelude.{◌≡◌, ◌≢◌, ◌<◌, ◌≤◌, ◌/◌, ℕ, Bool, Some, None, length}
-use Rattle.console_port.specs.World.{World, Refusal, StackLimit, OutOfMap, console_at, read_refusal, write_refusal, fetch_refusal}
-use Rattle.console_port.specs.declared.map.TheConstants.{STACK_SIDE}
-use Rattle.micro_word.specs.declared.statement.Placed.{Placed}
-use Rattle.mic_clock.specs.Meaning.{Refused}
-use Rattle.mic_datapath.specs.Memory.{access_refusal}
-use Rattle.mic1_datapath.specs.Mic1.{microstep}
+use Rattle.mic1_cycles.specs.Common.{World, Refusal, StackLimit, OutOfMap, console_at, read_refusal, write_refusal, fetch_refusal, STACK_SIDE, Placed, Refused}
+use Rattle.mic1_cycles.specs.Common.{access_refusal, microstep}
 use Rattle.mic1_cycles.specs.declared.symbols.Symbols.{Symbols}
 use Rattle.mic1_cycles.specs.Symbols.{assigned_symbols, micro_of, HasSigns}
 use Rattle.mic1_cycles.specs.Trail.{Trail, world_of}

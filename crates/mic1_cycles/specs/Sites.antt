@@ -1,8 +1,6 @@
 -- What an access reaches, and what a read has under way after the writes of a path.
 use Rattle.std.specs.Prelude.{◌≡◌, ◌≢◌, ◌⊎◌, ◌≤◌, ◌<◌, ◌+◌, drop, slice_index, slice_set, ℕ, List, length}
-use Rattle.mic_words.specs.Arithmetic.{signed_byte}
-use Rattle.console_port.specs.World.{byte_in, console_at, next_byte}
-use Rattle.micro_terms.specs.Environment.{Environment}
+use Rattle.mic1_cycles.specs.Common.{signed_byte, byte_in, console_at, next_byte, Environment}
 use Rattle.mic1_cycles.specs.declared.symbols.Byte.{Byte}
 use Rattle.mic1_cycles.specs.declared.symbols.Write.{Write}
 use Rattle.mic1_cycles.specs.declared.site.Site.{Site}

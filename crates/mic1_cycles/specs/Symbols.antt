@@ -1,11 +1,8 @@
 -- The state of Mic-1 that symbols stand for, and how a clock edge loads them.
 use Rattle.std.specs.Prelude.{◌≡◌, ℕ, Bool, if◌then◌else◌, Option, Some, None, unwrap_or}
-use Rattle.mic_words.specs.Arithmetic.{signed_byte}
-use Rattle.micro_word.specs.Destinations.{loads}
+use Rattle.mic1_cycles.specs.Common.{signed_byte, loads, BusSource, Micro}
 use Rattle.micro_word.specs.declared.destination.Destination.TheVariants as registers
-use Rattle.micro_word.specs.declared.statement.BusSource.{BusSource}
 use Rattle.micro_word.specs.declared.statement.BusSource.TheVariants as sources
-use Rattle.mic1_datapath.specs.Micro.{Micro}
 use Rattle.mic1_cycles.specs.declared.symbols.Byte.{Byte}
 use Rattle.mic1_cycles.specs.declared.symbols.Symbols.{Symbols}
 

@@ -1,6 +1,6 @@
 -- What a run did to the world since its start: its writes, the oldest first, the count of the bytes taken, and the words given.
 use Rattle.std.specs.Prelude.{ℕ, ◌++◌, ◌%◌, List, [], ◌∷◌, drop, slice_set}
-use Rattle.console_port.specs.World.{World}
+use Rattle.console_port.specs.Prelude.{World}
 use Rattle.mic1_cycles.specs.declared.symbols.Write.{Write}
 
 pub record Trail : Type 0 where

@@ -1,6 +1,6 @@
 //! What the accesses of a cycle read.
 ghost use Rattle.std.specs.Prelude.{◌≡◌, ◌<◌, ◌≤◌, ◌/◌, ℕ, IfOk, IfSome, List, length, slice_index};
-ghost use Rattle.micro_terms.specs.Meaning.{Grows, Holds};
+ghost use Rattle.micro_terms.specs.Prelude.{Grows, Holds};
 ghost use Rattle.mic1_cycles.specs.Trail.{written_by};
 ghost use Rattle.mic1_cycles.specs.Questions.{AreAnswered};
 ghost use Rattle.mic1_cycles.specs.Known.{Knows};

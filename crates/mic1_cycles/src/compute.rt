@@ -1,6 +1,6 @@
 //! What a cycle computes.
 ghost use Rattle.std.specs.Prelude.{IfOk};
-ghost use Rattle.micro_terms.specs.Meaning.{Grows, Holds};
+ghost use Rattle.micro_terms.specs.Prelude.{Grows, Holds};
 ghost use Rattle.mic1_cycles.specs.Cycle.{IsComputed};
 
 use crate::symbols::{Symbols, source};

@@ -1,9 +1,7 @@
 //! What is known of words where a run starts.
 ghost use Rattle.std.specs.Prelude.{◌≡◌, ◌<◌, ◌≤◌, ℕ, IfSome, IsTrue};
 ghost use Rattle.std.specs.List.{All};
-ghost use Rattle.console_port.specs.World.{byte_in};
-ghost use Rattle.micro_terms.specs.Environment.{Environment};
-ghost use Rattle.micro_terms.specs.Meaning.{Holds};
+ghost use Rattle.mic1_cycles.specs.Common.{byte_in, Environment, Holds};
 ghost use Rattle.mic1_cycles.specs.Known.{Knows, StandsAt};
 
 use crate::symbols::Write;

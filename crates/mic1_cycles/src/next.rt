@@ -1,7 +1,6 @@
 //! Where a statement goes next.
 ghost use Rattle.std.specs.Prelude.{◌≡◌, ◌<◌, ◌+◌, ℕ, IfSome, if◌then◌else◌};
-ghost use Rattle.mic_datapath.specs.Next.{flag, next_address};
-ghost use Rattle.micro_terms.specs.Meaning.{Holds};
+ghost use Rattle.mic1_cycles.specs.Common.{flag, next_address, Holds};
 ghost use Rattle.mic1_cycles.specs.Questions.{AreAnswered, question_on};
 
 use crate::question::{Answer, Question, answered};

@@ -1,6 +1,6 @@
 //! What a path may ask of a word, and what it has answered.
 ghost use Rattle.std.specs.Prelude.{◌≡◌, ℕ, IfSome};
-ghost use Rattle.micro_terms.specs.Environment.{Environment};
+ghost use Rattle.micro_terms.specs.Prelude.{Environment};
 ghost use Rattle.mic1_cycles.specs.Questions.{AreAnswered, truth};
 
 /// A question about a word, answered by yes or no.

@@ -1,7 +1,6 @@
 //! Whether the accesses of a cycle are refused.
 ghost use Rattle.std.specs.Prelude.{◌≡◌, ◌/◌, nat_lt, ℕ, IfSome, Some, None, length};
-ghost use Rattle.mic_datapath.specs.Memory.{byte_refusal, memory_refusal};
-ghost use Rattle.micro_terms.specs.Meaning.{Holds};
+ghost use Rattle.mic1_cycles.specs.Common.{byte_refusal, memory_refusal, Holds};
 ghost use Rattle.mic1_cycles.specs.Cycle.{ports_of};
 ghost use Rattle.mic1_cycles.specs.Questions.{AreAnswered};
 ghost use Rattle.mic1_cycles.specs.Known.{Knows};

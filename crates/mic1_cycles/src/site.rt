@@ -1,8 +1,6 @@
 //! Where an access is.
 ghost use Rattle.std.specs.Prelude.{◌≡◌, ◌==◌, ◌<◌, nat_lt, ℕ, IfSome, IsTrue, length};
-ghost use Rattle.console_port.specs.World.{console_at};
-ghost use Rattle.micro_terms.specs.Environment.{Environment};
-ghost use Rattle.micro_terms.specs.Meaning.{Holds};
+ghost use Rattle.mic1_cycles.specs.Common.{console_at, Environment, Holds};
 ghost use Rattle.mic1_cycles.specs.Questions.{AreAnswered};
 ghost use Rattle.mic1_cycles.specs.Known.{Knows};
 ghost use Rattle.mic1_cycles.specs.Sites.{IsSite};

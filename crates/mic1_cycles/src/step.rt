@@ -1,6 +1,6 @@
 //! One cycle.
 ghost use Rattle.std.specs.Prelude.{◌≡◌, Ok, IfOk, IfSome, None, true};
-ghost use Rattle.micro_terms.specs.Meaning.{Grows, Holds};
+ghost use Rattle.micro_terms.specs.Prelude.{Grows, Holds};
 ghost use Rattle.mic1_cycles.specs.Cycle.{ports_of};
 ghost use Rattle.mic1_cycles.specs.Trail.{Trail};
 ghost use Rattle.mic1_cycles.specs.Access.{IsFetched, IsTransferred};

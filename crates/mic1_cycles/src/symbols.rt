@@ -1,7 +1,6 @@
 //! The registers of Mic-1, each with the number of its symbolic word.
 ghost use Rattle.std.specs.Prelude.{◌≡◌, if◌then◌else◌};
-ghost use Rattle.micro_word.specs.declared.destination.Destination.{Destination};
-ghost use Rattle.micro_word.specs.Destinations.{loads};
+ghost use Rattle.mic1_cycles.specs.Common.{Destination, loads};
 ghost use Rattle.mic1_cycles.specs.Symbols.{assigned_symbols, source_symbol};
 
 use micro_word::{BusSource, Destination};

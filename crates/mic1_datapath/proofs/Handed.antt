@@ -1,10 +1,6 @@
 -- What a cycle has driven and computed before its edge, as the parts of a word say it.
-use Rattle.std.proofs.Common.{◌≡◌, ℕ, ap, sym, ◌∙◌}
+use Rattle.mic1_datapath.proofs.Common.{◌≡◌, ℕ, ap, sym, ◌∙◌, shifted, statement_of, Computed, Drive, HasComputed, Micro, computed, driven, source}
 use Rattle.mic_words.specs.declared.machine.Machine.TheVariants as machines
-use Rattle.micro_word.specs.Prelude.{shifted, statement_of}
-use Rattle.mic_clock.specs.declared.buses.Computed.{Computed}
-use Rattle.mic_clock.specs.declared.buses.Drive.{Drive}
-use Rattle.mic1_datapath.specs.Prelude.{HasComputed, Micro, computed, driven, source}
 
 pub drove_b : (word : ℕ) (m : Micro) (d : Drive) → d ≡ driven word m → d.b ≡ source (statement_of machines.Mic1 word).part.b m
 unfolding driven

@@ -1,6 +1,5 @@
 -- An edge that reaches no console.
-use Rattle.std.proofs.Common.{◌≡◌, ℕ, List, Option, refl, sym, subst}
-use Rattle.console_port.specs.Prelude.{World, BusView, ConsoleView, Untaken, Given, Shows, IsLed}
+use Rattle.mic1_datapath.proofs.Common.{◌≡◌, ℕ, List, Option, refl, sym, subst, World, BusView, ConsoleView, Untaken, Given, Shows, IsLed}
 
 -- what leads each shown world to the same with the new words
 pub led_inside : (left held : Option (List ℕ)) (bus bus' : BusView) → bus'.console ≡ bus.console → (leads : World → World → Type 0) →

@@ -1,9 +1,5 @@
 -- What a fault that is passed on leaves of the source and the sink.
-use Rattle.std.proofs.Common.{◌≡◌, ℕ, List, Option, Result, Err, IsErrAnd, sym}
-use Rattle.console_port.specs.Prelude.{StreamsGoOn, BusView}
-use Rattle.console_port.specs.declared.fault.BusFault.{BusFault}
-use Rattle.console_port.specs.declared.fault.BusFault.TheVariants.{ReadFault, WriteFault}
-use Rattle.mic_clock.specs.Prelude.{handed_on}
+use Rattle.mic1_datapath.proofs.Common.{◌≡◌, ℕ, List, Option, Result, Err, IsErrAnd, sym, StreamsGoOn, BusView, BusFault, ReadFault, WriteFault, handed_on}
 
 same_fault : {T U : Type 0} (e f : BusFault) (r : Result T BusFault) (q : Result U BusFault) → r ≡ Err e → q ≡ Err e → r ≡ Err f → q ≡ Err f
 same_fault e f r q was is at = cc

@@ -1,9 +1,6 @@
 -- What was on the buses in a clocked cycle, by what the latches keep of it.
-use Rattle.std.proofs.Common.{◌≡◌, ℕ, Bool, if◌then◌else◌, ap, ◌∙◌}
-use Rattle.mic_clock.specs.Prelude.{buses_in, start_buses}
-use Rattle.mic_clock.specs.declared.buses.Drive.{Drive}
-use Rattle.mic1_datapath.specs.Prelude.{IsLast, Micro, buses_by, computed, driven, mic1_meaning}
-use Rattle.mic1_datapath.specs.declared.latches.Latches.{Latches}
+use Rattle.mic1_datapath.proofs.Common.{◌≡◌, ℕ, Bool, if◌then◌else◌, ap, ◌∙◌, buses_in, start_buses, Drive, IsLast, Micro, buses_by, computed, driven}
+use Rattle.mic1_datapath.proofs.Common.{mic1_meaning, Latches}
 
 -- the latches keep the word, and with its operands it decides what was on the buses
 pub seen_last : (m : Micro) (word : ℕ) (l : Latches) (drive : Drive) → IsLast word l → drive ≡ driven word m →

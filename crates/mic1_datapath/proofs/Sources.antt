@@ -1,11 +1,7 @@
 -- What stands at the place of a source is what the source puts on the B bus.
-use Rattle.std.proofs.Common.{◌≡◌, Bool, true, false, ◌&&◌, IsTrue, Option, Some, None, slice_index, refl}
-use Rattle.mic_words.specs.declared.machine.Machine.TheVariants.{Mic1}
-use Rattle.micro_word.specs.Prelude.{fits_side, may_be_b, place_on_bus}
-use Rattle.micro_word.specs.declared.statement.BusSource.{BusSource}
+use Rattle.mic1_datapath.proofs.Common.{◌≡◌, Bool, true, false, ◌&&◌, IsTrue, Option, Some, None, slice_index, refl, Mic1, fits_side, may_be_b, place_on_bus}
+use Rattle.mic1_datapath.proofs.Common.{BusSource, source, AreLatches, micro_in, Latches}
 use Rattle.micro_word.specs.declared.statement.BusSource.TheVariants as sources
-use Rattle.mic1_datapath.specs.Prelude.{source, AreLatches, micro_in}
-use Rattle.mic1_datapath.specs.declared.latches.Latches.{Latches}
 
 not_here : (used : Bool) → IsTrue (used && false) → ⊥
 not_here true h = absurd (cc)

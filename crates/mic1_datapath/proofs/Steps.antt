@@ -1,16 +1,10 @@
 -- What is asked of the bus for a statement, with its accesses, is its microstep or its refusal.
-use Rattle.std.proofs.Common.{◌≡◌, ℕ, ◌==◌, Bool, List, Option, None, Ok, length, sym, ap, ◌∙◌}
-use Rattle.std.specs.Prelude.{⊤}
-use Rattle.console_port.specs.Prelude.{World, Refusal, ChangesOnly, IsLed, refused_by, BusView}
+use Rattle.mic1_datapath.proofs.Common.{◌≡◌, ℕ, ◌==◌, Bool, List, Option, None, Ok, length, sym, ap, ◌∙◌, ⊤, World, Refusal, ChangesOnly, IsLed, refused_by}
+use Rattle.mic1_datapath.proofs.Common.{BusView, statement_of, mem_of, fields_of, shifted, Mem, Placed, IsEdge, Outcome, Done, access_refusal, word_under_way}
+use Rattle.mic1_datapath.proofs.Common.{byte_under_way, written, sampled, outcome, IsAccess, Asks, answered, ports_at, ports_of, result_of, settled, next_micro}
+use Rattle.mic1_datapath.proofs.Common.{refusal, clock, world_after, microstep, step_of_word, mic1_meaning, Micro, Ports}
 use Rattle.mic_words.specs.declared.machine.Machine.TheVariants as machines
-use Rattle.micro_word.specs.Prelude.{statement_of, mem_of, fields_of, shifted}
-use Rattle.micro_word.specs.declared.statement.Mem.{Mem}
-use Rattle.micro_word.specs.declared.statement.Placed.{Placed}
-use Rattle.mic_clock.specs.Prelude.{IsEdge, Outcome, Done}
-use Rattle.mic_datapath.specs.Prelude.{access_refusal, word_under_way, byte_under_way, written, sampled, outcome, IsAccess, Asks, answered}
-use Rattle.mic1_datapath.specs.Prelude.{ports_at, ports_of, result_of, settled, next_micro, refusal, clock, world_after, microstep, step_of_word, mic1_meaning, Micro}
 use Rattle.mic_datapath.specs.Edges as edges
-use Rattle.mic_datapath.specs.declared.ports.Ports.{Ports}
 
 -- what a cycle asks of the bus
 pub record Asked : Type 0 where

@@ -1,14 +1,8 @@
 -- An edge whose accesses need no source and no sink is done.
-use Rattle.std.proofs.Common.{◌≡◌, ℕ, ◌==◌, Bool, true, Option, None, ap, length, ◌∙◌}
-use Rattle.console_port.specs.Prelude.{ChangesOnly, BusView}
+use Rattle.mic1_datapath.proofs.Common.{◌≡◌, ℕ, ◌==◌, Bool, true, Option, None, ap, length, ◌∙◌, ChangesOnly, BusView, statement_of, mem_of, fields_of, Lines}
+use Rattle.mic1_datapath.proofs.Common.{Mem, IsAccess, LeadsInside, access_refusal, Ports, IsAtEdge, IsLast, IsTried, moved_on, ports_at, AreLatches, micro_in}
+use Rattle.mic1_datapath.proofs.Common.{settled, next_micro, Latches}
 use Rattle.mic_words.specs.declared.machine.Machine.TheVariants as machines
-use Rattle.micro_word.specs.Prelude.{statement_of, mem_of, fields_of}
-use Rattle.micro_word.specs.declared.lines.Lines.{Lines}
-use Rattle.micro_word.specs.declared.statement.Mem.{Mem}
-use Rattle.mic_datapath.specs.Prelude.{IsAccess, LeadsInside, access_refusal}
-use Rattle.mic_datapath.specs.declared.ports.Ports.{Ports}
-use Rattle.mic1_datapath.specs.Prelude.{IsAtEdge, IsLast, IsTried, moved_on, ports_at, AreLatches, micro_in, settled, next_micro}
-use Rattle.mic1_datapath.specs.declared.latches.Latches.{Latches}
 use Rattle.mic1_datapath.proofs.Steps.{Asked, IsAsked, edge_done, is_asked}
 
 pub tried : (word value c : ℕ) (lines : Lines) (l l' : Latches) (bus bus' : BusView) (ports : Ports) (mem : Mem) (fetch : Bool) (read byte : Option ℕ) →

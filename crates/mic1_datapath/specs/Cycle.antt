@@ -1,13 +1,9 @@
 -- What the edge of Mic-1 is handed: a word with its control lines, and what leaves the ALU and the shifter. And an edge that
 -- needs no source and no sink.
 use Rattle.std.specs.Prelude.{◌≡◌, ℕ, Bool, true, false, Option}
-use Rattle.console_port.specs.Prelude.{BusView}
-use Rattle.mic_clock.specs.Prelude.{IsDecoded, IsEdgeInside}
+use Rattle.mic1_datapath.specs.Common.{BusView, IsDecoded, IsEdgeInside, mem_of, statement_of, fields_of, shifted, Lines, Ports}
 use Rattle.mic_words.specs.declared.machine.Machine.TheVariants as machines
-use Rattle.micro_word.specs.Prelude.{mem_of, statement_of, fields_of, shifted}
-use Rattle.micro_word.specs.declared.lines.Lines.{Lines}
 use Rattle.micro_word.specs.declared.statement.Mem.TheVariants as mems
-use Rattle.mic_datapath.specs.declared.ports.Ports.{Ports}
 use Rattle.mic1_datapath.specs.Latches.{AreLatches, fetches, micro_in}
 use Rattle.mic1_datapath.specs.Mic1.{mic1_meaning}
 use Rattle.mic1_datapath.specs.Microstep.{assigned, next_micro, ports_of, result_of, settled}

@@ -1,10 +1,7 @@
 -- What the latches of Mic-1 mean: the microstep's state.
 use Rattle.std.specs.Prelude.{◌≡◌, ℕ, ◌<◌, ◌==◌, Bool, true, false, if◌then◌else◌, List, IsTrue, Option, Some, None, slice_index}
-use Rattle.mic_words.specs.Prelude.{signed_byte}
+use Rattle.mic1_datapath.specs.Common.{signed_byte, fields_of, is_canonical, NOTHING, Mem}
 use Rattle.mic_words.specs.declared.machine.Machine.TheVariants as machines
-use Rattle.micro_word.specs.Prelude.{fields_of, is_canonical}
-use Rattle.micro_word.specs.declared.lines.TheConstants.{NOTHING}
-use Rattle.micro_word.specs.declared.statement.Mem.{Mem}
 use Rattle.micro_word.specs.declared.statement.Mem.TheVariants as mems
 use Rattle.mic1_datapath.specs.Micro.{Micro}
 use Rattle.mic1_datapath.specs.declared.latches.Latches.{Latches}

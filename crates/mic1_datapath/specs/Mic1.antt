@@ -1,17 +1,8 @@
 -- What Mic-1 means as a clocked machine: the microstep of the statement that a word spells.
 use Rattle.std.specs.Prelude.{◌≡◌, ℕ, true, false, ◌&&◌, ◌==◌, List, None, length, IsTrue}
-use Rattle.console_port.specs.Prelude.{World, byte_in}
-use Rattle.micro_word.specs.declared.statement.Placed.{Placed}
+use Rattle.mic1_datapath.specs.Common.{World, byte_in, Placed, microword_of, statement_of, is_valid, alu, shifted, is_negative, Drive, Computed, Registers}
+use Rattle.mic1_datapath.specs.Common.{Start, Mbr, Meaning, Outcome, outcome}
 use Rattle.mic_words.specs.declared.machine.Machine.TheVariants as machines
-use Rattle.micro_word.specs.Prelude.{microword_of, statement_of, is_valid, alu, shifted}
-use Rattle.mic_words.specs.Prelude.{is_negative}
-use Rattle.mic_clock.specs.declared.buses.Drive.{Drive}
-use Rattle.mic_clock.specs.declared.buses.Computed.{Computed}
-use Rattle.mic_clock.specs.declared.registers.Registers.{Registers}
-use Rattle.mic_clock.specs.declared.registers.Start.{Start}
-use Rattle.mic_clock.specs.declared.registers.Tail.TheVariants.{Mbr}
-use Rattle.mic_clock.specs.Prelude.{Meaning, Outcome}
-use Rattle.mic_datapath.specs.Prelude.{outcome}
 use Rattle.mic1_datapath.specs.Microstep.{source, clock, world_after, refusal}
 use Rattle.mic1_datapath.specs.Micro.{Micro}
 

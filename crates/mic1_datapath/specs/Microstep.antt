@@ -1,16 +1,9 @@
 -- The microstep of Mic-1 (chapter 4; the order of events at the clock edge is this profile's). A statement assigns
 -- whole words; `clock` is total, and `refusal` looks only at addresses.
 use Rattle.std.specs.Prelude.{ℕ, true, Option, None}
-use Rattle.mic_words.specs.Prelude.{signed_byte}
-use Rattle.micro_word.specs.Prelude.{alu, shifted}
-use Rattle.console_port.specs.Prelude.{World, Refusal}
-use Rattle.micro_word.specs.declared.statement.BusSource.{BusSource}
+use Rattle.mic1_datapath.specs.Common.{signed_byte, alu, shifted, World, Refusal, BusSource, PlacedNext, Part, Placed, NineRegisters, on_bus, arrived, loaded}
+use Rattle.mic1_datapath.specs.Common.{ports_given, written, sampled, word_under_way, byte_under_way, access_refusal, next_address, Ports}
 use Rattle.micro_word.specs.declared.statement.BusSource.TheVariants as sources
-use Rattle.micro_word.specs.declared.statement.PlacedNext.{PlacedNext}
-use Rattle.micro_word.specs.declared.statement.Part.{Part}
-use Rattle.micro_word.specs.declared.statement.Placed.{Placed}
-use Rattle.mic_datapath.specs.Prelude.{NineRegisters, on_bus, arrived, loaded, ports_given, written, sampled, word_under_way, byte_under_way, access_refusal, next_address}
-use Rattle.mic_datapath.specs.declared.ports.Ports.{Ports}
 use Rattle.mic1_datapath.specs.Micro.{Micro}
 
 -- 1. The operation is done on H and on what is on the B bus, and its result is shifted.

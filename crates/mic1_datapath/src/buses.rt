@@ -1,9 +1,7 @@
 //! What is on the buses in a cycle of a word.
 
 ghost use Rattle.std.specs.Prelude.{◌≡◌, IsTrue};
-ghost use Rattle.mic_words.specs.declared.machine.Machine.TheVariants.{Mic1};
-ghost use Rattle.micro_word.specs.Prelude.{shift_of, statement_of, fields_of, shifted, is_canonical};
-ghost use Rattle.mic_clock.specs.Prelude.{IsDecoded};
+ghost use Rattle.mic1_datapath.specs.Common.{Mic1, shift_of, statement_of, fields_of, shifted, is_canonical, IsDecoded};
 ghost use Rattle.mic1_datapath.specs.Latches.{AreLatches, micro_in};
 ghost use Rattle.mic1_datapath.specs.Mic1.{computed, computed_on, driven};
 ghost use Rattle.mic1_datapath.specs.Microstep.{source};

@@ -1,8 +1,7 @@
 //! The clock edge of a cycle whose accesses need neither a source nor a sink.
 
 ghost use Rattle.std.specs.Prelude.{◌≡◌, ◌≢◌, true, false};
-ghost use Rattle.mic_words.specs.declared.machine.Machine.TheVariants.{Mic1};
-ghost use Rattle.micro_word.specs.Prelude.{fields_of};
+ghost use Rattle.mic1_datapath.specs.Common.{Mic1, fields_of};
 ghost use Rattle.mic1_datapath.specs.Cycle.{IsAtEdge, IsQuiet, IsTried, is_done};
 ghost use Rattle.mic1_datapath.specs.Latches.{fetches};
 

@@ -1,10 +1,7 @@
 //! What Mic-1 keeps between cycles.
 
 ghost use Rattle.std.specs.Prelude.{◌≡◌, ◌≢◌, ◌<◌, ℕ, IsTrue, is_some, slice_index, unwrap_or, true, false};
-ghost use Rattle.mic_words.specs.declared.machine.Machine.TheVariants.{Mic1};
-ghost use Rattle.micro_word.specs.Prelude.{is_canonical, mem_of, statement_of, fields_of, AreLines, shifted};
-ghost use Rattle.mic_datapath.specs.Prelude.{GoesTo};
-ghost use Rattle.mic_datapath.specs.Registers.{arrived as arrived_of};
+ghost use Rattle.mic1_datapath.specs.Common.{Mic1, is_canonical, mem_of, statement_of, fields_of, AreLines, shifted, GoesTo, arrived as arrived_of};
 ghost use Rattle.mic1_datapath.specs.Mic1.{initial as initial_of};
 ghost use Rattle.mic1_datapath.specs.Cycle.{IsLast, moved_on, ports_at};
 ghost use Rattle.mic1_datapath.specs.Microstep.{result_of};

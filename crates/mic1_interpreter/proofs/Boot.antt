@@ -1,15 +1,6 @@
 -- From the reset of a Mic-1 to its first boundary.
-use Rattle.std.proofs.Common.{◌≡◌, ℕ, None, List, [], ◌∷◌, length, refl, arith, ap}
-use Rattle.mic_words.specs.declared.machine.Machine.TheVariants.{Mic1}
-use Rattle.mic_words.specs.Prelude.{next, wrap}
-use Rattle.console_port.specs.Prelude.{fetch_refusal, byte_in}
-use Rattle.mic1_datapath.specs.Prelude.{Micro, mic1_meaning}
-use Rattle.ijvm_meaning.specs.Prelude.{timing_of, start_of}
-use Rattle.verifier_facts.specs.Prelude.{VerifiedView}
-use Rattle.ijvm_simulation.specs.Prelude.{Origin, Moment, Boots, reset_moment, Loads}
-use Rattle.ijvm_simulation.specs.Accesses.{fetch_ok}
-use Rattle.ijvm_simulation.specs.Images.{map, first}
-use Rattle.mic1_interpreter.specs.Prelude.{Stands}
+use Rattle.mic1_interpreter.proofs.Common.{◌≡◌, ℕ, None, List, [], ◌∷◌, length, refl, arith, ap, Mic1, next, wrap, fetch_refusal, byte_in, Micro, mic1_meaning}
+use Rattle.mic1_interpreter.proofs.Common.{timing_of, start_of, VerifiedView, Origin, Moment, Boots, reset_moment, Loads, fetch_ok, map, first, Stands}
 use Rattle.mic1_interpreter.proofs.Store.{HasStatements}
 use Rattle.mic1_interpreter.proofs.Guided.{clocked, pass-clocked}
 

@@ -1,22 +1,11 @@
 -- Mic-1 between two boundaries: what it knows at the one, and when a symbolic run comes to the next.
-use Rattle.std.proofs.Common.{◌≡◌, ℕ, ◌+◌, ◌<◌, ◌++◌, Option, Some, None, true, List, length, arith, refl, ◌∙◌, ap, subst}
-use Rattle.std.specs.Prelude.{nat_lt, ◌==◌}
-use Rattle.std.proofs.lemmas.Bool.Decides.{nat_tests}
-use Rattle.console_port.specs.Prelude.{World, Refusal, StackLimit, byte_in, fetch_refusal}
-use Rattle.micro_word.specs.declared.statement.Placed.{Placed}
-use Rattle.mic_datapath.specs.Prelude.{memory_refusal, byte_refusal, first_refusal}
-use Rattle.mic_words.specs.Prelude.{next}
-use Rattle.ijvm_meaning.specs.Prelude.{State, timing_of, cost}
-use Rattle.mic1_datapath.specs.Prelude.{Micro, mic1_meaning, settled}
-use Rattle.mic_words.specs.declared.machine.Machine.TheVariants.{Mic1}
-use Rattle.ijvm_instr.specs.declared.instr.Instr.{Instr}
-use Rattle.verifier_facts.specs.Prelude.{VerifiedView}
+use Rattle.mic1_interpreter.proofs.Common.{◌≡◌, ℕ, ◌+◌, ◌<◌, ◌++◌, Option, Some, None, true, List, length, arith, refl, ◌∙◌, ap, subst, nat_lt, ◌==◌, nat_tests}
+use Rattle.mic1_interpreter.proofs.Common.{World, Refusal, StackLimit, byte_in, fetch_refusal, Placed, memory_refusal, byte_refusal, first_refusal, next, State}
+use Rattle.mic1_interpreter.proofs.Common.{timing_of, cost, Micro, mic1_meaning, settled, Mic1, Instr, VerifiedView, Stands, Origin, RegistersStand, Moment}
+use Rattle.mic1_interpreter.proofs.Common.{is_inside, pass, Loads, Fine, IsNext, Went, Overran, ShowsState, HasWord, Moves, Overruns, next_is, byte_kept}
+use Rattle.mic1_interpreter.proofs.Common.{fetch_ok}
 use Rattle.mic1_interpreter.proofs.Store.{shipped, HasStatements}
-use Rattle.mic1_interpreter.specs.Prelude.{Stands}
 use Rattle.mic1_interpreter.proofs.Guided.{clocked, clocked-long, IsSmooth, pass-clocked, outcome_is, step-refused}
-use Rattle.ijvm_simulation.specs.Prelude.{Origin, RegistersStand, Moment, is_inside, pass, Loads, Fine, IsNext, Went, Overran, ShowsState, HasWord, Moves, Overruns}
-use Rattle.ijvm_simulation.specs.Words.{next_is, byte_kept}
-use Rattle.ijvm_simulation.specs.Accesses.{fetch_ok}
 use Rattle.ijvm_simulation.specs.Images as images
 
 -- the moment at Main1, with nothing under way

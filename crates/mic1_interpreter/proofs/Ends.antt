@@ -1,13 +1,7 @@
 -- HALT and ERR.
-use Rattle.std.proofs.Common.{◌≡◌, ℕ, false, List, [], ◌∷◌, refl, arith, inr}
-use Rattle.mic_words.specs.declared.machine.Machine.TheVariants.{Mic1}
-use Rattle.console_port.specs.Prelude.{byte_in}
+use Rattle.mic1_interpreter.proofs.Common.{◌≡◌, ℕ, false, List, [], ◌∷◌, refl, arith, inr, Mic1, byte_in, State, timing_of, VerifiedView, Micro, mic1_meaning}
+use Rattle.mic1_interpreter.proofs.Common.{Origin, Moment, Loads, Stops, HaltsAndErrs, Stands}
 use Rattle.ijvm_instr.specs.declared.instr.Instr.TheVariants.{Err, Halt}
-use Rattle.ijvm_meaning.specs.Prelude.{State, timing_of}
-use Rattle.verifier_facts.specs.Prelude.{VerifiedView}
-use Rattle.mic1_datapath.specs.Prelude.{Micro, mic1_meaning}
-use Rattle.ijvm_simulation.specs.Prelude.{Origin, Moment, Loads, Stops, HaltsAndErrs}
-use Rattle.mic1_interpreter.specs.Prelude.{Stands}
 use Rattle.mic1_interpreter.proofs.Store.{HasStatements}
 use Rattle.mic1_interpreter.proofs.Boundaries.{At, at, opcode, after, passes, begins}
 

@@ -1,17 +1,9 @@
 -- Symbolic runs of Mic-1 over the shipped microprogram: a run along guessed next addresses, and what makes it the machine's.
-use Rattle.std.proofs.Common.{ap, ap₂, ◌∙◌, ◌≡◌, ℕ, zero, suc, ◌<◌, Option, Some, None, true, List, length, arith, refl, add-zero, length-set}
-use Rattle.std.specs.Prelude.{nat_lt}
-use Rattle.std.proofs.lemmas.Bool.Decides.{nat_tests}
-use Rattle.console_port.specs.Prelude.{World, Refusal}
-use Rattle.micro_word.specs.declared.statement.Mem.{Mem}
-use Rattle.micro_word.specs.declared.statement.Mem.TheVariants.{Write}
-use Rattle.micro_word.specs.declared.statement.Placed.{Placed}
-use Rattle.mic_clock.specs.Prelude.{Done, Refused}
-use Rattle.mic1_datapath.specs.Prelude.{Micro, clock, world_after, ports_of, settled, refusal, mic1_meaning, microstep, step_of_word, driven}
-use Rattle.mic_datapath.specs.declared.ports.Ports.{Ports}
-use Rattle.mic_datapath.specs.Prelude.{written, sampled, memory_refusal, byte_refusal, outcome}
+use Rattle.mic1_interpreter.proofs.Common.{ap, ap₂, ◌∙◌, ◌≡◌, ℕ, zero, suc, ◌<◌, Option, Some, None, true, List, length, arith, refl, add-zero, length-set}
+use Rattle.mic1_interpreter.proofs.Common.{nat_lt, nat_tests, World, Refusal, Mem, Write, Placed, Done, Refused, Micro, clock, world_after, ports_of, settled}
+use Rattle.mic1_interpreter.proofs.Common.{refusal, mic1_meaning, microstep, step_of_word, driven, Ports, written, sampled, memory_refusal, byte_refusal}
+use Rattle.mic1_interpreter.proofs.Common.{outcome, Moment, is_inside, outcome_at, stalls_at, last, pass, pass_on, address_behind, left_of}
 use Rattle.mic1_interpreter.proofs.Store.{shipped, HasStatements}
-use Rattle.ijvm_simulation.specs.Prelude.{Moment, is_inside, outcome_at, stalls_at, last, pass, pass_on, address_behind, left_of}
 
 -- `top` is the end of the memory.
 module _ (top : ℕ) where

@@ -1,26 +1,14 @@
 -- What each instruction takes of the machine.
-use Rattle.std.proofs.Common.{ℕ, List, [], ◌∷◌, refl, arith, sym, ◌∙◌, ap, inl, inr, ◌≡◌, ◌+◌, ◌*◌, ◌<◌, ◌==◌, Bool, length, ap₂, add_comm}
-use Rattle.std.specs.Prelude.{bit_and, bit_or, if◌then◌else◌, ℤ}
-use Rattle.std.proofs.lemmas.Nat.{and_comm, or_comm}
-use Rattle.mic_words.specs.declared.machine.Machine.TheVariants.{Mic1}
-use Rattle.mic_words.specs.Prelude.{plus, minus, next, signed_byte, wrap, before, signed_pair, is_negative}
-use Rattle.console_port.specs.Prelude.{byte_in, World, read_value}
-use Rattle.ijvm_instr.specs.declared.instr.Instr.{Instr}
+use Rattle.mic1_interpreter.proofs.Common.{ℕ, List, [], ◌∷◌, refl, arith, sym, ◌∙◌, ap, inl, inr, ◌≡◌, ◌+◌, ◌*◌, ◌<◌, ◌==◌, Bool, length, ap₂, add_comm}
+use Rattle.mic1_interpreter.proofs.Common.{bit_and, bit_or, if◌then◌else◌, ℤ, and_comm, or_comm, Mic1, plus, minus, next, signed_byte, wrap, before}
+use Rattle.mic1_interpreter.proofs.Common.{signed_pair, is_negative, byte_in, World, read_value, Instr, word_of, target, State, timing_of, moved, VerifiedView}
+use Rattle.mic1_interpreter.proofs.Common.{Micro, mic1_meaning, Origin, Moment, Loads, Takes, jump, Lands, plus_comm, byte_kept, before_is, Stands, cases_Bool}
+use Rattle.mic1_interpreter.proofs.Common.{lands, Method}
 use Rattle.ijvm_instr.specs.declared.instr.Instr.TheVariants.{Nop, Bipush, LdcW, Iload, Istore, Pop, Dup, Swap, Iadd, Isub, Iand, Iinc, Ifeq, Iflt, IfIcmpeq, Goto, Ireturn, Ior, Invokevirtual, WideIload, WideIstore, WideIinc, In, Out, Err, Halt}
-use Rattle.ijvm_instr.specs.Prelude.{word_of, target}
-use Rattle.ijvm_meaning.specs.Prelude.{State, timing_of, moved}
-use Rattle.verifier_facts.specs.Prelude.{VerifiedView}
-use Rattle.mic1_datapath.specs.Prelude.{Micro, mic1_meaning}
-use Rattle.ijvm_simulation.specs.Prelude.{Origin, Moment, Loads, Takes, jump, Lands}
-use Rattle.ijvm_simulation.specs.Words.{plus_comm, byte_kept, before_is}
 use Rattle.ijvm_simulation.specs.Leaves.{stays, bipush, dup, popped, operated, operated_turned, swapped, push_full, constant_from, local_from, taken_from, pushed_from, full_from, stored, changed, changed_turned, gives, popped_two, branches_by, branches_equal}
-use Rattle.mic1_interpreter.specs.Prelude.{Stands}
 use Rattle.mic1_interpreter.proofs.Store.{HasStatements}
 use Rattle.mic1_interpreter.proofs.Boundaries.{At, GoesOn, IsCut, at, opcode, arrives, overruns, Place, place, place_on}
 use Rattle.mic1_interpreter.proofs.Words.{pair_is, signed_pair_is}
-use Rattle.std.proofs.lemmas.Bool.{cases_Bool}
-use Rattle.ijvm_simulation.specs.Images.{lands}
-use Rattle.ijvm_image.specs.declared.method.Method.{Method}
 use Rattle.ijvm_simulation.specs.Calling.{Named, returned, named, called, cut_off}
 
 -- where the words of goto come to

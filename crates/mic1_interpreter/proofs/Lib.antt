@@ -1,3 +1,4 @@
+pub mod Common
 pub mod Guided
 pub mod Words
 pub mod Boundaries

@@ -1,10 +1,5 @@
 -- The store that ships: its words are the rows of the table.
-use Rattle.std.proofs.Common.{◌≡◌, ℕ, ◌<◌, List}
-use Rattle.std.specs.Prelude.{slice_index}
-use Rattle.mic_words.specs.declared.machine.Machine.TheVariants.{Mic1}
-use Rattle.micro_word.specs.declared.statement.Placed.{Placed}
-use Rattle.micro_word.specs.Prelude.{statement_of}
-use Rattle.mal_shipped.specs.Prelude.{table1, HasShipped, statement_among}
+use Rattle.mic1_interpreter.proofs.Common.{◌≡◌, ℕ, ◌<◌, List, slice_index, Mic1, Placed, statement_of, table1, HasShipped, statement_among}
 use Rattle.mal_shipped.specs.Shipped.{shipped as shipped_at}
 
 -- the statement at an address, with the table in sight of a symbolic run

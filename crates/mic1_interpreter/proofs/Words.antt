@@ -1,12 +1,6 @@
 -- The numbers that two bytes make.
-use Rattle.std.proofs.Common.{◌≡◌, ℕ, ◌+◌, ◌%◌, ◌^◌, ◌<◌, ◌*◌, true, false, List, arith, ◌∙◌, ap, ap₂, inl, inr}
-use Rattle.std.specs.Prelude.{nat_lt, bit_or}
-use Rattle.std.proofs.lemmas.Bool.Decides.{nat_tests}
-use Rattle.std.proofs.lemmas.Bool.{cases_lt}
-use Rattle.std.proofs.lemmas.Nat.{or_shifted}
-use Rattle.mic_words.specs.Prelude.{wrap, signed_byte, signed_pair}
-use Rattle.console_port.specs.Prelude.{byte_in}
-use Rattle.ijvm_simulation.specs.Words.{wrap_small, byte_bound}
+use Rattle.mic1_interpreter.proofs.Common.{◌≡◌, ℕ, ◌+◌, ◌%◌, ◌^◌, ◌<◌, ◌*◌, true, false, List, arith, ◌∙◌, ap, ap₂, inl, inr, nat_lt, bit_or, nat_tests}
+use Rattle.mic1_interpreter.proofs.Common.{cases_lt, or_shifted, wrap, signed_byte, signed_pair, byte_in, wrap_small, byte_bound}
 
 -- two bytes as a number
 pub two_bytes : (a b : ℕ) → a < 256 → b < 256 → bit_or (wrap (256 * a)) b ≡ 256 * a + b

@@ -1,19 +1,8 @@
 -- One microstep of a pass.
-use Rattle.std.proofs.Common.{◌≡◌, ◌≢◌, ◌+◌, ◌==◌, ◌||◌, ℕ, suc, Bool, true, false, not, List, Option, Some, None, IsTrue, refl, sym, ap, ◌∙◌, arith}
-use Rattle.std.specs.Prelude.{slice_index}
-use Rattle.mic_words.specs.declared.machine.Machine.TheVariants.{Mic1}
-use Rattle.micro_word.specs.Coding.{microword_of}
-use Rattle.micro_word.specs.Words.{is_valid}
-use Rattle.micro_word.specs.declared.statement.Placed.{Placed}
+use Rattle.mic1_passes.proofs.Common.{◌≡◌, ◌≢◌, ◌+◌, ◌==◌, ◌||◌, ℕ, suc, Bool, true, false, not, List, Option, Some, None, IsTrue, refl, sym, ap, ◌∙◌, arith}
+use Rattle.mic1_passes.proofs.Common.{slice_index, Mic1, microword_of, is_valid, Placed, Micro, mic1_meaning, driven, StepsAsSpelled, Moment, pass, last}
+use Rattle.mic1_passes.proofs.Common.{onward, outcome_at, stalls_at, is_inside, Environment, Path, LeadsOn, MeetsRefusal, refusal_of, Stop, StopsAt, moment}
 use Rattle.mic_clock.specs.Meaning.{Done, Refused}
-use Rattle.mic1_datapath.specs.Micro.{Micro}
-use Rattle.mic1_datapath.specs.Mic1.{mic1_meaning, driven, StepsAsSpelled}
-use Rattle.ijvm_simulation.specs.Passes.{Moment, pass, last, onward, outcome_at, stalls_at, is_inside}
-use Rattle.micro_terms.specs.Environment.{Environment}
-use Rattle.mic1_cycles.specs.declared.path.Path.{Path}
-use Rattle.mic1_cycles.specs.Paths.{LeadsOn, MeetsRefusal, refusal_of}
-use Rattle.mic1_cycles.specs.declared.refusal.Stop.{Stop}
-use Rattle.mic1_passes.specs.Moments.{StopsAt, moment}
 
 -- no stall on Mic-1
 never_stalls : (words : List ℕ) (q : Moment Micro) → stalls_at mic1_meaning words q ≡ q.stalls

@@ -1,13 +1,8 @@
 -- What is on the buses in a cycle of a word.
-use Rattle.std.proofs.Common.{◌≡◌, ℕ, Bool, true, false, if◌then◌else◌, Option, None, refl, sym, ap, ◌∙◌}
+use Rattle.mic2_datapath.proofs.Common.{◌≡◌, ℕ, Bool, true, false, if◌then◌else◌, Option, None, refl, sym, ap, ◌∙◌, statement_of, alu, shifted, BusSource}
+use Rattle.mic2_datapath.proofs.Common.{Placed, buses_in, Drive, Computed, Micro, is_stalled, result_of, source, computed, computed_on, driven, flagged}
+use Rattle.mic2_datapath.proofs.Common.{stalled_drive, stalled_value, value_of, HasComputed, buses_by, buses_on, mic2_meaning}
 use Rattle.mic_words.specs.declared.machine.Machine.TheVariants as machines
-use Rattle.micro_word.specs.Prelude.{statement_of, alu, shifted}
-use Rattle.micro_word.specs.declared.statement.BusSource.{BusSource}
-use Rattle.micro_word.specs.declared.statement.Placed.{Placed}
-use Rattle.mic_clock.specs.Prelude.{buses_in}
-use Rattle.mic_clock.specs.declared.buses.Drive.{Drive}
-use Rattle.mic_clock.specs.declared.buses.Computed.{Computed}
-use Rattle.mic2_datapath.specs.Prelude.{Micro, is_stalled, result_of, source, computed, computed_on, driven, flagged, stalled_drive, stalled_value, value_of, HasComputed, buses_by, buses_on, mic2_meaning}
 use Rattle.mic2_datapath.specs.declared.mic2.Past.TheVariants as pasts
 
 module _ (s : Placed) (m : Micro) where

@@ -1,20 +1,12 @@
 -- The bytes that a statement demands, by what stands in its word.
-use Rattle.std.proofs.Common.{◌≡◌, ℕ, ◌+◌, ◌-◌, ◌/◌, ◌≤◌, ◌%◌, ◌==◌, ◌||◌, ◌&&◌, ◌≢◌, Bool, true, false, IsTrue, List, Option, Some, None, if◌then◌else◌, refl, sym, ap, ◌∙◌, arith}
-use Rattle.std.specs.Prelude.{nat_lt}
-use Rattle.std.proofs.lemmas.Bool.Decides.{nat_tests}
-use Rattle.mic_words.specs.declared.machine.Machine.TheVariants.{Mic2}
-use Rattle.micro_word.specs.Prelude.{Valid, fits_side, is_byte, is_pair, may_be_b, jam_bits, mem_bits, row, bytes_shown, bytes_taken, place_on_bus}
-use Rattle.micro_word.specs.declared.statement.Mem.{Mem}
+use Rattle.mic2_datapath.proofs.Common.{◌≡◌, ℕ, ◌+◌, ◌-◌, ◌/◌, ◌≤◌, ◌%◌, ◌==◌, ◌||◌, ◌&&◌, ◌≢◌, Bool, true, false, IsTrue, List, Option, Some, None}
+use Rattle.mic2_datapath.proofs.Common.{if◌then◌else◌, refl, sym, ap, ◌∙◌, arith, nat_lt, nat_tests, Mic2, Valid, fits_side, is_byte, is_pair, may_be_b}
+use Rattle.mic2_datapath.proofs.Common.{jam_bits, mem_bits, row, bytes_shown, bytes_taken, place_on_bus, Mem, BusSource, PlacedNext, next_address, Placed}
+use Rattle.mic2_datapath.proofs.Common.{access_by, demand, dispatch_bytes, unit_after, unit_samples, Prefetch, jump}
 use Rattle.micro_word.specs.declared.statement.Mem.TheVariants as mems
-use Rattle.micro_word.specs.declared.statement.BusSource.{BusSource}
 use Rattle.micro_word.specs.declared.statement.BusSource.TheVariants as sources
-use Rattle.micro_word.specs.declared.statement.PlacedNext.{PlacedNext}
 use Rattle.micro_word.specs.declared.statement.PlacedNext.TheVariants as nexts
 use Rattle.micro_word.specs.declared.statement.Test.TheVariants as tests
-use Rattle.mic_datapath.specs.Prelude.{next_address}
-use Rattle.micro_word.specs.declared.statement.Placed.{Placed}
-use Rattle.mic2_datapath.specs.Prelude.{access_by, demand, dispatch_bytes, unit_after, unit_samples}
-use Rattle.mic2_fetch_unit.specs.Prelude.{Prefetch, jump}
 
 pub not_here : (used : Bool) → IsTrue (used && false) → ⊥
 not_here true h = absurd (cc)

@@ -1,3 +1,4 @@
+pub mod Common
 pub mod Buses
 pub mod Demands
 pub mod Sources

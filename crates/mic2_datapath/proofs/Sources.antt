@@ -1,11 +1,7 @@
 -- What stands at the place of a source is what the source puts on its bus, once the front of the queue is shown.
-use Rattle.std.proofs.Common.{◌≡◌, ℕ, ◌≤◌, Bool, true, IsTrue, Option, Some, None, slice_index, refl}
-use Rattle.mic_words.specs.declared.machine.Machine.TheVariants.{Mic2}
-use Rattle.micro_word.specs.Prelude.{fits_side, is_byte, is_pair, may_be_b, place_on_bus}
-use Rattle.micro_word.specs.declared.statement.BusSource.{BusSource}
+use Rattle.mic2_datapath.proofs.Common.{◌≡◌, ℕ, ◌≤◌, Bool, true, IsTrue, Option, Some, None, slice_index, refl, Mic2, fits_side, is_byte, is_pair, may_be_b}
+use Rattle.mic2_datapath.proofs.Common.{place_on_bus, BusSource, source, AreLatches, HasFront, micro_in, Latches}
 use Rattle.micro_word.specs.declared.statement.BusSource.TheVariants as sources
-use Rattle.mic2_datapath.specs.Prelude.{source, AreLatches, HasFront, micro_in}
-use Rattle.mic2_datapath.specs.declared.latches.Latches.{Latches}
 use Rattle.mic2_datapath.proofs.Demands.{not_here}
 
 pub at_place : (l : Latches) (operands : ℕ) → AreLatches l → HasFront operands l → (s : Option BusSource) (used : Bool) → IsTrue (fits_side used (may_be_b Mic2) s) →

@@ -1,20 +1,16 @@
 -- What is asked of the bus for a statement, with its accesses, is its microstep or its refusal.
-use Rattle.std.proofs.Common.{◌≡◌, ℕ, Bool, true, false, if◌then◌else◌, List, Option, Some, None, Result, Ok, Err, length, refl, sym, ap, subst, ◌∙◌, arith}
-use Rattle.std.specs.Prelude.{⊤, IfErr, OnErr, OnOk}
-use Rattle.console_port.specs.Prelude.{World, Refusal, ChangesOnly, IsLed, Shows, refused_by, HasFaultCause, IsFault, StillTells, StreamsGoOn, BusView}
+use Rattle.mic2_datapath.proofs.Common.{◌≡◌, ℕ, Bool, true, false, if◌then◌else◌, List, Option, Some, None, Result, Ok, Err, length, refl, sym, ap, subst, ◌∙◌}
+use Rattle.mic2_datapath.proofs.Common.{arith, ⊤, IfErr, OnErr, OnOk, World, Refusal, ChangesOnly, IsLed, Shows, refused_by, HasFaultCause, IsFault, StillTells}
+use Rattle.mic2_datapath.proofs.Common.{StreamsGoOn, BusView, statement_of, mem_of, fields_of, names, shifted, Mem, Placed, IsEdge, Outcome, Done, refusal_in}
+use Rattle.mic2_datapath.proofs.Common.{IsTransfer, Asks, answered, led_same, refused_no_fault, second_clear, first_refusal, memory_refusal, word_under_way}
+use Rattle.mic2_datapath.proofs.Common.{written, sampled, outcome, loaded, ports_given, Ports, Prefetch, edge_refusal, sample_refusal, access_refusal, advanced}
+use Rattle.mic2_datapath.proofs.Common.{clock, demand, is_stalled, jumps, microstep, moved_on, refusal, registers_in, result_of, settled, stalled, step_if}
+use Rattle.mic2_datapath.proofs.Common.{unit_after, unit_refusal, unit_samples, world_after, HasComputed, mic2_meaning, step_of_word, Micro}
 use Rattle.console_port.specs.declared.fault.BusFault.{BusFault}
 use Rattle.console_port.specs.declared.fault.BusFault.TheVariants as faults
 use Rattle.mic_words.specs.declared.machine.Machine.TheVariants as machines
-use Rattle.micro_word.specs.Prelude.{statement_of, mem_of, fields_of, names, shifted}
-use Rattle.micro_word.specs.declared.statement.Mem.{Mem}
-use Rattle.micro_word.specs.declared.statement.Placed.{Placed}
-use Rattle.mic_clock.specs.Prelude.{IsEdge, Outcome, Done, refusal_in}
-use Rattle.mic_datapath.specs.Prelude.{IsTransfer, Asks, answered, led_same, refused_no_fault, second_clear, first_refusal, memory_refusal, word_under_way, written, sampled, outcome, loaded, ports_given}
 use Rattle.mic_datapath.specs.Edges as edges
-use Rattle.mic_datapath.specs.declared.ports.Ports.{Ports}
-use Rattle.mic2_fetch_unit.specs.Prelude.{Prefetch, edge_refusal, sample_refusal}
 use Rattle.mic2_datapath.proofs.Demands.{same_sample, same_unit}
-use Rattle.mic2_datapath.specs.Prelude.{access_refusal, advanced, clock, demand, is_stalled, jumps, microstep, moved_on, refusal, registers_in, result_of, settled, stalled, step_if, unit_after, unit_refusal, unit_samples, world_after, HasComputed, mic2_meaning, step_of_word, Micro}
 
 -- what a cycle asks of the bus: an access, and the word that the fetch unit samples
 pub record Asked : Type 0 where

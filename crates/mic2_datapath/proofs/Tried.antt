@@ -1,10 +1,6 @@
 -- An edge that needs no source and no sink, which is done or refused.
-use Rattle.std.proofs.Common.{◌≡◌, ℕ, Bool, List, Option, None, Result, Ok, Err}
-use Rattle.std.specs.Prelude.{⊤, OnErr, is_ok}
-use Rattle.console_port.specs.Prelude.{BusView}
+use Rattle.mic2_datapath.proofs.Common.{◌≡◌, ℕ, Bool, List, Option, None, Result, Ok, Err, ⊤, OnErr, is_ok, BusView, IsEdge, IsTried, mic2_meaning, Micro}
 use Rattle.console_port.specs.declared.fault.BusFault.{BusFault}
-use Rattle.mic_clock.specs.Prelude.{IsEdge, IsTried}
-use Rattle.mic2_datapath.specs.Prelude.{mic2_meaning, Micro}
 
 pub tried : (word : ℕ) (m m' : Micro) (bus bus' : BusView) (r : Result ⊤ BusFault) (done : Bool) → done ≡ is_ok r →
     ((left held : Option (List ℕ)) → IsEdge mic2_meaning word m left held bus {T = ⊤} m' left held bus' r) →

@@ -1,17 +1,9 @@
 -- What the latches of Mic-2 mean: the microstep's state, and what its edge is handed.
 use Rattle.std.specs.Prelude.{◌≡◌, ℕ, ◌*◌, ◌+◌, ◌<◌, ◌≤◌, Bool, true, false, IsTrue, length, slice_index, Option, None, is_some}
-use Rattle.console_port.specs.Prelude.{BusView}
-use Rattle.mic_words.specs.Prelude.{signed_byte, signed_pair}
-use Rattle.mic_words.specs.declared.machine.Machine.TheVariants.{Mic2}
-use Rattle.micro_word.specs.Prelude.{mem_of, statement_of, fields_of, AreLines, names, shifted, is_canonical}
-use Rattle.micro_word.specs.declared.lines.Lines.{Lines}
-use Rattle.micro_word.specs.declared.lines.TheConstants.{NOTHING}
-use Rattle.micro_word.specs.declared.statement.Mem.{Mem}
+use Rattle.mic2_datapath.specs.Common.{BusView, signed_byte, signed_pair, Mic2, mem_of, statement_of, fields_of, AreLines, names, shifted, is_canonical, Lines}
+use Rattle.mic2_datapath.specs.Common.{NOTHING, Mem, Placed, IsTransfer, LeadsInside, memory_refusal, registers_at, NineRegisters, loaded, sample_refusal}
 use Rattle.micro_word.specs.declared.statement.Mem.TheVariants as mems
-use Rattle.micro_word.specs.declared.statement.Placed.{Placed}
-use Rattle.mic_datapath.specs.Prelude.{IsTransfer, LeadsInside, memory_refusal, registers_at, NineRegisters, loaded}
 use Rattle.mic_datapath.specs.declared.ports.Ports.{Ports}
-use Rattle.mic2_fetch_unit.specs.Prelude.{sample_refusal}
 use Rattle.mic2_datapath.specs.Micro.{Micro}
 use Rattle.mic2_datapath.specs.Microstep.{demand, is_stalled, result_of, unit_samples}
 use Rattle.mic2_datapath.specs.declared.latches.Latches.{Latches}

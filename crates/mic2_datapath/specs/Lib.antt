@@ -1,3 +1,4 @@
+pub mod Common
 pub mod Micro
 pub mod Microstep
 pub mod Mic2

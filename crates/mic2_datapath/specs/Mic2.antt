@@ -1,17 +1,8 @@
 -- What Mic-2 means as a clocked machine: the microstep of the statement that a word spells.
 use Rattle.std.specs.Prelude.{◌≡◌, ◌<◌, ◌≤◌, ℕ, ◌+◌, ◌^◌, ◌==◌, true, false, if◌then◌else◌, List, None, length, IsTrue}
-use Rattle.console_port.specs.Prelude.{World, byte_in}
-use Rattle.micro_word.specs.declared.statement.Placed.{Placed}
+use Rattle.mic2_datapath.specs.Common.{World, byte_in, Placed, microword_of, statement_of, is_valid, alu, shifted, before, is_negative, Drive, Computed}
+use Rattle.mic2_datapath.specs.Common.{Registers, Start, Queue, Meaning, Outcome, at_start, StandsAt}
 use Rattle.mic_words.specs.declared.machine.Machine.TheVariants as machines
-use Rattle.micro_word.specs.Prelude.{microword_of, statement_of, is_valid, alu, shifted}
-use Rattle.mic_words.specs.Prelude.{before, is_negative}
-use Rattle.mic_clock.specs.declared.buses.Drive.{Drive}
-use Rattle.mic_clock.specs.declared.buses.Computed.{Computed}
-use Rattle.mic_clock.specs.declared.registers.Registers.{Registers}
-use Rattle.mic_clock.specs.declared.registers.Start.{Start}
-use Rattle.mic_clock.specs.declared.registers.Tail.TheVariants.{Queue}
-use Rattle.mic_clock.specs.Prelude.{Meaning, Outcome}
-use Rattle.mic2_fetch_unit.specs.Prelude.{at_start, StandsAt}
 use Rattle.mic2_datapath.specs.Microstep.{source, result_of, is_stalled, microstep}
 use Rattle.mic2_datapath.specs.Micro.{Micro}
 

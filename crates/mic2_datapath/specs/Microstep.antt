@@ -1,21 +1,13 @@
 -- The microstep of Mic-2 (chapter 4; the order of events at the clock edge is this profile's). A statement assigns
 -- whole words, or waits for the bytes that it names.
 use Rattle.std.specs.Prelude.{ℕ, zero, suc, ◌+◌, ◌*◌, ◌/◌, ◌||◌, Bool, true, false, not, nat_lt, if◌then◌else◌, List, length, slice_index, Option, Some, Result}
-use Rattle.mic_words.specs.Prelude.{plus, signed_byte, signed_pair}
-use Rattle.micro_word.specs.Prelude.{is_byte, is_pair, loads, alu, shifted}
+use Rattle.mic2_datapath.specs.Common.{plus, signed_byte, signed_pair, is_byte, is_pair, loads, alu, shifted, Mem, BusSource, PlacedNext, Part, Placed}
+use Rattle.mic2_datapath.specs.Common.{IsDoneUnless, World, Refusal, BusFault, Outcome, NineRegisters, on_bus, loaded, ports_given, written, sampled}
+use Rattle.mic2_datapath.specs.Common.{word_under_way, memory_refusal, first_refusal, outcome, next_address, Prefetch, edge, jump, sampled_at, edge_refusal}
+use Rattle.mic2_datapath.specs.Common.{jump_refusal, sample_refusal}
 use Rattle.micro_word.specs.declared.destination.Destination.TheVariants as registers
-use Rattle.micro_word.specs.declared.statement.Mem.{Mem}
-use Rattle.micro_word.specs.declared.statement.BusSource.{BusSource}
 use Rattle.micro_word.specs.declared.statement.BusSource.TheVariants as sources
-use Rattle.micro_word.specs.declared.statement.PlacedNext.{PlacedNext}
 use Rattle.micro_word.specs.declared.statement.PlacedNext.TheVariants as nexts
-use Rattle.micro_word.specs.declared.statement.Part.{Part}
-use Rattle.micro_word.specs.declared.statement.Placed.{Placed}
-use Rattle.console_port.specs.Prelude.{IsDoneUnless, World, Refusal}
-use Rattle.console_port.specs.declared.fault.BusFault.{BusFault}
-use Rattle.mic_clock.specs.Prelude.{Outcome}
-use Rattle.mic_datapath.specs.Prelude.{NineRegisters, on_bus, loaded, ports_given, written, sampled, word_under_way, memory_refusal, first_refusal, outcome, next_address}
-use Rattle.mic2_fetch_unit.specs.Prelude.{Prefetch, edge, jump, sampled_at, edge_refusal, jump_refusal, sample_refusal}
 use Rattle.mic2_datapath.specs.Micro.{Micro}
 
 -- A statement demands one byte of the queue where it names MBR1 or MBR1U, two where it names MBR2 or MBR2U, and for a dispatch one more after them.

@@ -1,9 +1,7 @@
 -- What contracts see of a Mic-2.
 use Rattle.std.specs.Prelude.{ℕ, false}
 use Rattle.mic_words.specs.declared.machine.Machine.TheVariants as machines
-use Rattle.micro_word.specs.Prelude.{statement_of}
-use Rattle.mic_clock.specs.Prelude.{Buses, start_buses}
-use Rattle.mic_clock.specs.declared.buses.Drive.{Drive}
+use Rattle.mic2_datapath.specs.Common.{statement_of, Buses, start_buses, Drive}
 use Rattle.mic2_datapath.specs.Micro.{Micro}
 use Rattle.mic2_datapath.specs.Latches.{micro_in}
 use Rattle.mic2_datapath.specs.Mic2.{computed_on, stalled_drive}

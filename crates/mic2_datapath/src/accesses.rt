@@ -1,9 +1,7 @@
 //! The accesses of a cycle: their addresses are tested before anything is changed.
 
 ghost use Rattle.std.specs.Prelude.{◌≡◌, None, length, OnOk, true};
-ghost use Rattle.console_port.specs.Prelude.{World, FailsAsRefused, StreamsGoOn};
-ghost use Rattle.mic_datapath.specs.Prelude.{memory_refusal, HasAccessed, IsTransfer, LetsBytesWait};
-ghost use Rattle.mic2_fetch_unit.specs.Prelude.{sample_refusal};
+ghost use Rattle.mic2_datapath.specs.Common.{World, FailsAsRefused, StreamsGoOn, memory_refusal, HasAccessed, IsTransfer, LetsBytesWait, sample_refusal};
 ghost use Rattle.mic2_datapath.specs.Microstep.{access_refusal};
 
 use console_port::{Bus, BusFault};

@@ -1,10 +1,8 @@
 //! The word that is clocked.
 
 ghost use Rattle.std.specs.Prelude.{◌≡◌, ◌≢◌, ◌≤◌, ◌<◌, IsTrue, None, true, false};
-ghost use Rattle.mic_words.specs.declared.machine.Machine.TheVariants.{Mic2};
-ghost use Rattle.micro_word.specs.Prelude.{is_canonical, addr_bits, jam_bits, mem_of, statement_of, fields_of, AreLines, AreSlots, names, alu, shifted};
-ghost use Rattle.mic_clock.specs.Prelude.{IsDecoded as IsDecodedFor};
-ghost use Rattle.mic_datapath.specs.Prelude.{next_address};
+ghost use Rattle.mic2_datapath.specs.Common.{Mic2, is_canonical, addr_bits, jam_bits, mem_of, statement_of, fields_of, AreLines, AreSlots, names, alu, shifted};
+ghost use Rattle.mic2_datapath.specs.Common.{IsDecoded as IsDecodedFor, next_address};
 ghost use Rattle.mic2_datapath.specs.Latches.{IsDecoded, access_by, jam_in};
 ghost use Rattle.mic2_datapath.specs.Mic2.{flagged, value_of};
 ghost use Rattle.mic2_datapath.specs.Microstep.{demand};

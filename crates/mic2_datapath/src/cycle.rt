@@ -1,9 +1,7 @@
 //! Whether a cycle stalls, and its edge where that needs neither a source nor a sink.
 
 ghost use Rattle.std.specs.Prelude.{◌≡◌, ◌≤◌, false, length};
-ghost use Rattle.mic_words.specs.declared.machine.Machine.TheVariants.{Mic2};
-ghost use Rattle.micro_word.specs.Prelude.{statement_of};
-ghost use Rattle.mic_clock.specs.Prelude.{IsTried};
+ghost use Rattle.mic2_datapath.specs.Common.{Mic2, statement_of, IsTried};
 ghost use Rattle.mic2_datapath.specs.Latches.{AreLatches, HasComputed, IsDecoded, micro_in};
 ghost use Rattle.mic2_datapath.specs.Mic2.{mic2_meaning};
 ghost use Rattle.mic2_datapath.specs.Microstep.{is_stalled};

@@ -1,13 +1,9 @@
 //! What Mic-2 keeps between cycles.
 
 ghost use Rattle.std.specs.Prelude.{◌≡◌, ◌≢◌, ◌≤◌, ◌<◌, ◌*◌, ◌+◌, ℕ, None, OnOk, OnErr, IfNone, IfSome, IsTrue, length, slice_index, true};
-ghost use Rattle.mic_words.specs.Prelude.{before, signed_byte, signed_pair};
-ghost use Rattle.mic_words.specs.declared.machine.Machine.TheVariants.{Mic2};
-ghost use Rattle.micro_word.specs.declared.statement.PlacedNext.{PlacedNext};
-ghost use Rattle.micro_word.specs.Prelude.{addr_bits, jam_bits, statement_of, fields_of, is_canonical, is_next, AreSlots, shifted};
-ghost use Rattle.console_port.specs.Prelude.{ChangesOnly, FailsAsRefused};
-ghost use Rattle.mic_datapath.specs.Prelude.{GoesTo, next_address, registers_at, loaded, ports_given};
-ghost use Rattle.mic2_fetch_unit.specs.Prelude.{edge_refusal, sample_refusal};
+ghost use Rattle.mic2_datapath.specs.Common.{before, signed_byte, signed_pair, Mic2, PlacedNext, addr_bits, jam_bits, statement_of, fields_of, is_canonical};
+ghost use Rattle.mic2_datapath.specs.Common.{is_next, AreSlots, shifted, ChangesOnly, FailsAsRefused, GoesTo, next_address, registers_at, loaded, ports_given};
+ghost use Rattle.mic2_datapath.specs.Common.{edge_refusal, sample_refusal};
 ghost use Rattle.mic2_datapath.specs.Mic2.{initial as initial_of, registers_of};
 ghost use Rattle.mic2_datapath.specs.Microstep.{HasUnitEdge, advanced, byte_at, dispatch_bytes, is_to_instruction, moved_on, past, result_of, source, stalled, unit_refusal, unit_refused, unit_samples};
 ghost use Rattle.mic2_datapath.specs.Latches.{AreLatches, HasFront, IsDecoded, IsInside, jam_in, loaded_in, micro_in};

@@ -1,8 +1,7 @@
 //! The machine: the parts of its cycle, which are the book's subcycles.
 
 ghost use Rattle.std.specs.Prelude.{◌≡◌, IsTrue, refl};
-ghost use Rattle.mic_words.specs.declared.machine.Machine.TheVariants.{Mic2 as Mic2Machine};
-ghost use Rattle.micro_word.specs.Prelude.{is_canonical};
+ghost use Rattle.mic2_datapath.specs.Common.{Mic2 as Mic2Machine, is_canonical};
 ghost use Rattle.mic2_datapath.specs.Latches.{AreLatches};
 ghost use Rattle.mic2_datapath.specs.declared.mic2.Past.TheVariants.{Clocked as WasClocked};
 

@@ -1,12 +1,9 @@
 -- The folded unit: two equations move it, its edge and its jump.
-use Rattle.std.proofs.Common.{◌≡◌, ℕ, zero, suc, ◌+◌, ◌-◌, ◌*◌, ◌/◌, ◌%◌, ◌^◌, ◌<◌, ◌≤◌, inl, inr, Some, None, List, [], ◌∷◌, ◌++◌, length, drop, Bool, true, false, refl, arith, ◌∙◌, ap, ap₂, sym, add-zero}
-use Rattle.std.specs.Prelude.{slice_index, nat_lt, nat_le, if◌then◌else◌}
-use Rattle.std.specs.Option.{option_map}
-use Rattle.std.proofs.lemmas.Bool.{cases_Bool}
-use Rattle.std.proofs.lemmas.Bool.Decides.{nat_tests}
-use Rattle.mic_words.specs.Prelude.{wrap, next}
-use Rattle.console_port.specs.Prelude.{byte_in, byte_of, word_refusal}
-use Rattle.mic2_fetch_unit.specs.Prelude.{Prefetch, bytes_of_word, without, appended, with_pending, sampled_by, sample_refusal, edge, jump, edge_refusal, jump_refusal, bytes_from, unit_at, have_after, IsKept}
+use Rattle.mic2_fetch_unit.proofs.Common.{◌≡◌, ℕ, zero, suc, ◌+◌, ◌-◌, ◌*◌, ◌/◌, ◌%◌, ◌^◌, ◌<◌, ◌≤◌, inl, inr, Some, None, List, [], ◌∷◌, ◌++◌, length, drop}
+use Rattle.mic2_fetch_unit.proofs.Common.{Bool, true, false, refl, arith, ◌∙◌, ap, ap₂, sym, add-zero, slice_index, nat_lt, nat_le, if◌then◌else◌, option_map}
+use Rattle.mic2_fetch_unit.proofs.Common.{cases_Bool, nat_tests, wrap, next, byte_in, byte_of, word_refusal, Prefetch, bytes_of_word, without, appended}
+use Rattle.mic2_fetch_unit.proofs.Common.{with_pending, sampled_by, sample_refusal, edge, jump, edge_refusal, jump_refusal, bytes_from, unit_at, have_after}
+use Rattle.mic2_fetch_unit.proofs.Common.{IsKept}
 
 next_is : (x y : ℕ) → x + 1 ≡ y → y < 2 ^ 32 → next x ≡ y
 unfolding wrap

@@ -1,9 +1,7 @@
 -- What is known of the number of bytes, over an edge and over a cycle that lacks some.
-use Rattle.std.proofs.Common.{◌≡◌, ℕ, zero, suc, ◌+◌, ◌-◌, ◌%◌, ◌<◌, ◌≤◌, inl, inr, Bool, true, false, ◌==◌, arith}
-use Rattle.std.specs.Prelude.{nat_le, ◌||◌, if◌then◌else◌}
-use Rattle.std.proofs.lemmas.Bool.{cases_Bool}
-use Rattle.std.proofs.lemmas.Bool.Decides.{nat_tests}
-use Rattle.mic2_fetch_unit.specs.Prelude.{have_after, Held, AtLeast, Jumped, One, Bounds, IsHeld, is_enough, held_after, Lack, WaitsFirst, Waits, WaitsLate, WaitsOn, IsWait, held_waited}
+use Rattle.mic2_fetch_unit.proofs.Common.{◌≡◌, ℕ, zero, suc, ◌+◌, ◌-◌, ◌%◌, ◌<◌, ◌≤◌, inl, inr, Bool, true, false, ◌==◌, arith, nat_le, ◌||◌, if◌then◌else◌}
+use Rattle.mic2_fetch_unit.proofs.Common.{cases_Bool, nat_tests, have_after, Held, AtLeast, Jumped, One, Bounds, IsHeld, is_enough, held_after, Lack}
+use Rattle.mic2_fetch_unit.proofs.Common.{WaitsFirst, Waits, WaitsLate, WaitsOn, IsWait, held_waited}
 
 pub held_few : (q : Held) (p have : ℕ) → IsHeld q p have → have ≤ 6
 held_few (AtLeast n) p have h = h.few

@@ -1,3 +1,4 @@
+pub mod Common
 pub mod Packed
 pub mod Units
 mod Folded

@@ -1,9 +1,7 @@
 -- Bytes in a register.
-use Rattle.std.proofs.Common.{◌≡◌, ℕ, zero, suc, ◌+◌, ◌-◌, ◌*◌, ◌/◌, ◌%◌, ◌^◌, ◌<◌, ◌≤◌, List, [], ◌∷◌, ◌++◌, length, drop, get_or, bit_or, refl, sym, ap, subst, ◌∙◌, arith}
-use Rattle.std.proofs.lemmas.Nat.{or_shifted, or_comm, shl_whole, pow-add}
+use Rattle.mic2_fetch_unit.proofs.Common.{◌≡◌, ℕ, zero, suc, ◌+◌, ◌-◌, ◌*◌, ◌/◌, ◌%◌, ◌^◌, ◌<◌, ◌≤◌, List, [], ◌∷◌, ◌++◌, length, drop, get_or, bit_or, refl}
+use Rattle.mic2_fetch_unit.proofs.Common.{sym, ap, subst, ◌∙◌, arith, or_shifted, or_comm, shl_whole, pow-add, byte_of, bytes_of_word, bytes_in, turned_word}
 use Rattle.std.proofs.Math.Nat.{mul-le-mul_right}
-use Rattle.console_port.specs.Prelude.{byte_of}
-use Rattle.mic2_fetch_unit.specs.Prelude.{bytes_of_word, bytes_in, turned_word}
 
 pub length-bytes_in : (n bits : ℕ) → length (bytes_in n bits) ≡ n
 unfolding bytes_in

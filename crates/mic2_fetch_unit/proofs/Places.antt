@@ -1,8 +1,7 @@
 -- A fetch unit stands at a place exactly where it is the folded one there.
-use Rattle.std.proofs.Common.{◌≡◌, ℕ, zero, suc, ◌+◌, ◌*◌, ◌/◌, ◌%◌, ◌<◌, ◌≤◌, Option, Some, None, List, [], ◌∷◌, length, Bool, true, false, refl, arith, ◌∙◌, ap, ap₂, sym}
-use Rattle.std.specs.Prelude.{slice_index, nat_le, if◌then◌else◌, is_some, IfSome}
-use Rattle.console_port.specs.Prelude.{byte_in}
-use Rattle.mic2_fetch_unit.specs.Prelude.{Prefetch, at_start, StandsAt, unit_at, bytes_from, text_from, Bounds}
+use Rattle.mic2_fetch_unit.proofs.Common.{◌≡◌, ℕ, zero, suc, ◌+◌, ◌*◌, ◌/◌, ◌%◌, ◌<◌, ◌≤◌, Option, Some, None, List, [], ◌∷◌, length, Bool, true, false, refl}
+use Rattle.mic2_fetch_unit.proofs.Common.{arith, ◌∙◌, ap, ap₂, sym, slice_index, nat_le, if◌then◌else◌, is_some, IfSome, byte_in, Prefetch, at_start, StandsAt}
+use Rattle.mic2_fetch_unit.proofs.Common.{unit_at, bytes_from, text_from, Bounds}
 use Rattle.mic2_fetch_unit.proofs.Folded.{length-bytes, byte_there}
 
 bytes_are : (words : List ℕ) (xs : List ℕ) (p : ℕ) → ((k : ℕ) → k < length xs → slice_index xs k ≡ byte_in words (p + k)) → xs ≡ bytes_from words p (length xs)

@@ -1,13 +1,8 @@
 -- Where a unit stands after an edge, and after a jump.
-use Rattle.std.proofs.Common.{◌≡◌, ℕ, zero, suc, ◌+◌, ◌-◌, ◌*◌, ◌/◌, ◌%◌, ◌^◌, ◌<◌, ◌≤◌, Bool, true, false, List, ◌++◌, length, drop, slice_index, Option, Some, None, is_some, inl, inr, refl, sym, ap, subst, ◌∙◌, arith}
-use Rattle.std.specs.Prelude.{nat_le, if◌then◌else◌, IfSome}
-use Rattle.std.specs.Option.{option_map}
-use Rattle.std.proofs.lemmas.Bool.{cases_lt}
-use Rattle.std.proofs.lemmas.Bool.Decides.{nat_tests}
-use Rattle.std.proofs.lemmas.List.{length-append, length-drop, get_or-drop, get_or_append_left, get_or-append_right}
-use Rattle.mic_words.specs.Prelude.{wrap, next}
-use Rattle.console_port.specs.Prelude.{byte_in, byte_of}
-use Rattle.mic2_fetch_unit.specs.Prelude.{Prefetch, IsUnit, appended, bytes_of_word, edge, jump, sampled_at, sampled_by, StandsAt, HoldsSame}
+use Rattle.mic2_fetch_unit.proofs.Common.{◌≡◌, ℕ, zero, suc, ◌+◌, ◌-◌, ◌*◌, ◌/◌, ◌%◌, ◌^◌, ◌<◌, ◌≤◌, Bool, true, false, List, ◌++◌, length, drop, slice_index}
+use Rattle.mic2_fetch_unit.proofs.Common.{Option, Some, None, is_some, inl, inr, refl, sym, ap, subst, ◌∙◌, arith, nat_le, if◌then◌else◌, IfSome, option_map}
+use Rattle.mic2_fetch_unit.proofs.Common.{cases_lt, nat_tests, length-append, length-drop, get_or-drop, get_or_append_left, get_or-append_right, wrap, next}
+use Rattle.mic2_fetch_unit.proofs.Common.{byte_in, byte_of, Prefetch, IsUnit, appended, bytes_of_word, edge, jump, sampled_at, sampled_by, StandsAt, HoldsSame}
 
 abbrev pub unit : List ℕ → ℕ → ℕ → Option ℕ → Prefetch
 unit bytes imar skip pending = record { bytes = bytes; imar = imar; skip = skip; pending = pending }

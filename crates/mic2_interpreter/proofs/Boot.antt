@@ -1,19 +1,11 @@
 -- From the reset of a Mic-2 to its first boundary.
-use Rattle.std.proofs.Common.{◌≡◌, ℕ, ◌+◌, List, [], ◌∷◌, refl, arith, ◌∙◌, ap}
-use Rattle.mic_words.specs.declared.machine.Machine.TheVariants.{Mic2}
-use Rattle.mic_words.specs.Prelude.{plus}
-use Rattle.console_port.specs.Prelude.{byte_in}
+use Rattle.mic2_interpreter.proofs.Common.{◌≡◌, ℕ, ◌+◌, List, [], ◌∷◌, refl, arith, ◌∙◌, ap, Mic2, plus, byte_in, timing_of, start_of, Stands, BootsWithStall}
+use Rattle.mic2_interpreter.proofs.Common.{Jumped, Waits, Origin, IsMemory, Moment, pass, Boots, reset_moment, Loads, map, first, Place, place_at, place_on}
+use Rattle.mic2_interpreter.proofs.Common.{VerifiedView}
 use Rattle.mic2_datapath.specs.Prelude.{Micro, mic2_meaning}
-use Rattle.ijvm_meaning.specs.Prelude.{timing_of, start_of}
-use Rattle.mic2_interpreter.specs.Prelude.{Stands, BootsWithStall}
 use Rattle.mic2_interpreter.proofs.Store.{Known}
-use Rattle.mic2_fetch_unit.specs.Prelude.{Jumped, Waits}
 use Rattle.mic2_interpreter.proofs.Guided.{Goes, Lacks, Short, moment_of, clocked, Arrives, IsSmooth, pass-clocked}
 use Rattle.mic2_interpreter.proofs.Boundaries.{stands_at}
-use Rattle.ijvm_simulation.specs.Prelude.{Origin, IsMemory, Moment, pass, Boots, reset_moment, Loads}
-use Rattle.ijvm_simulation.specs.Images.{map, first}
-use Rattle.ijvm_simulation.specs.Places.{Place, place_at, place_on}
-use Rattle.verifier_facts.specs.Prelude.{VerifiedView}
 
 module _ (program : List ℕ) (has : Known program) (o : Origin) (v : VerifiedView) (loads : Loads v o) (input : List ℕ) where
   abbrev start : Moment Micro

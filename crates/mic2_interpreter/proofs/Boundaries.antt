@@ -1,21 +1,13 @@
 -- Mic-2 between two boundaries: what it knows at the one, and when a symbolic run comes to the next.
-use Rattle.std.proofs.Common.{◌≡◌, ℕ, zero, suc, ◌+◌, ◌<◌, ◌≤◌, ◌++◌, Some, None, true, false, List, [], ◌∷◌, length, arith, ◌∙◌, ap, sym, subst, add-zero}
-use Rattle.std.specs.Prelude.{nat_lt, ◌==◌}
-use Rattle.std.proofs.lemmas.Bool.Decides.{nat_tests}
-use Rattle.console_port.specs.Prelude.{World, StackLimit, byte_in}
-use Rattle.mic_words.specs.Prelude.{wrap}
-use Rattle.mic_words.specs.declared.machine.Machine.TheVariants.{Mic2}
-use Rattle.ijvm_instr.specs.declared.instr.Instr.{Instr}
-use Rattle.ijvm_meaning.specs.Prelude.{State, timing_of, cost}
-use Rattle.verifier_facts.specs.Prelude.{VerifiedView}
-use Rattle.mic2_fetch_unit.specs.Prelude.{StandsAt, unit_at, QueueLaw, Held, AtLeast, Jumped, One, IsHeld, Bounds, is_enough}
+use Rattle.mic2_interpreter.proofs.Common.{◌≡◌, ℕ, zero, suc, ◌+◌, ◌<◌, ◌≤◌, ◌++◌, Some, None, true, false, List, [], ◌∷◌, length, arith, ◌∙◌, ap, sym, subst}
+use Rattle.mic2_interpreter.proofs.Common.{add-zero, nat_lt, ◌==◌, nat_tests, World, StackLimit, byte_in, wrap, Mic2, Instr, State, timing_of, cost}
+use Rattle.mic2_interpreter.proofs.Common.{VerifiedView, StandsAt, unit_at, QueueLaw, Held, AtLeast, Jumped, One, IsHeld, Bounds, is_enough, Stands}
+use Rattle.mic2_interpreter.proofs.Common.{MovesWithStalls, OverrunsWithStalls, stalls_of, Origin, RegistersStand, Moment, is_inside, pass, Loads, Fine, IsNext}
+use Rattle.mic2_interpreter.proofs.Common.{Went, Overran, ShowsState, HasWord, Counts, counts}
 use Rattle.mic2_datapath.specs.Prelude.{Micro, demand, mic2_meaning}
-use Rattle.mic2_interpreter.specs.Prelude.{Stands, MovesWithStalls, OverrunsWithStalls, stalls_of}
 use Rattle.mic2_interpreter.proofs.Store.{shipped, Known}
 use Rattle.mic2_interpreter.proofs.Guided.{Turn, Goes, Short, standing, moment_of, refusal_of, clocked, IsSmooth, Arrives, pass-clocked, outcome_is, step-refused}
-use Rattle.ijvm_simulation.specs.Prelude.{Origin, RegistersStand, Moment, is_inside, pass, Loads, Fine, IsNext, Went, Overran, ShowsState, HasWord}
 use Rattle.ijvm_simulation.specs.Images as images
-use Rattle.ijvm_simulation.specs.Places.{Counts, counts}
 
 -- this many steps, none of which stalls
 abbrev pub steps : ℕ → List Turn

@@ -1,25 +1,14 @@
 -- Symbolic runs of Mic-2 over the shipped microprogram: a run along a plan of stalls and guessed next addresses, and what makes it the machine's.
-use Rattle.std.proofs.Common.{ap, ap₂, ◌∙◌, ◌≡◌, ℕ, zero, suc, ◌+◌, ◌*◌, ◌<◌, ◌≤◌, Option, Some, None, Bool, true, false, List, [], ◌∷◌, length, arith, refl, sym, subst, add-zero}
-use Rattle.std.specs.Prelude.{nat_lt, if◌then◌else◌}
-use Rattle.std.proofs.lemmas.Bool.Decides.{nat_tests}
-use Rattle.mic_words.specs.Prelude.{wrap, signed_byte, signed_pair}
-use Rattle.console_port.specs.Prelude.{World, Refusal}
-use Rattle.micro_word.specs.Prelude.{is_byte, is_pair, alu, shifted}
-use Rattle.micro_word.specs.declared.statement.BusSource.{BusSource}
+use Rattle.mic2_interpreter.proofs.Common.{ap, ap₂, ◌∙◌, ◌≡◌, ℕ, zero, suc, ◌+◌, ◌*◌, ◌<◌, ◌≤◌, Option, Some, None, Bool, true, false, List, [], ◌∷◌, length}
+use Rattle.mic2_interpreter.proofs.Common.{arith, refl, sym, subst, add-zero, nat_lt, if◌then◌else◌, nat_tests, wrap, signed_byte, signed_pair, World, Refusal}
+use Rattle.mic2_interpreter.proofs.Common.{is_byte, is_pair, alu, shifted, BusSource, Mem, Write, Part, Placed, PlacedNext, Dispatch, Ports, Prefetch, edge}
+use Rattle.mic2_interpreter.proofs.Common.{edge_refusal, unit_at, have_after, text_from, QueueLaw, Held, Jumped, IsHeld, is_enough, held_after, Lack, IsWait}
+use Rattle.mic2_interpreter.proofs.Common.{held_waited, IsMemory, Moment, is_inside, outcome_at, stalls_at, last, pass, pass_on, address_behind, left_of}
 use Rattle.micro_word.specs.declared.statement.BusSource.TheVariants as sources
-use Rattle.micro_word.specs.declared.statement.Mem.{Mem}
-use Rattle.micro_word.specs.declared.statement.Mem.TheVariants.{Write}
-use Rattle.micro_word.specs.declared.statement.Part.{Part}
-use Rattle.micro_word.specs.declared.statement.Placed.{Placed}
-use Rattle.micro_word.specs.declared.statement.PlacedNext.{PlacedNext}
-use Rattle.micro_word.specs.declared.statement.PlacedNext.TheVariants.{Dispatch}
 use Rattle.mic_clock.specs.Prelude.{Outcome, Done, Refused, number_of}
-use Rattle.mic_datapath.specs.declared.ports.Ports.{Ports}
 use Rattle.mic_datapath.specs.Prelude.{NineRegisters, on_bus, loaded, ports_given, written, sampled, word_under_way, memory_refusal, first_refusal, outcome, next_address}
-use Rattle.mic2_fetch_unit.specs.Prelude.{Prefetch, edge, edge_refusal, unit_at, have_after, text_from, QueueLaw, Held, Jumped, IsHeld, is_enough, held_after, Lack, IsWait, held_waited}
 use Rattle.mic2_datapath.specs.Prelude.{Micro, operand_bytes, dispatch_bytes, demand, is_stalled, stalled, registers_in, byte_at, fetched, source, result_of, advanced, jumps, unit_after, unit_refusal, is_to_instruction, next_micro, clock, world_after, step_if, microstep, mic2_meaning, step_of_word, driven, driven_by, stalled_drive}
 use Rattle.ijvm_simulation.specs.Writes.{memory_set}
-use Rattle.ijvm_simulation.specs.Prelude.{IsMemory, Moment, is_inside, outcome_at, stalls_at, last, pass, pass_on, address_behind, left_of}
 use Rattle.mic2_interpreter.proofs.Store.{shipped, Known}
 
 -- In a step of a plan the word at MPC goes on, or it stalls.

@@ -1,3 +1,4 @@
+pub mod Common
 pub mod Guided
 pub mod Boundaries
 pub mod Boot

@@ -1,17 +1,9 @@
 -- The bytes that a microstep of Mic-2 gives come after those given before.
-use Rattle.std.proofs.Common.{ℕ, Bool, true, false, Some, None, Option, length}
-use Rattle.console_port.specs.Prelude.{World, Refusal}
+use Rattle.mic2_interpreter.proofs.Common.{ℕ, Bool, true, false, Some, None, Option, length, World, Refusal, statement_of, Mem, Write, Placed, Ports}
+use Rattle.mic2_interpreter.proofs.Common.{edge_refusal, Grows, OnDone, grows_not, given_grows}
 use Rattle.mic_words.specs.declared.machine.Machine.TheVariants as machines
-use Rattle.micro_word.specs.Prelude.{statement_of}
-use Rattle.micro_word.specs.declared.statement.Mem.{Mem}
-use Rattle.micro_word.specs.declared.statement.Mem.TheVariants.{Write}
-use Rattle.micro_word.specs.declared.statement.Placed.{Placed}
 use Rattle.mic_datapath.specs.Prelude.{ports_given, written, sampled, outcome}
-use Rattle.mic_datapath.specs.declared.ports.Ports.{Ports}
-use Rattle.mic2_fetch_unit.specs.Prelude.{edge_refusal}
 use Rattle.mic2_datapath.specs.Prelude.{Micro, settled, clock, world_after, refusal, stalled, is_stalled, step_if, step_of_word}
-use Rattle.ijvm_simulation.specs.Prelude.{Grows, OnDone}
-use Rattle.ijvm_simulation.specs.Words.{grows_not, given_grows}
 
 access_grows : (top : ℕ) (mem : Mem) (p : Ports) (w : World) → Grows w.given (sampled top mem p (written top mem p w)).given
 access_grows top Write p w = given_grows top w.given p.mar p.mdr

@@ -1,12 +1,9 @@
 -- What a word's bits and control lines say of its statement.
-use Rattle.std.proofs.Common.{◌≡◌, ◌≢◌, ℕ, ◌+◌, ◌-◌, ◌/◌, ◌%◌, ◌^◌, ◌==◌, ◌||◌, ◌&&◌, ◌<◌, ◌≤◌, true, false, Option, Some, None, ap, refl, ◌∙◌, arith}
-use Rattle.micro_word.specs.Prelude.{addr_bits, jam_bits, names, place_on_bus}
-use Rattle.micro_word.specs.declared.statement.BusSource.{BusSource}
+use Rattle.mic3_datapath.proofs.Common.{◌≡◌, ◌≢◌, ℕ, ◌+◌, ◌-◌, ◌/◌, ◌%◌, ◌^◌, ◌==◌, ◌||◌, ◌&&◌, ◌<◌, ◌≤◌, true, false, Option, Some, None, ap, refl, ◌∙◌, arith}
+use Rattle.mic3_datapath.proofs.Common.{addr_bits, jam_bits, names, place_on_bus, BusSource, PlacedNext, dispatch_bytes, is_to_instruction}
 use Rattle.micro_word.specs.declared.statement.BusSource.TheVariants as sources
-use Rattle.micro_word.specs.declared.statement.PlacedNext.{PlacedNext}
 use Rattle.micro_word.specs.declared.statement.PlacedNext.TheVariants as nexts
 use Rattle.micro_word.specs.declared.statement.Test.TheVariants as tests
-use Rattle.mic2_datapath.specs.Prelude.{dispatch_bytes, is_to_instruction}
 use Rattle.mic3_datapath.specs.Prelude.{dispatched, is_branch, is_destination, is_mdr}
 
 pub branch_bits : (n : PlacedNext) → ((jam_bits n == 1) || (jam_bits n == 2)) ≡ is_branch n

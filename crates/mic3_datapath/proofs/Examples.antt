@@ -1,22 +1,11 @@
 -- The cycle, computed on a whole run: BIPUSH 72, OUT, HALT in 23 cycles.
-use Rattle.std.proofs.Common.{◌≡◌, ℕ, zero, suc, ◌==◌, if◌then◌else◌, List, [], ◌∷◌, Option, Some, None, Bool, true, false, refl}
-use Rattle.mic_words.specs.Prelude.{wrap, signed_byte}
-use Rattle.micro_word.specs.declared.statement.AluOp.{AluOp}
+use Rattle.mic3_datapath.proofs.Common.{◌≡◌, ℕ, zero, suc, ◌==◌, if◌then◌else◌, List, [], ◌∷◌, Option, Some, None, Bool, true, false, refl, wrap, signed_byte}
+use Rattle.mic3_datapath.proofs.Common.{AluOp, BusSource, Mem, Placed, PlacedNext, Goto, Dispatch, World, write_refusal, read_refusal, word_refusal, read_value}
+use Rattle.mic3_datapath.proofs.Common.{untaken_after, given_after, Registers, Queue, Outcome, Done, Refused, edge, jump, edge_refusal, registers_of}
 use Rattle.micro_word.specs.declared.statement.AluOp.TheVariants as ops
-use Rattle.micro_word.specs.declared.statement.BusSource.{BusSource}
 use Rattle.micro_word.specs.declared.statement.BusSource.TheVariants as sources
-use Rattle.micro_word.specs.declared.statement.Mem.{Mem}
 use Rattle.micro_word.specs.declared.statement.Mem.TheVariants as mems
 use Rattle.micro_word.specs.declared.statement.Shift.TheVariants as shifts
-use Rattle.micro_word.specs.declared.statement.Placed.{Placed}
-use Rattle.micro_word.specs.declared.statement.PlacedNext.{PlacedNext}
-use Rattle.micro_word.specs.declared.statement.PlacedNext.TheVariants.{Goto, Dispatch}
-use Rattle.console_port.specs.Prelude.{World, write_refusal, read_refusal, word_refusal, read_value, untaken_after, given_after}
-use Rattle.mic_clock.specs.declared.registers.Registers.{Registers}
-use Rattle.mic_clock.specs.declared.registers.Tail.TheVariants.{Queue}
-use Rattle.mic_clock.specs.Prelude.{Outcome, Done, Refused}
-use Rattle.mic2_fetch_unit.specs.Prelude.{edge, jump, edge_refusal}
-use Rattle.mic2_datapath.specs.Prelude.{registers_of}
 use Rattle.mic3_datapath.specs.Prelude.{Pipeline, cycle_with, issued, initial}
 
 abbrev word : ℕ → AluOp → Option BusSource → Option BusSource → Mem → PlacedNext → Placed

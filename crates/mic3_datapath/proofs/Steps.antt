@@ -1,21 +1,11 @@
 -- What is asked of the bus for the statement that retires, with its access, is the cycle or its refusal.
-use Rattle.std.proofs.Common.{arith, ◌≡◌, ℕ, ◌≤◌, Bool, true, false, if◌then◌else◌, List, Option, Some, None, Ok, length, refl, sym, ap, ap₂, ◌∙◌}
-use Rattle.std.specs.Prelude.{⊤, nat_lt, ◌||◌}
-use Rattle.std.proofs.lemmas.Bool.Decides.{nat_tests}
-use Rattle.console_port.specs.Prelude.{World, Refusal, ChangesOnly, IsLed, refused_by, BusView}
-use Rattle.mic_clock.specs.declared.buses.Computed.{Computed as Values}
-use Rattle.mic_clock.specs.declared.buses.Drive.{Drive}
+use Rattle.mic3_datapath.proofs.Common.{arith, ◌≡◌, ℕ, ◌≤◌, Bool, true, false, if◌then◌else◌, List, Option, Some, None, Ok, length, refl, sym, ap, ap₂, ◌∙◌, ⊤}
+use Rattle.mic3_datapath.proofs.Common.{nat_lt, ◌||◌, nat_tests, World, Refusal, ChangesOnly, IsLed, refused_by, BusView, Computed as Values, Drive}
+use Rattle.mic3_datapath.proofs.Common.{statement_of, BusSource, Placed, IsEdge, Done, buses_in, refusal_in, IsTransfer, Asks, answered, second_clear}
+use Rattle.mic3_datapath.proofs.Common.{first_refusal, memory_refusal, word_under_way, written, sampled, outcome, NineRegisters, ports_given, Ports}
+use Rattle.mic3_datapath.proofs.Common.{sample_refusal, access_refusal, demand, next_micro, source, unit_after, unit_refusal, unit_samples, Asked}
 use Rattle.mic_words.specs.declared.machine.Machine.TheVariants as machines
-use Rattle.micro_word.specs.Prelude.{statement_of}
-use Rattle.micro_word.specs.declared.statement.BusSource.{BusSource}
-use Rattle.micro_word.specs.declared.statement.Placed.{Placed}
-use Rattle.mic_clock.specs.Prelude.{IsEdge, Done, buses_in, refusal_in}
-use Rattle.mic_datapath.specs.Prelude.{IsTransfer, Asks, answered, second_clear, first_refusal, memory_refusal, word_under_way, written, sampled, outcome, NineRegisters, ports_given}
 use Rattle.mic_datapath.specs.Edges as edges
-use Rattle.mic_datapath.specs.declared.ports.Ports.{Ports}
-use Rattle.mic2_fetch_unit.specs.Prelude.{sample_refusal}
-use Rattle.mic2_datapath.specs.Prelude.{access_refusal, demand, next_micro, source, unit_after, unit_refusal, unit_samples}
-use Rattle.mic3_datapath.specs.declared.pipeline.Asked.{Asked}
 use Rattle.mic3_datapath.specs.Prelude.{Pipeline, Issued, Computed, begins, clock, computed, computed_in, cycle, cycle_with, dispatched_from, is_held_up, is_jump_coming, issued, issued_by, issued_in, mem_in, mpc_after, refusal, settled, bytes_leaving, waits, word_after, world_after, driven, driven_by, mic3_meaning, step_of_word, values_of, HasMoved, IsAsked, edged, word_held, buses_before, values_by}
 
 abbrev refusal_on : ℕ → Asked → Option Refusal

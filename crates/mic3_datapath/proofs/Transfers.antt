@@ -1,10 +1,6 @@
 -- An access of a word that retires, without a fetch.
-use Rattle.std.proofs.Common.{◌≡◌, ◌∙◌, ℕ, false, List, Option, refl, ap}
-use Rattle.console_port.specs.Prelude.{IsLed, BusView, World}
-use Rattle.micro_word.specs.declared.statement.Mem.{Mem}
+use Rattle.mic3_datapath.proofs.Common.{◌≡◌, ◌∙◌, ℕ, false, List, Option, refl, ap, IsLed, BusView, World, Mem, IsAccess, IsTransfer, sampled, written, Ports}
 use Rattle.micro_word.specs.declared.statement.Mem.TheVariants as mems
-use Rattle.mic_datapath.specs.Prelude.{IsAccess, IsTransfer, sampled, written}
-use Rattle.mic_datapath.specs.declared.ports.Ports.{Ports}
 
 words_stay : (n : ℕ) (mem : Mem) (p : Ports) (w : World) → (sampled n mem p w).words ≡ w.words
 words_stay n mems.Read p w = refl

@@ -1,20 +1,12 @@
 -- The cycle of Mic-3 (chapter 4; when a statement waits, and the order of events at the clock edge, are this profile's).
 -- A statement issues in one cycle, computes in the next and retires in the third: three statements are under way at a time.
 use Rattle.std.specs.Prelude.{ℕ, ◌||◌, ◌&&◌, Bool, true, false, nat_lt, if◌then◌else◌, length, Option, Some, None, is_some}
-use Rattle.micro_word.specs.Prelude.{loads, alu, shifted}
+use Rattle.mic3_datapath.specs.Common.{loads, alu, shifted, BusSource, Mem, PlacedNext, Part, Placed, World, Refusal, Outcome, is_read, written, sampled}
+use Rattle.mic3_datapath.specs.Common.{word_under_way, memory_refusal, first_refusal, outcome, next_address, NineRegisters, loaded, ports_given, Prefetch}
 use Rattle.micro_word.specs.declared.destination.Destination.TheVariants as registers
-use Rattle.micro_word.specs.declared.statement.BusSource.{BusSource}
 use Rattle.micro_word.specs.declared.statement.BusSource.TheVariants as sources
-use Rattle.micro_word.specs.declared.statement.Mem.{Mem}
 use Rattle.micro_word.specs.declared.statement.Mem.TheVariants as mems
-use Rattle.micro_word.specs.declared.statement.PlacedNext.{PlacedNext}
 use Rattle.micro_word.specs.declared.statement.PlacedNext.TheVariants as nexts
-use Rattle.micro_word.specs.declared.statement.Part.{Part}
-use Rattle.micro_word.specs.declared.statement.Placed.{Placed}
-use Rattle.console_port.specs.Prelude.{World, Refusal}
-use Rattle.mic_clock.specs.Prelude.{Outcome}
-use Rattle.mic_datapath.specs.Prelude.{is_read, written, sampled, word_under_way, memory_refusal, first_refusal, outcome, next_address, NineRegisters, loaded, ports_given}
-use Rattle.mic2_fetch_unit.specs.Prelude.{Prefetch}
 use Rattle.mic2_datapath.specs.Prelude.{advanced, byte_at, demand, is_to_instruction, jumps, next_micro, operand_bytes, registers_in, source, unit_after, unit_refusal}
 use Rattle.mic3_datapath.specs.Pipeline.{Pipeline, Issued, Computed}
 

@@ -1,3 +1,4 @@
+pub mod Common
 pub mod Pipeline
 pub mod Cycle
 pub mod Mic3

@@ -1,13 +1,7 @@
 -- What Mic-3 means as a clocked machine: its cycle, where the statement that a word spells is the next to issue.
 use Rattle.std.specs.Prelude.{◌≡◌, ◌≤◌, ℕ, List, Option, Some, None, false, length}
-use Rattle.console_port.specs.Prelude.{World}
+use Rattle.mic3_datapath.specs.Common.{World, before, statement_of, Drive, Computed as Values, Start, Meaning, Outcome}
 use Rattle.mic_words.specs.declared.machine.Machine.TheVariants as machines
-use Rattle.mic_words.specs.Prelude.{before}
-use Rattle.micro_word.specs.Prelude.{statement_of}
-use Rattle.mic_clock.specs.declared.buses.Drive.{Drive}
-use Rattle.mic_clock.specs.declared.buses.Computed.{Computed as Values}
-use Rattle.mic_clock.specs.declared.registers.Start.{Start}
-use Rattle.mic_clock.specs.Prelude.{Meaning, Outcome}
 use Rattle.mic2_datapath.specs.Mic2.{initial as initial_of, IsReady as IsReadyAt}
 use Rattle.mic2_datapath.specs.Prelude.{registers_of, stalled_drive, stalled_value, value_of}
 use Rattle.mic3_datapath.specs.Pipeline.{Pipeline, Issued}

@@ -1,11 +1,6 @@
 -- What the latches and the slots of Mic-3 mean: the state of its cycle.
 use Rattle.std.specs.Prelude.{◌≡◌, ℕ, List, Option, Some, None}
-use Rattle.mic_words.specs.declared.machine.Machine.TheVariants.{Mic2}
-use Rattle.micro_word.specs.Prelude.{statement_of}
-use Rattle.micro_word.specs.declared.statement.Placed.{Placed}
-use Rattle.console_port.specs.Prelude.{Refusal}
-use Rattle.mic_datapath.specs.Prelude.{registers_at, NineRegisters, ports_given}
-use Rattle.mic2_fetch_unit.specs.Prelude.{Prefetch, sample_refusal}
+use Rattle.mic3_datapath.specs.Common.{Mic2, statement_of, Placed, Refusal, registers_at, NineRegisters, ports_given, Prefetch, sample_refusal}
 use Rattle.mic2_datapath.specs.Prelude.{micro_in, next_micro, past, unit_after, unit_refusal, unit_samples}
 use Rattle.mic3_datapath.specs.declared.slots.OperandSlot.{OperandSlot}
 use Rattle.mic3_datapath.specs.declared.slots.ResultSlot.{ResultSlot}

@@ -1,7 +1,6 @@
 -- What contracts see of a Mic-3.
 use Rattle.std.specs.Prelude.{ℕ, Bool, Option, Some, None}
-use Rattle.mic_clock.specs.declared.buses.Computed.{Computed as Values}
-use Rattle.mic_clock.specs.Prelude.{Buses}
+use Rattle.mic3_datapath.specs.Common.{Computed as Values, Buses}
 use Rattle.mic2_datapath.specs.Prelude.{flagged, stalled_value}
 use Rattle.mic3_datapath.specs.Mic3.{driven_by}
 use Rattle.mic3_datapath.specs.Pipeline.{Pipeline, Computed}

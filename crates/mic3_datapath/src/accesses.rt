@@ -1,8 +1,7 @@
 //! The accesses of a cycle: their addresses are tested before anything is changed.
 
 ghost use Rattle.std.specs.Prelude.{◌≡◌, None, IfNone, IfSome, length};
-ghost use Rattle.console_port.specs.Prelude.{ChangesOnly};
-ghost use Rattle.mic_datapath.specs.Prelude.{IsTransfer, LeadsInside};
+ghost use Rattle.mic3_datapath.specs.Common.{ChangesOnly, IsTransfer, LeadsInside};
 ghost use Rattle.mic2_datapath.specs.Prelude.{access_refusal};
 
 use console_port::Bus;

@@ -1,11 +1,7 @@
 //! What Mic-3 keeps between cycles.
 
 ghost use Rattle.std.specs.Prelude.{◌≡◌, ◌<◌, ◌≤◌, ℕ, OnOk, OnErr, length, slice_index};
-ghost use Rattle.console_port.specs.Prelude.{FailsAsRefused};
-ghost use Rattle.mic_words.specs.declared.machine.Machine.TheVariants.{Mic2};
-ghost use Rattle.micro_word.specs.Prelude.{statement_of};
-ghost use Rattle.mic_clock.specs.Prelude.{IsDecoded};
-ghost use Rattle.mic_datapath.specs.Prelude.{registers_at, ports_given};
+ghost use Rattle.mic3_datapath.specs.Common.{FailsAsRefused, Mic2, statement_of, IsDecoded, registers_at, ports_given};
 ghost use Rattle.mic2_datapath.specs.Prelude.{AreLatches, demand, past, unit_after, spelled};
 ghost use Rattle.mic3_datapath.specs.Cycle.{begins, bytes_leaving, computed, dispatched_from, from_computed, from_issued, from_retired, is_jump_coming, issued, mem_in, mpc_after, retired, settled, waits};
 ghost use Rattle.mic3_datapath.specs.Mic3.{driven, driven_by, initial as initial_of, values_of};

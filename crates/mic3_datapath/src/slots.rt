@@ -1,8 +1,7 @@
 //! The two slots of the pipeline, each with the word that filled it.
 
 ghost use Rattle.std.specs.Prelude.{◌≡◌, None};
-ghost use Rattle.mic_words.specs.declared.machine.Machine.TheVariants.{Mic2};
-ghost use Rattle.micro_word.specs.Prelude.{statement_of};
+ghost use Rattle.mic3_datapath.specs.Common.{Mic2, statement_of};
 
 use mic2_datapath::Control;
 

@@ -1,18 +1,11 @@
 -- From the reset of a Mic-3 to its first boundary.
-use Rattle.std.proofs.Common.{◌≡◌, ℕ, ◌+◌, List, [], ◌∷◌, refl, arith, ◌∙◌, ap}
-use Rattle.mic_words.specs.Prelude.{plus}
-use Rattle.console_port.specs.Prelude.{byte_in}
-use Rattle.mic3_datapath.specs.Prelude.{mic3_meaning, Pipeline}
-use Rattle.mic3_interpreter.specs.Prelude.{mic3_timing, Stands}
-use Rattle.ijvm_meaning.specs.Prelude.{start_of}
+use Rattle.mic3_interpreter.proofs.Common.{◌≡◌, ℕ, ◌+◌, List, [], ◌∷◌, refl, arith, ◌∙◌, ap, plus, byte_in, mic3_meaning, Pipeline, mic3_timing, Stands}
+use Rattle.mic3_interpreter.proofs.Common.{start_of, Jumped, WaitsFirst, map, first, VerifiedView}
 use Rattle.mic3_interpreter.proofs.Store.{Known}
-use Rattle.mic2_fetch_unit.specs.Prelude.{Jumped, WaitsFirst}
 use Rattle.mic3_interpreter.proofs.Guided.{Issues, HeldUp, Lacks, Short, moment_of, clocked, Arrives, IsSmooth, pass-clocked}
 use Rattle.mic3_interpreter.proofs.Boundaries.{stands_at}
 use Rattle.ijvm_simulation.specs.Prelude.{Origin, IsMemory, Moment, pass, Boots, reset_moment, Loads}
-use Rattle.ijvm_simulation.specs.Images.{map, first}
 use Rattle.ijvm_simulation.specs.Places.{Place, place_at, place_on}
-use Rattle.verifier_facts.specs.Prelude.{VerifiedView}
 
 module _ (program : List ℕ) (has : Known program) (o : Origin) (v : VerifiedView) (loads : Loads v o) (input : List ℕ) where
   abbrev start : Moment Pipeline

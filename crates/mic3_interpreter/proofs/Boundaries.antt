@@ -1,16 +1,7 @@
 -- Mic-3 at instruction boundaries, and its symbolic runs from one to the next.
-use Rattle.std.proofs.Common.{◌++◌, ◌≡◌, ℕ, ◌+◌, ◌<◌, ◌≤◌, true, false, Some, None, List, [], ◌∷◌, length, arith, sym, ◌∙◌, ap, subst}
-use Rattle.std.specs.Prelude.{nat_lt, ◌==◌}
-use Rattle.std.proofs.lemmas.Bool.Decides.{nat_tests}
-use Rattle.mic_words.specs.Prelude.{wrap}
-use Rattle.console_port.specs.Prelude.{World, StackLimit, byte_in}
-use Rattle.ijvm_instr.specs.declared.instr.Instr.{Instr}
-use Rattle.ijvm_meaning.specs.Prelude.{State, cost}
-use Rattle.verifier_facts.specs.Prelude.{VerifiedView}
-use Rattle.mic2_fetch_unit.specs.Prelude.{StandsAt, unit_at, QueueLaw, Held, AtLeast, Jumped, One, IsHeld, Bounds, is_enough}
-use Rattle.mic2_datapath.specs.Prelude.{Micro}
-use Rattle.mic3_datapath.specs.Prelude.{Pipeline, mic3_meaning}
-use Rattle.mic3_interpreter.specs.Prelude.{Stands, mic3_timing}
+use Rattle.mic3_interpreter.proofs.Common.{◌++◌, ◌≡◌, ℕ, ◌+◌, ◌<◌, ◌≤◌, true, false, Some, None, List, [], ◌∷◌, length, arith, sym, ◌∙◌, ap, subst, nat_lt}
+use Rattle.mic3_interpreter.proofs.Common.{◌==◌, nat_tests, wrap, World, StackLimit, byte_in, Instr, State, cost, VerifiedView, StandsAt, unit_at, QueueLaw}
+use Rattle.mic3_interpreter.proofs.Common.{Held, AtLeast, Jumped, One, IsHeld, Bounds, is_enough, Micro, Pipeline, mic3_meaning, Stands, mic3_timing}
 use Rattle.mic3_interpreter.proofs.Store.{shipped, Known}
 use Rattle.mic3_interpreter.proofs.Guided.{Short, Turn, Issues, HeldUp, standing, moment_of, refusal_of, clocked, IsTurn, IsSmooth, Arrives, pass-clocked, outcome_is, cycle-refused}
 use Rattle.ijvm_simulation.specs.Prelude.{Origin, RegistersStand, Moment, is_inside, pass, Loads, Fine, IsNext, Went, Overran, ShowsState, HasWord, Moves, Overruns}

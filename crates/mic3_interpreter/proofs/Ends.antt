@@ -1,8 +1,5 @@
 -- HALT and ERR: MPC is the opcode, so the run ends at the boundary.
-use Rattle.std.proofs.Common.{ℕ, List, refl, ◌∙◌, inl}
-use Rattle.verifier_facts.specs.Prelude.{VerifiedView}
-use Rattle.mic3_datapath.specs.Prelude.{mic3_meaning}
-use Rattle.mic3_interpreter.specs.Prelude.{mic3_timing, Stands}
+use Rattle.mic3_interpreter.proofs.Common.{ℕ, List, refl, ◌∙◌, inl, VerifiedView, mic3_meaning, mic3_timing, Stands}
 use Rattle.ijvm_simulation.specs.Prelude.{Origin, HaltsAndErrs}
 
 pub ends : (program : List ℕ) (o : Origin) (v : VerifiedView) → HaltsAndErrs mic3_meaning program (Stands o) o.given mic3_timing v o

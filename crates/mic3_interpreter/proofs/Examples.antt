@@ -1,10 +1,7 @@
 -- The cycle, computed on whole runs of the shipped microprogram.
-use Rattle.std.proofs.Common.{◌≡◌, ℕ, zero, suc, List, [], ◌∷◌, Option, Some, None, Bool, true, refl}
-use Rattle.mic_words.specs.Prelude.{wrap, signed_byte, signed_pair}
-use Rattle.console_port.specs.Prelude.{World, write_refusal, read_refusal, word_refusal, read_value, untaken_after, given_after, byte_in}
-use Rattle.mic_clock.specs.Prelude.{Outcome, Done, Refused}
-use Rattle.mic2_fetch_unit.specs.Prelude.{edge, jump, edge_refusal}
-use Rattle.mic3_datapath.specs.Prelude.{Pipeline, issued, cycle_with, initial}
+use Rattle.mic3_interpreter.proofs.Common.{◌≡◌, ℕ, zero, suc, List, [], ◌∷◌, Option, Some, None, Bool, true, refl, wrap, signed_byte, signed_pair, World}
+use Rattle.mic3_interpreter.proofs.Common.{write_refusal, read_refusal, word_refusal, read_value, untaken_after, given_after, byte_in, Outcome, Done, Refused}
+use Rattle.mic3_interpreter.proofs.Common.{edge, jump, edge_refusal, Pipeline, issued, cycle_with, initial}
 use Rattle.mic3_interpreter.proofs.Store.{shipped}
 
 record Told : Type 0 where

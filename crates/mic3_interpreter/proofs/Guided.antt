@@ -1,26 +1,16 @@
 -- Symbolic runs of Mic-3 over the shipped microprogram: a run along a plan of what issues and of guessed next addresses, and what makes it the machine's.
-use Rattle.std.proofs.Common.{ap, ap₂, ◌∙◌, ◌≡◌, ℕ, zero, suc, ◌+◌, ◌*◌, ◌<◌, ◌≤◌, Option, Some, None, Bool, true, false, List, [], ◌∷◌, length, arith, refl, sym, subst, add-zero}
-use Rattle.std.specs.Prelude.{nat_lt, if◌then◌else◌, ◌||◌}
-use Rattle.std.proofs.lemmas.Bool.Decides.{nat_tests}
-use Rattle.mic_words.specs.Prelude.{wrap, signed_byte, signed_pair}
-use Rattle.console_port.specs.Prelude.{World, Refusal}
-use Rattle.micro_word.specs.Prelude.{is_byte, is_pair}
-use Rattle.micro_word.specs.declared.statement.BusSource.{BusSource}
+use Rattle.mic3_interpreter.proofs.Common.{ap, ap₂, ◌∙◌, ◌≡◌, ℕ, zero, suc, ◌+◌, ◌*◌, ◌<◌, ◌≤◌, Option, Some, None, Bool, true, false, List, [], ◌∷◌, length}
+use Rattle.mic3_interpreter.proofs.Common.{arith, refl, sym, subst, add-zero, nat_lt, if◌then◌else◌, ◌||◌, nat_tests, wrap, signed_byte, signed_pair, World}
+use Rattle.mic3_interpreter.proofs.Common.{Refusal, is_byte, is_pair, BusSource, Mem, Write, Placed, PlacedNext, Dispatch, Branch, Done, Refused, number_of}
+use Rattle.mic3_interpreter.proofs.Common.{Ports, NineRegisters, on_bus, ports_given, written, sampled, memory_refusal, first_refusal, outcome, Micro}
+use Rattle.mic3_interpreter.proofs.Common.{operand_bytes, demand, registers_in, byte_at, fetched, source, advanced, unit_after, unit_refusal, next_micro}
+use Rattle.mic3_interpreter.proofs.Common.{Pipeline, Issued, Computed, issued_in, computed_in, is_held_up, is_jump_coming, waits, dispatched, issued, issued_by}
+use Rattle.mic3_interpreter.proofs.Common.{bytes_leaving, retired, settled, mem_in, word_after, computed, from_retired, from_computed, from_issued, begins}
+use Rattle.mic3_interpreter.proofs.Common.{clock, world_after, refusal, cycle_with, cycle, mic3_meaning, step_of_word, driven, driven_by, memory_set, unit_at}
+use Rattle.mic3_interpreter.proofs.Common.{have_after, text_from, QueueLaw, Held, Jumped, IsHeld, is_enough, held_after, Lack, IsWait, held_waited}
 use Rattle.micro_word.specs.declared.statement.BusSource.TheVariants as sources
-use Rattle.micro_word.specs.declared.statement.Mem.{Mem}
-use Rattle.micro_word.specs.declared.statement.Mem.TheVariants.{Write}
-use Rattle.micro_word.specs.declared.statement.Placed.{Placed}
-use Rattle.micro_word.specs.declared.statement.PlacedNext.{PlacedNext}
-use Rattle.micro_word.specs.declared.statement.PlacedNext.TheVariants.{Dispatch, Branch}
-use Rattle.mic_clock.specs.Prelude.{Done, Refused, number_of}
-use Rattle.mic_datapath.specs.declared.ports.Ports.{Ports}
-use Rattle.mic_datapath.specs.Prelude.{NineRegisters, on_bus, ports_given, written, sampled, memory_refusal, first_refusal, outcome}
-use Rattle.mic2_datapath.specs.Prelude.{Micro, operand_bytes, demand, registers_in, byte_at, fetched, source, advanced, unit_after, unit_refusal, next_micro}
-use Rattle.mic3_datapath.specs.Prelude.{Pipeline, Issued, Computed, issued_in, computed_in, is_held_up, is_jump_coming, waits, dispatched, issued, issued_by, bytes_leaving, retired, settled, mem_in, word_after, computed, from_retired, from_computed, from_issued, begins, clock, world_after, refusal, cycle_with, cycle, mic3_meaning, step_of_word, driven, driven_by}
-use Rattle.ijvm_simulation.specs.Writes.{memory_set}
 use Rattle.ijvm_simulation.specs.Prelude.{IsMemory, Moment, is_inside, outcome_at, stalls_at, last, pass, pass_on}
 use Rattle.mic3_interpreter.proofs.Store.{shipped, Known}
-use Rattle.mic2_fetch_unit.specs.Prelude.{unit_at, have_after, text_from, QueueLaw, Held, Jumped, IsHeld, is_enough, held_after, Lack, IsWait, held_waited}
 
 -- A symbolic state: what the machine has except its unit, and what is known of the queue there.
 pub record Short : Type 0 where

@@ -1,26 +1,15 @@
 -- What each instruction takes of the machine.
-use Rattle.std.proofs.Common.{ℕ, ◌+◌, List, [], ◌∷◌, refl, arith, sym, ◌∙◌, ap, inl, inr, Bool, ◌==◌, length, ◌*◌, true, false, ◌%◌}
-use Rattle.std.specs.Prelude.{bit_and, bit_or, if◌then◌else◌, slice_index}
-use Rattle.mic_words.specs.Prelude.{plus, minus, next, signed_byte, before, is_negative}
-use Rattle.console_port.specs.Prelude.{byte_in, read_value}
-use Rattle.ijvm_instr.specs.declared.instr.Instr.{Instr}
+use Rattle.mic3_interpreter.proofs.Common.{ℕ, ◌+◌, List, [], ◌∷◌, refl, arith, sym, ◌∙◌, ap, inl, inr, Bool, ◌==◌, length, ◌*◌, true, false, ◌%◌, bit_and}
+use Rattle.mic3_interpreter.proofs.Common.{bit_or, if◌then◌else◌, slice_index, plus, minus, next, signed_byte, before, is_negative, byte_in, read_value, Instr}
+use Rattle.mic3_interpreter.proofs.Common.{word_of, target, State, moved, VerifiedView, Micro, mic3_meaning, Pipeline, mic3_timing, Stands, cases_Bool}
+use Rattle.mic3_interpreter.proofs.Common.{WaitsFirst, Waits, WaitsLate, WaitsOn, lands, returned, named, called, cut_off}
 use Rattle.ijvm_instr.specs.declared.instr.Instr.TheVariants.{Nop, Bipush, LdcW, Iload, Istore, Pop, Dup, Swap, Iadd, Isub, Iand, Iinc, Ifeq, Iflt, IfIcmpeq, Goto, Ireturn, Ior, Invokevirtual, WideIload, WideIstore, WideIinc, In, Out, Err, Halt}
-use Rattle.ijvm_instr.specs.Prelude.{word_of, target}
-use Rattle.ijvm_meaning.specs.Prelude.{State, moved}
-use Rattle.verifier_facts.specs.Prelude.{VerifiedView}
-use Rattle.mic2_datapath.specs.Prelude.{Micro}
-use Rattle.mic3_datapath.specs.Prelude.{mic3_meaning, Pipeline}
 use Rattle.ijvm_simulation.specs.Prelude.{Loads, Origin, Moment, Takes, jump}
 use Rattle.ijvm_simulation.specs.Leaves.{stays, bipush, dup, popped, operated, swapped, push_full, constant_from, local_from, taken_from, pushed_from, full_from, stored, changed, gives, popped_two, branches_by, branches_equal}
 use Rattle.ijvm_simulation.specs.Places.{byte_after, pair_after, wide_after, signed_pair_at, jumps, place_at, place_on, entry_at}
-use Rattle.mic3_interpreter.specs.Prelude.{mic3_timing, Stands}
 use Rattle.mic3_interpreter.proofs.Store.{Known}
 use Rattle.mic3_interpreter.proofs.Guided.{Issues, HeldUp, Turn, Lacks}
 use Rattle.mic3_interpreter.proofs.Boundaries.{At, GoesOn, IsCut, at, arrives, overruns, alone}
-use Rattle.std.proofs.lemmas.Bool.{cases_Bool}
-use Rattle.mic2_fetch_unit.specs.Prelude.{WaitsFirst, Waits, WaitsLate, WaitsOn}
-use Rattle.ijvm_simulation.specs.Images.{lands}
-use Rattle.ijvm_simulation.specs.Calling.{returned, named, called, cut_off}
 
 -- where a branch goes on: at T or at F
 abbrev branch : Bool → ℕ

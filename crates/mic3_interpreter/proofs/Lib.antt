@@ -1,3 +1,4 @@
+pub mod Common
 pub mod Store
 pub mod Examples
 pub mod Guided

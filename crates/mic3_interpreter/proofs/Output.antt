@@ -1,15 +1,8 @@
 -- The bytes that a cycle of Mic-3 gives come after those given before.
-use Rattle.std.proofs.Common.{ℕ, Some, None, Option, length}
-use Rattle.console_port.specs.Prelude.{World, Refusal}
+use Rattle.mic3_interpreter.proofs.Common.{ℕ, Some, None, Option, length, World, Refusal, statement_of, Mem, Write, ports_given, written, sampled, outcome}
+use Rattle.mic3_interpreter.proofs.Common.{Ports, Pipeline, Issued, issued, mem_in, settled, clock, world_after, refusal, step_of_word, grows_not, given_grows}
 use Rattle.mic_words.specs.declared.machine.Machine.TheVariants as machines
-use Rattle.micro_word.specs.Prelude.{statement_of}
-use Rattle.micro_word.specs.declared.statement.Mem.{Mem}
-use Rattle.micro_word.specs.declared.statement.Mem.TheVariants.{Write}
-use Rattle.mic_datapath.specs.Prelude.{ports_given, written, sampled, outcome}
-use Rattle.mic_datapath.specs.declared.ports.Ports.{Ports}
-use Rattle.mic3_datapath.specs.Prelude.{Pipeline, Issued, issued, mem_in, settled, clock, world_after, refusal, step_of_word}
 use Rattle.ijvm_simulation.specs.Prelude.{Grows, OnDone}
-use Rattle.ijvm_simulation.specs.Words.{grows_not, given_grows}
 
 access_grows : (top : ℕ) (mem : Mem) (p : Ports) (w : World) → Grows w.given (sampled top mem p (written top mem p w)).given
 access_grows top Write p w = given_grows top w.given p.mar p.mdr

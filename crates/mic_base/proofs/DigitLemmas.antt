@@ -1,13 +1,7 @@
-use Rattle.std.proofs.Common.{◌≡◌, ℕ, zero, suc, ◌+◌, ◌-◌, ◌*◌, ◌/◌, ◌%◌, ◌^◌, ◌<◌, ◌≤◌, Bool, true, false, min, not, List, [], ◌∷◌, ◌++◌, length, None, refl, arith, inl, inr, length-append, add-one}
-use Rattle.std.proofs.Math.Nat.{mul-le-mul_left, pow-suc, pow-zero}
-use Rattle.std.proofs.Common.{ℤ, pos, negsuc, FitsSigned, w64}
-use Rattle.std.proofs.lemmas.Int.{ints}
-use Rattle.std.specs.Fmt.{decimal, signed_decimal}
-use Rattle.std.proofs.lemmas.Fmt.{length-decimal-le}
-use Rattle.std.specs.Char.{digit_char, digit_value}
-use Rattle.std.specs.List.{list_all, position, position_or_len}
+use Rattle.mic_base.proofs.Common.{◌≡◌, ℕ, zero, suc, ◌+◌, ◌-◌, ◌*◌, ◌/◌, ◌%◌, ◌^◌, ◌<◌, ◌≤◌, Bool, true, false, min, not, List, [], ◌∷◌, ◌++◌, length, None}
+use Rattle.mic_base.proofs.Common.{refl, arith, inl, inr, length-append, add-one, mul-le-mul_left, pow-suc, pow-zero, ℤ, pos, negsuc, FitsSigned, w64, ints}
+use Rattle.mic_base.proofs.Common.{decimal, signed_decimal, length-decimal-le, digit_char, digit_value, list_all, position, position_or_len, value_of, hex_text}
 use Rattle.std.proofs.lemmas.Bool.{cases_lt, lt-ltb}
-use Rattle.mic_base.specs.Prelude.{value_of, hex_text}
 
 push_arith : (x power value base digit : ℕ) → x * (power * base) + (value * base + digit) ≡ (x * power + value) * base + digit
 push_arith x power value base digit = grind arith

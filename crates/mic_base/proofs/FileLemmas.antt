@@ -1,14 +1,6 @@
 -- The files in memory by their names: the list of them has what the map has.
-use Rattle.std.proofs.Common.{◌≡◌, ℕ, List, [], ◌∷◌, Some, refl, true, false, cond}
-use Rattle.std.specs.Prelude.{Vec, map, option_map, string_bytes, String}
-use Rattle.std.specs.BTreeMap.{get_by_text}
-use Rattle.std.specs.Map.{lookup}
-use Rattle.std.specs.Ordering.{nat_cmp, is_eq}
-use Rattle.std.specs.Cmp.Lexicographic.{slice_cmp}
-use Rattle.std.specs.FinMap.{find}
-use Rattle.std.specs.declared.alloc.Global.{Global}
-use Rattle.mic_base.specs.Prelude.{file_in, files_contents}
-use Rattle.mic_base.specs.declared.memory.files.MemFiles.{MemFiles}
+use Rattle.mic_base.proofs.Common.{◌≡◌, ℕ, List, [], ◌∷◌, Some, refl, true, false, cond, Vec, map, option_map, string_bytes, String, get_by_text, lookup}
+use Rattle.mic_base.proofs.Common.{nat_cmp, is_eq, slice_cmp, find, Global, file_in, files_contents, MemFiles}
 
 by_entries : (name : List ℕ) (es : List (String Global × Vec ℕ Global)) →
     find (slice_cmp nat_cmp) name (map (λ e. (string_bytes e.0, e.1.items)) es)

@@ -1,9 +1,5 @@
-use Rattle.std.proofs.Common.{◌≡◌, ℕ, zero, suc, ◌<◌, ◌&&◌, Bool, true, false, not, List, [], ◌∷◌, length, refl, arith}
-use Rattle.std.specs.Prelude.{nat_le, IsUtf8}
-use Rattle.std.specs.Str.{IsAscii}
-use Rattle.std.specs.List.{list_all}
-use Rattle.std.proofs.lemmas.Str.{IsUtf8-from_ascii}
-use Rattle.mic_base.specs.Prelude.{is_name, is_name_byte, begins_digit}
+use Rattle.mic_base.proofs.Common.{◌≡◌, ℕ, zero, suc, ◌<◌, ◌&&◌, Bool, true, false, not, List, [], ◌∷◌, length, refl, arith, nat_le, IsUtf8, IsAscii, list_all}
+use Rattle.mic_base.proofs.Common.{IsUtf8-from_ascii, is_name, is_name_byte, begins_digit}
 
 name_byte_small : (b : ℕ) → is_name_byte b ≡ true → b < 128
 name_byte_small b h = grind arith

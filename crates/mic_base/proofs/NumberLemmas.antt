@@ -1,11 +1,6 @@
-use Rattle.std.proofs.Common.{◌≡◌, ◌≢◌, ℕ, zero, suc, pos, ◌/◌, ◌%◌, ◌^◌, ◌<◌, ◌≤◌, ◌&&◌, Bool, true, false, not, List, [], ◌∷◌, length, None, Ok, refl, arith}
-use Rattle.std.specs.Char.{digit_char, is_digit}
-use Rattle.std.specs.List.{list_all, position, prefix_len}
-use Rattle.std.proofs.lemmas.Bool.{lt-ltb, le-ltb, ne_eqb}
-use Rattle.std.proofs.lemmas.List.Folds.{list_all-append}
-use Rattle.std.proofs.lemmas.Str.{digit_value-digit_char}
-use Rattle.std.proofs.Math.Nat.{pow-suc, pow-zero}
-use Rattle.mic_base.specs.Prelude.{value_of, hex_text, number_of, quoted}
+use Rattle.mic_base.proofs.Common.{◌≡◌, ◌≢◌, ℕ, zero, suc, pos, ◌/◌, ◌%◌, ◌^◌, ◌<◌, ◌≤◌, ◌&&◌, Bool, true, false, not, List, [], ◌∷◌, length, None, Ok, refl}
+use Rattle.mic_base.proofs.Common.{arith, digit_char, is_digit, list_all, position, prefix_len, lt-ltb, le-ltb, ne_eqb, list_all-append, digit_value-digit_char}
+use Rattle.mic_base.proofs.Common.{pow-suc, pow-zero, value_of, hex_text, number_of, quoted}
 use Rattle.mic_base.proofs.DigitLemmas.{value_of-push, length-hex_text}
 
 one_digit : (d : ℕ) → d < 16 → (is_digit (digit_char d) 16 && true) ≡ true

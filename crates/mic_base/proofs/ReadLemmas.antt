@@ -1,7 +1,5 @@
 -- What a read did, by what its answer became.
-use Rattle.std.proofs.Common.{◌≡◌, ℕ, true, false, List, Option, Some, None, Result, Ok, Err, refl, sym, subst}
-use Rattle.std.specs.Prelude.{IfOk, IsErr}
-use Rattle.mic_base.specs.Prelude.{ReadsNext}
+use Rattle.mic_base.proofs.Common.{◌≡◌, ℕ, true, false, List, Option, Some, None, Result, Ok, Err, refl, sym, subst, IfOk, IsErr, ReadsNext}
 
 pub reads_as : {D E : Type 0} (old new : Option (List ℕ)) (answer : Result (Option ℕ) D) (result : Result (Option ℕ) E) →
     IfOk answer (λ next. result ≡ Ok next) → (IsErr answer → IsErr result) → ReadsNext old answer new → ReadsNext old result new

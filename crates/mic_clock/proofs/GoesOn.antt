@@ -1,10 +1,7 @@
 -- What the last flush of an ended run leaves.
-use Rattle.std.specs.Prelude.{Result, Err, IsOk, OnOk, IfErr}
-use Rattle.std.proofs.Common.{◌≡◌, inl, inr, ℕ, List, [], Option, Some, None, IsSome, sym, ◌∙◌, ap, subst}
-use Rattle.console_port.specs.Prelude.{HasFaultCause, SinkGoesOn}
-use Rattle.console_port.specs.declared.fault.BusFault.{BusFault}
+use Rattle.mic_clock.proofs.Common.{Result, Err, IsOk, OnOk, IfErr, ◌≡◌, inl, inr, ℕ, List, [], Option, Some, None, IsSome, sym, ◌∙◌, ap, subst, HasFaultCause}
+use Rattle.mic_clock.proofs.Common.{SinkGoesOn, BusFault, End}
 use Rattle.console_port.specs.declared.fault.BusFault.TheVariants as faults
-use Rattle.mic_clock.specs.declared.end.End.{End}
 use Rattle.mic_clock.specs.declared.end.End.TheVariants as ends
 use Rattle.mic_clock.specs.Prelude.{BoardView, HasEndCause, GoesOn, IsOnlyFlushed, cause-flushed, cause-lost, goes-flushed}
 use Rattle.mic_clock.proofs.Reach.{by_done, no_err, fault_cases}

@@ -1,8 +1,6 @@
 -- How far the cycles of a run go.
-use Rattle.std.proofs.Common.{◌≡◌, ◌⊎◌, inl, inr, ℕ, ◌+◌, ◌<◌, ◌≤◌, Bool, true, false, if◌then◌else◌, Option, Some, None, IsSome, refl, sym, ap, subst, arith}
-use Rattle.mic_clock.specs.declared.counts.Counts.{Counts}
-use Rattle.mic_clock.specs.declared.end.End.{End}
-use Rattle.mic_clock.specs.declared.registers.Registers.{Registers}
+use Rattle.mic_clock.proofs.Common.{◌≡◌, ◌⊎◌, inl, inr, ℕ, ◌+◌, ◌<◌, ◌≤◌, Bool, true, false, if◌then◌else◌, Option, Some, None, IsSome, refl, sym, ap, subst}
+use Rattle.mic_clock.proofs.Common.{arith, Counts, End, Registers}
 use Rattle.mic_clock.specs.Prelude.{Meaning, last_cycles, counts_at, counts_between, counts_after, InTime}
 
 -- after a clocked cycle

@@ -1,10 +1,6 @@
 -- Turns that need neither a source nor a sink, one after the other.
-use Rattle.std.specs.Prelude.{nat_le}
-use Rattle.std.proofs.Common.{◌≡◌, ◌≤◌, ◌<◌, max, suc, ℕ, ◌+◌, ◌-◌, List, Bool, true, false, if◌then◌else◌, Option, Some, None, refl, sym, ◌∙◌, ap, subst, arith}
-use Rattle.std.proofs.lemmas.Bool.Decides.{nat_tests}
-use Rattle.micro_word.specs.Prelude.{ControlStore}
-use Rattle.mic_clock.specs.declared.counts.Counts.{Counts}
-use Rattle.mic_clock.specs.declared.end.End.{End}
+use Rattle.mic_clock.proofs.Common.{nat_le, ◌≡◌, ◌≤◌, ◌<◌, max, suc, ℕ, ◌+◌, ◌-◌, List, Bool, true, false, if◌then◌else◌, Option, Some, None, refl, sym, ◌∙◌}
+use Rattle.mic_clock.proofs.Common.{ap, subst, arith, nat_tests, ControlStore, Counts, End}
 use Rattle.mic_clock.specs.declared.end.End.TheVariants as ends
 use Rattle.mic_clock.specs.Prelude.{Meaning, BoardView, MicroRun, word_at, bounded, bounded_by, ShowsRun, ShowsAs, IsReached, InTime, IsTurnedInside, IsRunInside, IsStill, NoFault, IsLedTo-map}
 use Rattle.mic_clock.proofs.InTime.{InTime-step}

@@ -1,7 +1,5 @@
 -- The turns of one instruction.
-use Rattle.std.proofs.Common.{◌≡◌, inl, inr, zero, suc, ℕ, List, None, false, refl, ◌∙◌, ap, subst, arith}
-use Rattle.std.proofs.lemmas.Bool.{cases_lt}
-use Rattle.std.specs.Prelude.{Option}
+use Rattle.mic_clock.proofs.Common.{◌≡◌, inl, inr, zero, suc, ℕ, List, None, false, refl, ◌∙◌, ap, subst, arith, cases_lt, Option}
 use Rattle.mic_clock.specs.Prelude.{Meaning, BoardView, MicroRun, turns, IsInside, IsLeg, ShowsRun, IsLedTo, Leads, IsLedTo-map}
 
 module _ {State : Type 0} (m : Meaning State) (words : List ℕ) where

@@ -1,9 +1,7 @@
 -- How a run goes on on a board, and where a fault cuts it.
-use Rattle.std.specs.Prelude.{Result, Ok, Err, IsOk, OnOk, IfErr}
-use Rattle.std.proofs.Common.{◌≡◌, ◌⊎◌, inl, inr, zero, suc, ℕ, List, Bool, Option, Some, None, IsSome, refl, sym, ◌∙◌, ap, subst}
-use Rattle.console_port.specs.Prelude.{Untaken}
+use Rattle.mic_clock.proofs.Common.{Result, Ok, Err, IsOk, OnOk, IfErr, ◌≡◌, ◌⊎◌, inl, inr, zero, suc, ℕ, List, Bool, Option, Some, None, IsSome, refl, sym}
+use Rattle.mic_clock.proofs.Common.{◌∙◌, ap, subst, Untaken, End}
 use Rattle.console_port.specs.declared.fault.BusFault.TheVariants as faults
-use Rattle.mic_clock.specs.declared.end.End.{End}
 use Rattle.mic_clock.specs.declared.end.End.TheVariants as ends
 use Rattle.mic_clock.specs.Prelude.{Meaning, ReadsConsole, UsesConsole, BoardView, MicroRun, end_before, word_at, turn, turns, bounded, buses_of, ShowsRun, IsLedTo, IsCut, IsCutByRead, IsCutByWrite, Leads, NoFault, IsReached, IsTurned, ShowsAs, BoundIsCutByWrite, IsCutAt, TurnIsCut, RunIsCutByWrite, is_completed, front_lost, turn_by_ended, turns-suc, bounded-world, IsLedTo-map, Leads-flushed, Leads-on}
 

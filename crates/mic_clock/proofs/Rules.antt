@@ -1,12 +1,6 @@
 -- The counts and the turns of `Run` are those of the rule.
-use Rattle.std.proofs.Common.{◌≡◌, ◌≢◌, ℕ, ◌+◌, ◌≤◌, Bool, true, false, ◌&&◌, ◌==◌, if◌then◌else◌, List, Option, Some, None, IsSome, is_some, add-zero, refl, sym, ◌∙◌, ap, subst, arith}
-use Rattle.std.specs.Prelude.{nat_le}
-use Rattle.std.proofs.lemmas.Bool.{eq-eqb, ne_eqb}
-use Rattle.std.proofs.lemmas.Bool.Decides.{nat_tests}
-use Rattle.console_port.specs.Prelude.{fault_of}
-use Rattle.mic_clock.specs.declared.counts.Boundary.{Boundary}
-use Rattle.mic_clock.specs.declared.counts.Counts.{Counts}
-use Rattle.mic_clock.specs.declared.end.End.{End}
+use Rattle.mic_clock.proofs.Common.{◌≡◌, ◌≢◌, ℕ, ◌+◌, ◌≤◌, Bool, true, false, ◌&&◌, ◌==◌, if◌then◌else◌, List, Option, Some, None, IsSome, is_some, add-zero}
+use Rattle.mic_clock.proofs.Common.{refl, sym, ◌∙◌, ap, subst, arith, nat_le, eq-eqb, ne_eqb, nat_tests, fault_of, Boundary, Counts, End}
 use Rattle.mic_clock.specs.declared.end.End.TheVariants as ends
 use Rattle.mic_clock.specs.declared.end.Tick.TheVariants as ticks
 use Rattle.mic_clock.specs.Prelude.{tick_of, Meaning, Outcome, Done, Refused, MicroRun, number_of, since, completes, end_by, counts_ended, counts_after, counts_at, counts_between, end_before, word_at, after_step, after_end_or_step, turn, turn_by, turn_by_ended, EndsBefore, CountsEnd, CountsCycle, EndsAt, StepsTo, IsTurn}

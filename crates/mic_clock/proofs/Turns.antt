@@ -1,9 +1,7 @@
 -- Turns of a run.
-use Rattle.std.proofs.Common.{◌≡◌, ◌≢◌, ◌∙◌, ap, add_comm, ℕ, List, Bool, Option, Some, None, IsSome, refl, sym, subst}
-use Rattle.console_port.specs.Prelude.{World, fault_of, Shows, Stands, IsLed, IsFault, Untaken}
-use Rattle.console_port.specs.declared.fault.BusFault.{BusFault}
+use Rattle.mic_clock.proofs.Common.{◌≡◌, ◌≢◌, ◌∙◌, ap, add_comm, ℕ, List, Bool, Option, Some, None, IsSome, refl, sym, subst, World, fault_of, Shows, Stands}
+use Rattle.mic_clock.proofs.Common.{IsLed, IsFault, Untaken, BusFault, End}
 use Rattle.console_port.specs.declared.fault.BusFault.TheVariants as faults
-use Rattle.mic_clock.specs.declared.end.End.{End}
 use Rattle.mic_clock.specs.Prelude.{Meaning, Outcome, Done, Refused, refusal_in, MicroRun, word_at, end_by, end_before, counts_after, after_step, after_end_or_step, turn, turn_by, turns, turns-stay, BoardView, ShowsRun, IsLedTo, NoFault}
 
 -- a refusal ended the board, and no fault did

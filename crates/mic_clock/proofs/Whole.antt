@@ -1,13 +1,7 @@
 -- What the parts of a cycle come to: what its edge is handed, and that this edge is one of the same word and state, with the
 -- result that the cycle returns.
-use Rattle.std.proofs.Common.{◌≡◌, ℕ, List, Option, Result, Ok, Err, slice_index, ap, sym, subst, ◌∙◌}
+use Rattle.mic_clock.proofs.Common.{◌≡◌, ℕ, List, Option, Result, Ok, Err, slice_index, ap, sym, subst, ◌∙◌, BusView, BusFault, Machine, Lines, Computed, Drive}
 use Rattle.std.specs.Prelude.{⊤, IsErrAnd}
-use Rattle.console_port.specs.Prelude.{BusView}
-use Rattle.console_port.specs.declared.fault.BusFault.{BusFault}
-use Rattle.mic_words.specs.declared.machine.Machine.{Machine}
-use Rattle.micro_word.specs.declared.lines.Lines.{Lines}
-use Rattle.mic_clock.specs.declared.buses.Computed.{Computed}
-use Rattle.mic_clock.specs.declared.buses.Drive.{Drive}
 use Rattle.mic_clock.specs.Prelude.{IsAtEdge, IsDecoded, IsEdgeOver, Meaning, edge_passed, word_at}
 
 module _ {State : Type 0} (m : Meaning State) (s : State) where

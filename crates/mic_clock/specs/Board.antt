@@ -1,9 +1,7 @@
 -- A board between a source and a sink shows where a run stands; how the run goes on, and where a fault cuts it.
 use Rattle.std.specs.Prelude.{◌≡◌, ◌≢◌, ◌⊎◌, ℕ, suc, ◌+◌, ◌<◌, ◌≤◌, ◌==◌, if◌then◌else◌, Bool, true, false, List, [], ◌++◌, Option, Some, None, IfSome, IsSome, is_some, max}
-use Rattle.console_port.specs.Prelude.{BusView, Shows, Stands, ChangesOnly, Untaken, LosesLast, IsFault, SinkGoesOn, SourceGoesOn, World}
-use Rattle.console_port.specs.declared.fault.BusFault.{BusFault}
-use Rattle.console_port.specs.declared.fault.BusFault.TheVariants.{ReadFault, WriteFault}
-use Rattle.mic_base.specs.Prelude.{Rose}
+use Rattle.mic_clock.specs.Common.{BusView, Shows, Stands, ChangesOnly, Untaken, LosesLast, IsFault, SinkGoesOn, SourceGoesOn, World, BusFault, ReadFault}
+use Rattle.mic_clock.specs.Common.{WriteFault, Rose}
 use Rattle.mic_clock.specs.declared.counts.Counts.{Counts}
 use Rattle.mic_clock.specs.declared.end.End.{End}
 use Rattle.mic_clock.specs.declared.end.End.TheVariants as ends

@@ -1,8 +1,6 @@
 -- How far a cycle has come: a word with its control lines, and what is on the buses for it.
 use Rattle.std.specs.Prelude.{◌≡◌, ℕ, IsTrue}
-use Rattle.mic_words.specs.declared.machine.Machine.{Machine}
-use Rattle.micro_word.specs.Prelude.{AreLines, fields_of, is_canonical}
-use Rattle.micro_word.specs.declared.lines.Lines.{Lines}
+use Rattle.mic_clock.specs.Common.{Machine, AreLines, fields_of, is_canonical, Lines}
 use Rattle.mic_clock.specs.declared.buses.Computed.{Computed}
 use Rattle.mic_clock.specs.declared.buses.Drive.{Drive}
 use Rattle.mic_clock.specs.declared.phase.Phase.{Phase}

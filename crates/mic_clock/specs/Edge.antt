@@ -1,8 +1,6 @@
 -- What a clock edge comes to between a source and a sink, by the step of the word that was set up.
 use Rattle.std.specs.Prelude.{◌≡◌, ◌≢◌, ◌⊎◌, ◌<◌, ℕ, ⊤, Bool, true, false, List, [], length, Option, Some, Result, Ok, Err, OnOk, OnErr, IfErr}
-use Rattle.console_port.specs.Prelude.{BusView, World, Shows, Stands, IsLed, ChangesOnly, IsFault, most_kept}
-use Rattle.console_port.specs.declared.fault.BusFault.{BusFault}
-use Rattle.console_port.specs.declared.fault.BusFault.TheVariants.{ReadFault, WriteFault}
+use Rattle.mic_clock.specs.Common.{BusView, World, Shows, Stands, IsLed, ChangesOnly, IsFault, most_kept, BusFault, ReadFault, WriteFault}
 use Rattle.mic_clock.specs.Meaning.{Meaning, Done, refusal_in, ReadsConsole, UsesConsole}
 
 module _ {State : Type 0} (m : Meaning State) (word : ℕ) (s : State) (left held : Option (List ℕ)) (bus : BusView) where

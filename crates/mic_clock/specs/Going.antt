@@ -1,9 +1,7 @@
 -- Lemmas on what calls of a board, one after the other, leave of the board, its source and its sink.
 use Rattle.std.proofs.Common.{◌≡◌, ◌≢◌, ◌≤◌, ◌∙◌, ℕ, List, [], ◌++◌, Bool, Option, Some, None, refl, sym, ap, subst, take, drop, append_assoc, arith}
 use Rattle.std.specs.Prelude.{IfSome}
-use Rattle.std.proofs.Math.ListN.{take-append-drop}
-use Rattle.console_port.specs.Prelude.{IsLost, Given, LosesLast, SinkGoesOn, SourceGoesOn}
-use Rattle.mic_base.specs.Prelude.{Rose}
+use Rattle.mic_clock.specs.Common.{take-append-drop, IsLost, Given, LosesLast, SinkGoesOn, SourceGoesOn, Rose}
 use Rattle.mic_clock.specs.declared.end.End.{End}
 use Rattle.mic_clock.specs.declared.end.End.TheVariants as ends
 use Rattle.mic_clock.specs.Board.{GoesOn, HasEndCause, NoFault}

@@ -1,8 +1,6 @@
 -- What a clocked machine means: its microstep over the world, and what it shows of its state.
 use Rattle.std.specs.Prelude.{◌≡◌, ◌⊎◌, ℕ, Bool, List, [], ◌∷◌, ◌++◌, drop, Option, Some, None}
-use Rattle.console_port.specs.Prelude.{World, Refusal, fault_of}
-use Rattle.console_port.specs.declared.fault.BusFault.{BusFault}
-use Rattle.mic_words.specs.declared.machine.Machine.{Machine}
+use Rattle.mic_clock.specs.Common.{World, Refusal, fault_of, BusFault, Machine}
 use Rattle.mic_clock.specs.declared.buses.Drive.{Drive}
 use Rattle.mic_clock.specs.declared.buses.Computed.{Computed}
 use Rattle.mic_clock.specs.declared.registers.Registers.{Registers}

@@ -1,7 +1,6 @@
 -- A board in its parts, over which its turns go.
 use Rattle.std.specs.Prelude.{◌≡◌, Bool}
-use Rattle.console_port.specs.Prelude.{BusView}
-use Rattle.micro_word.specs.Prelude.{ControlStore}
+use Rattle.mic_clock.specs.Common.{BusView, ControlStore}
 use Rattle.mic_clock.specs.declared.counts.Counts.{Counts}
 use Rattle.mic_clock.specs.declared.running.Running.{Running}
 use Rattle.mic_clock.specs.declared.running.Tally.{Tally}

@@ -1,8 +1,7 @@
 -- Lemmas on a clock edge that fails, and on what a call returns for it.
 use Rattle.std.proofs.Common.{◌≡◌, ℕ, List, Option, Result, Ok, Err, sym, subst}
 use Rattle.std.specs.Prelude.{IsErrAnd}
-use Rattle.console_port.specs.Prelude.{BusView}
-use Rattle.console_port.specs.declared.fault.BusFault.{BusFault}
+use Rattle.mic_clock.specs.Common.{BusView, BusFault}
 use Rattle.mic_clock.specs.Edge.{IsEdge}
 use Rattle.mic_clock.specs.Meaning.{Meaning}
 

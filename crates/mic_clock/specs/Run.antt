@@ -1,8 +1,6 @@
 -- The clocked run of a machine over a world, turn by turn, with this profile's counts and ends. The rule that a turn keeps is in `Rule`.
 use Rattle.std.specs.Prelude.{◌≡◌, ℕ, zero, suc, ◌+◌, ◌-◌, ◌<◌, nat_le, ◌==◌, if◌then◌else◌, Bool, true, false, List, Option, Some, None, IsSome, is_some, slice_index}
-use Rattle.std.specs.Fn.{iterate}
-use Rattle.console_port.specs.Prelude.{World, fault_of}
-use Rattle.console_port.specs.declared.fault.BusFault.{BusFault}
+use Rattle.mic_clock.specs.Common.{iterate, World, fault_of, BusFault}
 use Rattle.console_port.specs.declared.fault.BusFault.TheVariants as faults
 use Rattle.mic_clock.specs.declared.buses.Drive.{Drive}
 use Rattle.mic_clock.specs.declared.buses.Computed.{Computed}

@@ -1,7 +1,6 @@
 -- The state line: a machine's registers by name, in one order, with their values in hexadecimal digits.
 use Rattle.std.specs.Prelude.{ℕ, List, [], ◌∷◌, ◌++◌, codes}
-use Rattle.std.specs.List.{flat_map}
-use Rattle.mic_base.specs.Prelude.{hex_text}
+use Rattle.mic_clock.specs.Common.{flat_map, hex_text}
 use Rattle.mic_clock.specs.declared.registers.Registers.{Registers}
 use Rattle.mic_clock.specs.declared.registers.Tail.{Tail}
 use Rattle.mic_clock.specs.declared.registers.Tail.TheVariants.{Mbr, Queue}

@@ -1,7 +1,6 @@
 -- What clauses see of a board, and of a machine that is clocked by subcycles.
 use Rattle.std.specs.Prelude.{ℕ, Option}
-use Rattle.console_port.specs.Prelude.{BusView}
-use Rattle.micro_word.specs.Prelude.{ControlStore}
+use Rattle.mic_clock.specs.Common.{BusView, ControlStore}
 use Rattle.mic_clock.specs.declared.counts.Counts.{Counts}
 use Rattle.mic_clock.specs.declared.end.End.{End}
 use Rattle.mic_clock.specs.declared.phase.Phase.{Phase}

@@ -1,8 +1,7 @@
 //! A machine with its control store and its bus, clocked, counted and ended.
 
-ghost use Rattle.mic_base.specs.Prelude.{IsFlushed};
+ghost use Rattle.mic_clock.specs.Common.{IsFlushed, Stands, KeepsMemoryAndInput, HasFaultCause, SinkGoesOn};
 ghost use Rattle.std.specs.Prelude.{◌≡◌, [], ◌<◌, ◌≤◌, ◌+◌, ◌^◌, ℕ, List, Option, None, Some, Err, IsOk, OnOk, IfErr, IsSome, true, false, length, max};
-ghost use Rattle.console_port.specs.Prelude.{Stands, KeepsMemoryAndInput, HasFaultCause, SinkGoesOn};
 ghost use Rattle.mic_clock.specs.Edge.{LetsBytesWait};
 ghost use Rattle.mic_clock.specs.Run.{MicroRun, start_counts, start_buses, bounded, word_at};
 ghost use Rattle.mic_clock.specs.Board.{ShowsAs, IsReset, NoFault, HasEndCause, tick_of, IsTurned, IsCutByFault, IsReached, IsRun, RunIsCutByRead, RunIsCutByWrite, BoundIsCutByWrite, IsLegRun, LegIsCutByRead, LegIsCutByWrite};

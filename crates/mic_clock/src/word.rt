@@ -1,8 +1,7 @@
 //! A word of a control store, for each machine a type of its own.
 
 ghost use Rattle.std.specs.Prelude.{◌≡◌, ℕ, IfSome, IfNone};
-ghost use Rattle.mic_words.specs.declared.machine.Machine.{Machine};
-ghost use Rattle.micro_word.specs.Prelude.{IsCanonical};
+ghost use Rattle.mic_clock.specs.Common.{Machine, IsCanonical};
 
 use micro_word::{Word1, Word2, decode1, decode2, encode1, encode2};
 

@@ -1,12 +1,7 @@
 -- What an access past the memory's words does at the console.
-use Rattle.std.proofs.Common.{◌≡◌, ℕ, ◌%◌, ◌≤◌, true, false, [], ◌∷◌, ◌++◌, drop, arith}
-use Rattle.std.specs.Prelude.{nat_lt}
-use Rattle.std.proofs.lemmas.Bool.Decides.{nat_tests}
-use Rattle.console_port.specs.Prelude.{World, untaken_after, given_after}
-use Rattle.micro_word.specs.declared.statement.Mem.{Mem}
+use Rattle.mic_datapath.proofs.Common.{◌≡◌, ℕ, ◌%◌, ◌≤◌, true, false, [], ◌∷◌, ◌++◌, drop, arith, nat_lt, nat_tests, World, untaken_after, given_after, Mem}
+use Rattle.mic_datapath.proofs.Common.{is_read, sampled, written, Ports}
 use Rattle.micro_word.specs.declared.statement.Mem.TheVariants as mems
-use Rattle.mic_datapath.specs.Prelude.{is_read, sampled, written}
-use Rattle.mic_datapath.specs.declared.ports.Ports.{Ports}
 
 off : (n at : ℕ) → n ≤ at → nat_lt at n ≡ false
 off n at behind = grind (arith, nat_tests)

@@ -1,3 +1,4 @@
+pub mod Common
 pub mod Jams
 pub mod Slots
 pub mod Sides

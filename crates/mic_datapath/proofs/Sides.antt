@@ -1,10 +1,7 @@
 -- An operation that does not use side B finds 0 there.
-use Rattle.std.proofs.Common.{◌≡◌, ℕ, ◌/◌, ◌%◌, ◌==◌, Bool, true, false, IsTrue, Option, Some, None, refl, sym, ap, ◌∙◌}
-use Rattle.micro_word.specs.Prelude.{fits_side, row}
-use Rattle.micro_word.specs.declared.statement.AluOp.{AluOp}
+use Rattle.mic_datapath.proofs.Common.{◌≡◌, ℕ, ◌/◌, ◌%◌, ◌==◌, Bool, true, false, IsTrue, Option, Some, None, refl, sym, ap, ◌∙◌, fits_side, row, AluOp}
+use Rattle.mic_datapath.proofs.Common.{BusSource, enabled}
 use Rattle.micro_word.specs.declared.statement.AluOp.TheVariants as ops
-use Rattle.micro_word.specs.declared.statement.BusSource.{BusSource}
-use Rattle.mic1_alu.specs.Prelude.{enabled}
 
 -- ENB is on for the operations that use side B
 enb : (op : AluOp) → ((row op).gates / 4 % 2 == 1) ≡ (row op).uses_b

@@ -1,8 +1,6 @@
 -- Two slots, and the places from a third destination on, hold the destinations of a word.
-use Rattle.std.proofs.Common.{◌≡◌, ◌≢◌, ◌⊎◌, ℕ, ◌<◌, ◌≤◌, Bool, true, false, if◌then◌else◌, List, length, slice_index, slice_set, inl, inr, refl, subst, sym, ap, ◌∙◌, arith, get_or-set_same, get_or-set_other}
-use Rattle.std.proofs.lemmas.List.{length-set}
-use Rattle.std.proofs.lemmas.Bool.{cases_eq, cases_lt}
-use Rattle.micro_word.specs.Prelude.{AreSlots, IsSlot, names}
+use Rattle.mic_datapath.proofs.Common.{◌≡◌, ◌≢◌, ◌⊎◌, ℕ, ◌<◌, ◌≤◌, Bool, true, false, if◌then◌else◌, List, length, slice_index, slice_set, inl, inr, refl}
+use Rattle.mic_datapath.proofs.Common.{subst, sym, ap, ◌∙◌, arith, get_or-set_same, get_or-set_other, length-set, cases_eq, cases_lt, AreSlots, IsSlot, names}
 
 slot_within : (c place : ℕ) → IsSlot c place → place < 16
 slot_within c place slot = elim (cases_eq place 15) [ inl is ↦ omega (arith, is) | inr other ↦ omega (arith, (slot other).0) ]

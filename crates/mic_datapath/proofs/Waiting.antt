@@ -1,12 +1,7 @@
 -- A read lets the bytes of the console wait, unless it is of the console.
-use Rattle.std.proofs.Common.{◌≡◌, ◌≢◌, ◌⊎◌, inl, inr, ◌<◌, ◌≤◌, ◌==◌, ℕ, List, [], ◌∷◌, None, refl, sym, subst, arith}
-use Rattle.std.specs.Prelude.{IsTrue}
-use Rattle.std.proofs.lemmas.Bool.{cases_lt, cases_Bool}
-use Rattle.std.proofs.lemmas.Bool.Decides.{nat_tests}
-use Rattle.console_port.specs.Prelude.{console_at, read_refusal}
-use Rattle.micro_word.specs.declared.statement.Mem.{Mem}
+use Rattle.mic_datapath.proofs.Common.{◌≡◌, ◌≢◌, ◌⊎◌, inl, inr, ◌<◌, ◌≤◌, ◌==◌, ℕ, List, [], ◌∷◌, None, refl, sym, subst, arith, IsTrue, cases_lt, cases_Bool}
+use Rattle.mic_datapath.proofs.Common.{nat_tests, console_at, read_refusal, Mem, memory_refusal, LetsBytesWait}
 use Rattle.micro_word.specs.declared.statement.Mem.TheVariants as mems
-use Rattle.mic_datapath.specs.Prelude.{memory_refusal, LetsBytesWait}
 
 -- a read that is not refused, and not of the memory, is of the console
 at_console : (n at : ℕ) → read_refusal n at ≡ None → n ≤ at → IsTrue (at == console_at)

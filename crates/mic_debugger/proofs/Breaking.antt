@@ -1,21 +1,13 @@
 -- Where a failing sink breaks a line off.
-use Rattle.std.proofs.Common.{◌≡◌, ◌≢◌, ◌⊎◌, inl, inr, zero, suc, ℕ, ◌+◌, ◌<◌, List, ◌++◌, append_assoc, Option, Some, None, IsSome, refl, sym, ◌∙◌, ap, subst, arith, Result, Ok, Err}
-use Rattle.std.specs.Prelude.{OnErr, OnOk, IfErr}
-use Rattle.console_port.specs.Prelude.{Stands}
-use Rattle.console_port.specs.declared.fault.BusFault.{BusFault}
+use Rattle.mic_debugger.proofs.Common.{◌≡◌, ◌≢◌, ◌⊎◌, inl, inr, zero, suc, ℕ, ◌+◌, ◌<◌, List, ◌++◌, append_assoc, Option, Some, None, IsSome, refl, sym, ◌∙◌}
+use Rattle.mic_debugger.proofs.Common.{ap, subst, arith, Result, Ok, Err, OnErr, OnOk, IfErr, Stands, BusFault, Counts, End, Meaning, MicroRun, bounded, turn}
+use Rattle.mic_debugger.proofs.Common.{turns, word_at, BoardView, ShowsRun, ShowsAs, IsLedTo, IsTurned, TurnIsCut, NoFault, EndsUncounted, no_fault, turns-suc}
+use Rattle.mic_debugger.proofs.Common.{turns-uncounted, HasCause, Puts, puts_first, puts_nothing, puts_passed, puts_then, Got, GotInPart, SinkState, Plan}
+use Rattle.mic_debugger.proofs.Common.{Shown, Until, front_given, front_lost, in_part, IsFrontOf}
 use Rattle.console_port.specs.declared.fault.BusFault.TheVariants as faults
-use Rattle.mic_clock.specs.declared.counts.Counts.{Counts}
-use Rattle.mic_clock.specs.declared.end.End.{End}
 use Rattle.mic_clock.specs.declared.end.End.TheVariants as ends
-use Rattle.mic_clock.specs.Prelude.{Meaning, MicroRun, bounded, turn, turns, word_at, BoardView, ShowsRun, ShowsAs, IsLedTo, IsTurned, TurnIsCut, NoFault, EndsUncounted, no_fault, turns-suc, turns-uncounted}
-use Rattle.mic_base.specs.Prelude.{HasCause, Puts, puts_first, puts_nothing, puts_passed, puts_then}
-use Rattle.cli_outside.specs.Prelude.{Got, GotInPart, SinkState}
-use Rattle.mic_debugger.specs.declared.plan.Plan.{Plan}
 use Rattle.mic_debugger.specs.declared.plan.Plan.TheVariants as plans
-use Rattle.mic_debugger.specs.declared.plan.Shown.{Shown}
-use Rattle.mic_debugger.specs.declared.until.Until.{Until}
 use Rattle.mic_debugger.specs.Prelude.{Book, IsBookOf, IsTold, after, passed, printed, turn_lines, turn_text, IsBrokenAt, IsCarriedOut, IsPlanBroken, plan_in, IsBrokenOff, SinkFailed, Streams, shown_text, Carries, IsPart, IsWhole, Rules, Stand, plan_at, rules_of, stand_in, HoldsFront, IsBroken, IsUnderway, StandsAfter, text_between, SessionView}
-use Rattle.cli_session.specs.Prelude.{front_given, front_lost, in_part, IsFrontOf}
 use Rattle.mic_debugger.proofs.Carrying.{led_on, same_plan, same_shown}
 use Rattle.mic_debugger.proofs.Underway.{going_more}
 

@@ -1,14 +1,8 @@
 -- How a plan leads the runs of a session on.
-use Rattle.std.proofs.Common.{◌≡◌, ◌≢◌, ◌⊎◌, ℕ, List, [], Bool, Option, None, Some, refl, sym, ◌∙◌, subst}
-use Rattle.mic_base.specs.Prelude.{Rose}
-use Rattle.console_port.specs.Prelude.{Untaken}
+use Rattle.mic_debugger.proofs.Common.{◌≡◌, ◌≢◌, ◌⊎◌, ℕ, List, [], Bool, Option, None, Some, refl, sym, ◌∙◌, subst, Rose, Untaken, Meaning, MicroRun, BoardView}
+use Rattle.mic_debugger.proofs.Common.{ShowsRun, ShowsAs, IsCutByRead, IsLedTo, SinkState, Plan, Shown, Until}
 use Rattle.mic_clock.specs.declared.end.End.TheVariants as ends
-use Rattle.mic_clock.specs.Prelude.{Meaning, MicroRun, BoardView, ShowsRun, ShowsAs, IsCutByRead, IsLedTo}
-use Rattle.cli_outside.specs.Prelude.{SinkState}
-use Rattle.mic_debugger.specs.declared.plan.Plan.{Plan}
 use Rattle.mic_debugger.specs.declared.plan.Plan.TheVariants as plans
-use Rattle.mic_debugger.specs.declared.plan.Shown.{Shown}
-use Rattle.mic_debugger.specs.declared.until.Until.{Until}
 use Rattle.mic_debugger.specs.Prelude.{Book, IsBookOf, after, printed, command_of, DoesTo, IsCarriedOut, IsPlanBroken, StopsTo, plan_in, breaks_after, plan_of, shown_text, watched_after, IsBroken, Carries, IsWhole, plan_at, rules_of, stand_in, GoesThrough, NoSinkFailed, SinkFailed, Streams, SessionView}
 
 -- a sink that failed after none had

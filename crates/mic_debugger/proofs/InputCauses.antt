@@ -1,8 +1,5 @@
 -- Why the count of the input rose.
-use Rattle.std.proofs.Common.{◌≡◌, ℕ, Option, None, refl, subst, ◌∙◌}
-use Rattle.mic_base.specs.Prelude.{Rose}
-use Rattle.mic_clock.specs.Prelude.{HasEndCause}
-use Rattle.mic_clock.specs.declared.end.End.{End}
+use Rattle.mic_debugger.proofs.Common.{◌≡◌, ℕ, Option, None, refl, subst, ◌∙◌, Rose, HasEndCause, End}
 use Rattle.mic_debugger.specs.Prelude.{HasReadCause}
 
 -- nothing was read yet

@@ -1,3 +1,4 @@
+pub mod Common
 pub mod Starting
 pub mod Placing
 pub mod Underway

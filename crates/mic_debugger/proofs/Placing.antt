@@ -1,7 +1,5 @@
 -- A placement has an address for each statement.
-use Rattle.std.proofs.Common.{◌≡◌, ℕ, List, length, ◌∙◌}
-use Rattle.std.proofs.lemmas.List.{length-map}
-use Rattle.mal_parser.specs.Prelude.{MalView}
+use Rattle.mic_debugger.proofs.Common.{◌≡◌, ℕ, List, length, ◌∙◌, length-map, MalView}
 use Rattle.store_placement.specs.Prelude.{Places, demands_of}
 
 pub placed_count : (program : MalView) (placement : List ℕ) → Places (demands_of program) placement → length placement ≡ length program.statements

@@ -1,10 +1,6 @@
 -- At the start of a reached instruction nothing else stands.
-use Rattle.std.proofs.Common.{◌≡◌, ◌≢◌, ℕ, ◌<◌, refl, ap, arith}
-use Rattle.ijvm_image.specs.Prelude.{ImageView}
-use Rattle.verifier_facts.specs.Prelude.{Accepts, Code, Header, IsKind, first}
-use Rattle.verifier_facts.specs.declared.kind.Kind.{Kind}
+use Rattle.mic_debugger.proofs.Common.{◌≡◌, ◌≢◌, ℕ, ◌<◌, refl, ap, arith, ImageView, Accepts, Code, Header, IsKind, first, Kind, Overlap}
 use Rattle.verifier_facts.specs.declared.kind.Kind.TheVariants as kinds
-use Rattle.verifier_facts.specs.declared.error.VerifyError.TheVariants.{Overlap}
 
 pub start_alone : (image : ImageView) (stack_end : ℕ) → Accepts image stack_end → (at : ℕ) (kind : Kind) →
     (kind ≡ kinds.Start → ⊥) → IsKind image at kind → IsKind image at kinds.Start → ⊥

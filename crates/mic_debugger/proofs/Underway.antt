@@ -1,10 +1,9 @@
 -- A clocking command under way, turn by turn.
-use Rattle.std.proofs.Common.{◌≡◌, ◌⊎◌, inl, inr, suc, ℕ, ◌+◌, ◌<◌, List, [], ◌++◌, Option, Some, None, IsSome, refl, sym, ◌∙◌, ap, subst, arith}
+use Rattle.mic_debugger.proofs.Common.{◌≡◌, ◌⊎◌, inl, inr, suc, ℕ, ◌+◌, ◌<◌, List, [], ◌++◌, Option, Some, None, IsSome, refl, sym, ◌∙◌, ap, subst, arith}
+use Rattle.mic_debugger.proofs.Common.{Meaning, MicroRun, word_at, turn, turns, bounded, BoardView, ShowsRun, IsLedTo, IsCutByRead, Leads, turns-suc, Until}
 use Rattle.std.proofs.lemmas.Bool.{cases_lt}
 use Rattle.mic_clock.specs.declared.end.End.TheVariants as ends
-use Rattle.mic_clock.specs.Prelude.{Meaning, MicroRun, word_at, turn, turns, bounded, BoardView, ShowsRun, IsLedTo, IsCutByRead, Leads, turns-suc}
 use Rattle.mic_debugger.specs.declared.plan.Plan.TheVariants as plans
-use Rattle.mic_debugger.specs.declared.until.Until.{Until}
 use Rattle.mic_debugger.specs.Prelude.{Book, turn_text, counted_turn, after, turn_lines, passed, printed, IsDone, IsGoing, text_between, IsUnderway, IsStopped}
 
 module _ {M State : Type 0} (state : M → State) (m : Meaning State) (book : Book) (words breaks : List ℕ) (bound : ℕ) (u : Until) (times : ℕ) where

@@ -1,12 +1,6 @@
 -- What names the words of a control store and the instructions of a text in the lines of a session.
 use Rattle.std.specs.Prelude.{◌≡◌, ℕ, ◌<◌, List, Some, length, slice_index, codes, unwrap_or, option_map}
-use Rattle.ijvm_image.specs.Prelude.{ImageView}
-use Rattle.ijvm_instr.specs.Prelude.{instr_at, instr_text}
-use Rattle.ijvm_instr.specs.declared.instr.Instr.{Instr}
-use Rattle.verifier_facts.specs.Prelude.{IsKind}
-use Rattle.verifier_facts.specs.declared.kind.Kind.TheVariants.{Start}
-use Rattle.mal_parser.specs.Prelude.{parts_text, fallback_of, MalView, label_at}
-use Rattle.store_placement.specs.Prelude.{IsAtNone}
+use Rattle.mic_debugger.specs.Common.{ImageView, instr_at, instr_text, Instr, IsKind, Start, parts_text, fallback_of, MalView, label_at, IsAtNone}
 use Rattle.mic_debugger.specs.View.{ListingView}
 
 -- the label and the text of the statement at each address of the store, and the instruction at each byte address of the text

@@ -1,17 +1,10 @@
 -- How the clocking commands of a session go on in a clocked run, turn by turn, and what they print.
 use Rattle.std.specs.Prelude.{◌≡◌, ◌⊎◌, ℕ, zero, suc, ◌+◌, ◌<◌, ◌==◌, ◌&&◌, ◌||◌, Bool, true, false, not, List, [], ◌++◌, Option, Some, None, IsSome, is_some, codes, slice_get, if◌then◌else◌}
-use Rattle.std.specs.List.{list_any}
-use Rattle.mic_clock.specs.declared.counts.Boundary.{Boundary}
-use Rattle.mic_clock.specs.declared.counts.Counts.{Counts}
-use Rattle.mic_clock.specs.declared.end.End.{End}
-use Rattle.mic_clock.specs.declared.registers.Registers.{Registers}
-use Rattle.mic_clock.specs.Prelude.{Meaning, MicroRun, since, number_of, word_at, turns}
-use Rattle.cli_outside.specs.Prelude.{Got, GotInPart}
+use Rattle.mic_debugger.specs.Common.{list_any, Boundary, Counts, End, Registers, Meaning, MicroRun, since, number_of, word_at, turns, Got, GotInPart, end_line}
 use Rattle.mic_debugger.specs.declared.until.Until.{Until}
 use Rattle.mic_debugger.specs.declared.until.Until.TheVariants as until
 use Rattle.mic_debugger.specs.declared.until.Watched.{Watched}
 use Rattle.mic_debugger.specs.Book.{Book}
-use Rattle.cli_session.specs.Prelude.{end_line}
 use Rattle.mic_debugger.specs.Lines.{clocked_line, registers_line, place_line, next_line}
 
 -- ---- what is waited for

@@ -1,9 +1,7 @@
 -- The commands of a session: their table, and how a line is read by it.
 use Rattle.std.specs.Prelude.{ℕ, List, [], ◌∷◌, Option, Result}
-use Rattle.cli_session.specs.declared.reading.Command.{Command}
-use Rattle.cli_session.specs.declared.reading.CommandError.{CommandError}
+use Rattle.mic_debugger.specs.Common.{Command, CommandError, command_in, CommandForm, command_form}
 use Rattle.cli_session.specs.declared.table.Argument.TheVariants as arguments
-use Rattle.cli_session.specs.Prelude.{command_in, CommandForm, command_form}
 use Rattle.mic_debugger.specs.declared.table.Verb.{Verb}
 use Rattle.mic_debugger.specs.declared.table.Verb.TheVariants as verbs
 

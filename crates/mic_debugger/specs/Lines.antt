@@ -1,12 +1,6 @@
 -- The lines of a session, as bytes. Words have 8 hexadecimal digits in lower case, addresses of the control store 3.
 use Rattle.std.specs.Prelude.{ℕ, suc, zero, ◌+◌, ◌-◌, min, max, Bool, List, [], ◌++◌, Option, Some, None, codes, if◌then◌else◌}
-use Rattle.std.specs.Fmt.{decimal}
-use Rattle.mic_base.specs.Prelude.{hex_text}
-use Rattle.mic_clock.specs.declared.counts.Boundary.{Boundary}
-use Rattle.mic_clock.specs.declared.counts.Counts.{Counts}
-use Rattle.mic_clock.specs.declared.registers.Registers.{Registers}
-use Rattle.mic_clock.specs.Prelude.{state_line}
-use Rattle.cli_session.specs.Prelude.{word_line}
+use Rattle.mic_debugger.specs.Common.{decimal, hex_text, Boundary, Counts, Registers, state_line, word_line}
 use Rattle.mic_debugger.specs.Book.{Book}
 
 -- the text of a cycle's statement, `stall` where the cycle was a stall

@@ -1,9 +1,6 @@
 -- What a session does with a line.
 use Rattle.std.specs.Prelude.{◌≡◌, ℕ, List, [], Option}
-use Rattle.mic_base.specs.Prelude.{IsFlushed}
-use Rattle.mic_clock.specs.Prelude.{Meaning, MicroRun, BoardView, ShowsRun}
-use Rattle.cli_outside.specs.Prelude.{GotInPart}
-use Rattle.cli_session.specs.Prelude.{IsFrontOf}
+use Rattle.mic_debugger.specs.Common.{IsFlushed, Meaning, MicroRun, BoardView, ShowsRun, GotInPart, IsFrontOf}
 use Rattle.mic_debugger.specs.declared.plan.Plan.{Plan}
 use Rattle.mic_debugger.specs.declared.plan.Plan.TheVariants as plans
 use Rattle.mic_debugger.specs.declared.until.Until.{Until}

@@ -1,10 +1,7 @@
 -- How a call on the board of a session comes out, between the input of its program and the two sinks.
 use Rattle.std.specs.Prelude.{◌≡◌, ◌≢◌, ◌⊎◌, ℕ, List, Option, None, Some, Result, OnOk, OnErr}
-use Rattle.mic_base.specs.Prelude.{Rose, KeepsFront}
-use Rattle.console_port.specs.Prelude.{StaysFlushed}
+use Rattle.mic_debugger.specs.Common.{Rose, KeepsFront, StaysFlushed, MicroRun, BoardView, IsLedTo, Got, SinkState, SourceState, sink_of, source_of}
 use Rattle.mic_clock.specs.declared.end.End.TheVariants as ends
-use Rattle.mic_clock.specs.Prelude.{MicroRun, BoardView, IsLedTo}
-use Rattle.cli_outside.specs.Prelude.{Got, SinkState, SourceState, sink_of, source_of}
 use Rattle.mic_debugger.specs.Book.{Book, IsBookOf}
 use Rattle.mic_debugger.specs.View.{ListingView}
 

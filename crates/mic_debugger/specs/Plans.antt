@@ -1,17 +1,10 @@
 -- What a line of a session comes to, what is shown, and what it leaves of breakpoints and the watched word.
 use Rattle.std.specs.Prelude.{ℕ, ◌==◌, ◌&&◌, Bool, not, List, [], ◌∷◌, ◌++◌, length, filter, nat_lt, slice_get, if◌then◌else◌, Option, Some, None, option_map, is_some, Result, Ok, Err, codes}
-use Rattle.std.specs.List.{list_any}
-use Rattle.mic_clock.specs.declared.counts.Counts.{Counts}
-use Rattle.mic_clock.specs.declared.end.End.{End}
-use Rattle.mic_clock.specs.declared.registers.Registers.{Registers}
-use Rattle.mic_clock.specs.Prelude.{state_line}
+use Rattle.mic_debugger.specs.Common.{list_any, Counts, End, Registers, state_line, Command, CommandError, BadCommand, BadNumber}
 use Rattle.mic_debugger.specs.Book.{Book}
 use Rattle.mic_debugger.specs.Lines.{stack_text, where_line}
 use Rattle.mic_debugger.specs.declared.table.Verb.{Verb}
 use Rattle.mic_debugger.specs.declared.table.Verb.TheVariants as verbs
-use Rattle.cli_session.specs.declared.reading.Command.{Command}
-use Rattle.cli_session.specs.declared.reading.CommandError.{CommandError}
-use Rattle.cli_session.specs.declared.reading.CommandError.TheVariants.{BadCommand, BadNumber}
 use Rattle.mic_debugger.specs.declared.plan.Plan.{Plan}
 use Rattle.mic_debugger.specs.declared.plan.Plan.TheVariants as plans
 use Rattle.mic_debugger.specs.declared.plan.Shown.{Shown}

@@ -1,12 +1,8 @@
 -- Where a session leads a board, and what it prints.
 use Rattle.std.specs.Prelude.{◌≡◌, ◌≢◌, ◌⊎◌, ℕ, ◌+◌, ◌<◌, Bool, List, ◌++◌, Option, Some, Result, OnOk, OnErr, IfOk}
-use Rattle.mic_base.specs.Prelude.{HasCause, Rose, KeepsFront, Puts}
-use Rattle.mic_clock.specs.declared.counts.Counts.{Counts}
-use Rattle.mic_clock.specs.declared.end.End.{End}
-use Rattle.mic_clock.specs.Prelude.{Meaning, MicroRun, number_of, word_at, turns, BoardView, ShowsRun, IsCutByRead}
+use Rattle.mic_debugger.specs.Common.{HasCause, Rose, KeepsFront, Puts, Counts, End, Meaning, MicroRun, number_of, word_at, turns, BoardView, ShowsRun}
+use Rattle.mic_debugger.specs.Common.{IsCutByRead, Got, GotInPart, IsFrontOf, end_line}
 use Rattle.mic_clock.specs.declared.end.End.TheVariants as ends
-use Rattle.cli_outside.specs.Prelude.{Got, GotInPart}
-use Rattle.cli_session.specs.Prelude.{IsFrontOf, end_line}
 use Rattle.mic_debugger.specs.declared.until.Until.{Until}
 use Rattle.mic_debugger.specs.Book.{Book, ByBook, IsBookOf}
 use Rattle.mic_debugger.specs.Clocking.{first_piece, second_piece, turn_text, counted_turn, after, printed, passed, IsGoing, IsTold}

@@ -1,8 +1,6 @@
 -- What a session shows of its board where nothing is clocked.
 use Rattle.std.specs.Prelude.{ℕ, List, ◌++◌, Option, Result, codes}
-use Rattle.mic_base.specs.Prelude.{Puts}
-use Rattle.mic_clock.specs.declared.registers.Registers.{Registers}
-use Rattle.mic_clock.specs.Prelude.{Meaning, state_line, BoardView}
+use Rattle.mic_debugger.specs.Common.{Puts, Registers, Meaning, state_line, BoardView}
 use Rattle.mic_debugger.specs.declared.plan.Shown.{Shown}
 use Rattle.mic_debugger.specs.Book.{ByBook}
 use Rattle.mic_debugger.specs.Lines.{stack_text}

@@ -1,9 +1,6 @@
 -- What clauses see of a listing and of a session.
 use Rattle.std.specs.Prelude.{ℕ, List, Option}
-use Rattle.ijvm_image.specs.Prelude.{ImageView}
-use Rattle.mal_parser.specs.Prelude.{MalView}
-use Rattle.mic_clock.specs.Prelude.{BoardView}
-use Rattle.verifier_facts.specs.Prelude.{VerifiedView}
+use Rattle.mic_debugger.specs.Common.{ImageView, MalView, BoardView, VerifiedView}
 
 pub record ListingView : Type 0 where
   pub program : MalView

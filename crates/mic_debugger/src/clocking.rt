@@ -2,9 +2,8 @@
 
 ghost use Rattle.std.specs.Prelude.{◌≡◌, ◌⊎◌, ◌<◌, ◌≤◌, ◌+◌, ◌^◌, ◌==◌, ◌-◌, ℕ, Option, Some, None, OnOk, OnErr, IsSome, false, true};
 ghost use Rattle.std.specs.List.{list_any};
-ghost use Rattle.mic_base.specs.Prelude.{HasCause, KeepsFront};
-ghost use Rattle.mic_clock.specs.Prelude.{number_of, GoesOn, InTime, IsBelow, IsCountedTurn, IsTurned, KeepsInTime, RunIsCutByRead, TurnIsCut};
-ghost use Rattle.cli_session.specs.Prelude.{end_line};
+ghost use Rattle.mic_debugger.specs.Common.{HasCause, KeepsFront, number_of, GoesOn, InTime, IsBelow, IsCountedTurn, IsTurned, KeepsInTime, RunIsCutByRead};
+ghost use Rattle.mic_debugger.specs.Common.{TurnIsCut, end_line};
 ghost use Rattle.mic_debugger.specs.Clocking.{comes, has_break, has_changed, is_at_boundary};
 ghost use Rattle.mic_debugger.specs.Session.{HasReadCause, IsFirstPiece, IsPrinted, IsSecondPiece, PutsTurn};
 ghost use Rattle.mic_debugger.specs.Obeys.{IsCarriedOut, IsPlanBroken, session_at};

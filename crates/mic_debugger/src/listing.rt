@@ -1,9 +1,7 @@
 //! What names the words of the control store and the instructions of the program.
 
 ghost use Rattle.std.specs.Prelude.{◌≡◌, ◌<◌, ◌≤◌, ◌+◌, ◌++◌, length, Some, None, codes};
-ghost use Rattle.store_placement.specs.Prelude.{Places, demands_of};
-ghost use Rattle.verifier_facts.specs.Prelude.{IsKind};
-ghost use Rattle.mic_base.specs.Prelude.{hex_text};
+ghost use Rattle.mic_debugger.specs.Common.{Places, demands_of, IsKind, hex_text};
 ghost use Rattle.mic_debugger.specs.Book.{BeginsAt, ByBook, unused_text};
 ghost use Rattle.mic_debugger.specs.Lines.{clocked_line, cycle_text, place_line, place_text, next_line};
 ghost use Rattle.mic_debugger.specs.View.{listing_of};

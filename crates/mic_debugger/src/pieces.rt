@@ -1,8 +1,7 @@
 //! Lines of a session that are put to a sink.
 
 ghost use Rattle.std.specs.Prelude.{◌≡◌, ◌++◌, ◌<◌, ◌+◌, ◌^◌};
-ghost use Rattle.mic_base.specs.Prelude.{HasCause, KeepsFront, Puts};
-ghost use Rattle.cli_session.specs.Prelude.{word_line};
+ghost use Rattle.mic_debugger.specs.Common.{HasCause, KeepsFront, Puts, word_line};
 ghost use Rattle.mic_debugger.specs.Lines.{registers_line, word_lines};
 
 use cli_outside::put_after;

@@ -1,10 +1,8 @@
 //! A session: a board, what names its words and instructions, and what the student has set.
 
 ghost use Rattle.std.specs.Prelude.{◌≡◌, ◌≤◌, ◌+◌, ◌^◌, ◌++◌, ℕ, [], Some, None, OnOk, OnErr, IfOk, IsErr, min, codes};
-ghost use Rattle.mic_base.specs.Prelude.{HasCause, IsFlushed, KeepsFront, Puts};
-ghost use Rattle.store_placement.specs.Prelude.{Places, demands_of, IsFilled};
-ghost use Rattle.console_port.specs.Prelude.{SinkGoesOn, KeepsMemoryAndInput};
-ghost use Rattle.mic_clock.specs.Prelude.{AreCounts, ShowsAs};
+ghost use Rattle.mic_debugger.specs.Common.{HasCause, IsFlushed, KeepsFront, Puts, Places, demands_of, IsFilled, SinkGoesOn, KeepsMemoryAndInput, AreCounts};
+ghost use Rattle.mic_debugger.specs.Common.{ShowsAs};
 ghost use Rattle.mic_debugger.specs.Outcome.{HasSinkCause, KeepFronts, streams};
 ghost use Rattle.mic_debugger.specs.Commands.{command_of};
 ghost use Rattle.mic_debugger.specs.Shown.{PutsShown, registers_text, stack_of};

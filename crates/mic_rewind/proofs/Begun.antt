@@ -1,10 +1,6 @@
 -- Kept cycles with where each of them began.
 use Rattle.std.proofs.Common.{◌≡◌, ap, refl, ℕ, zero, suc, List, [], ◌∷◌, ◌++◌, length, take, drop, arith, Some}
-use Rattle.std.proofs.lemmas.Grind.{common_steps}
-use Rattle.std.specs.List.{slice_get}
-use Rattle.mic_rewind.specs.declared.kept_cycle.KeptCycle.{KeptCycle}
-use Rattle.mic_rewind.specs.declared.moment.Moment.{Moment}
-use Rattle.mic_rewind.specs.Prelude.{Cycle, begun, cycles_from, led_from}
+use Rattle.mic_rewind.proofs.Common.{common_steps, slice_get, KeptCycle, Moment, Cycle, begun, cycles_from, led_from}
 
 pub begun-length : (m : Moment) (cs : List KeptCycle) → length (cycles_from m cs) ≡ length cs
 begun-length m [] = refl

@@ -1,11 +1,7 @@
 -- What a history keeps of a board that was clocked.
 use Rattle.std.proofs.Common.{◌≡◌, ◌∙◌, sym, ap, subst, refl, ℕ, zero, suc, ◌≤◌, ◌+◌, ◌-◌, ◌++◌, drop, length, arith, rules, Bool, true, false, if◌then◌else◌, List, [], ◌∷◌, Option, Some, None, IsSome, slice_get}
-use Rattle.console_port.specs.Prelude.{ChangesOnly}
-use Rattle.mic_clock.specs.Prelude.{Meaning, BoardView, EndsUncounted, IsCounted}
-use Rattle.mic_clock.specs.declared.counts.Counts.{Counts}
-use Rattle.mic_clock.specs.declared.end.End.{End}
-use Rattle.mic_rewind.specs.declared.moment.Moment.{Moment}
-use Rattle.mic_rewind.specs.Prelude.{Snapshot, stored, GoesBack, HistoryView, appended, HasAddress, HaveAddresses, IsRewind, moment_of, state_of, newest, last_of}
+use Rattle.mic_rewind.proofs.Common.{ChangesOnly, Meaning, BoardView, EndsUncounted, IsCounted, Counts, End, Moment, Snapshot, stored, GoesBack, HistoryView}
+use Rattle.mic_rewind.proofs.Common.{appended, HasAddress, HaveAddresses, IsRewind, moment_of, state_of, newest, last_of}
 use Rattle.mic_rewind.proofs.Changes.{stored_is}
 
 pub emptied : (ss : List Snapshot) → length ss ≤ 0 → ss ≡ []

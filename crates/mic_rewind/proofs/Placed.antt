@@ -1,12 +1,7 @@
 -- The cursor among kept cycles that are known by where the first of them began.
 use Rattle.std.proofs.Common.{◌≡◌, ◌∙◌, sym, ap, subst, refl, ℕ, suc, ◌+◌, ◌-◌, ◌<◌, ◌≤◌, List, [], ◌∷◌, ◌++◌, length, take, drop, arith, Some, None}
-use Rattle.std.proofs.lemmas.Grind.{common_steps}
-use Rattle.std.specs.List.{slice_get}
-use Rattle.circular_buffer.specs.Buffer.{Buffer, buffer, keep_last}
-use Rattle.mic_clock.specs.Prelude.{tick_of}
-use Rattle.mic_rewind.specs.declared.kept_cycle.KeptCycle.{KeptCycle}
-use Rattle.mic_rewind.specs.declared.moment.Moment.{Moment}
-use Rattle.mic_rewind.specs.Prelude.{Cycle, Fits, undone, redone, begun, cycles_from, led_from, AreKept, GoesBack, IsHistory, appended, begun_at, moment_at, view_from, view_of}
+use Rattle.mic_rewind.proofs.Common.{common_steps, slice_get, Buffer, buffer, keep_last, tick_of, KeptCycle, Moment, Cycle, Fits, undone, redone, begun}
+use Rattle.mic_rewind.proofs.Common.{cycles_from, led_from, AreKept, GoesBack, IsHistory, appended, begun_at, moment_at, view_from, view_of}
 use Rattle.mic_rewind.proofs.Begun.{begun-length, begun-get, led-get, begun-snoc, led-snoc, begun-drop, led-drop}
 use Rattle.mic_rewind.proofs.Zipping.{is_back, went_back, is_on, went_on, ticked, is_ahead, went_ahead}
 

@@ -1,10 +1,7 @@
 -- A buffer that holds a cycle more than can be gone back over.
 use Rattle.std.proofs.Common.{◌≡◌, ◌∙◌, sym, ap, refl, ℕ, zero, suc, ◌+◌, ◌-◌, ◌<◌, ◌≤◌, List, [], ◌∷◌, ◌++◌, length, take, drop, length-drop, arith, Some, None}
-use Rattle.std.specs.List.{slice_get}
-use Rattle.circular_buffer.specs.Buffer.{Buffer, buffer, keep_last}
-use Rattle.mic_rewind.specs.declared.kept_cycle.KeptCycle.{KeptCycle}
-use Rattle.mic_rewind.specs.declared.moment.Moment.{Moment}
-use Rattle.mic_rewind.specs.Prelude.{led_from, begun_at, first_in, kept_in, moment_at, spare, view_from}
+use Rattle.mic_rewind.proofs.Common.{slice_get, Buffer, buffer, keep_last, KeptCycle, Moment, led_from, begun_at, first_in, kept_in, moment_at, spare}
+use Rattle.mic_rewind.proofs.Common.{view_from}
 use Rattle.mic_rewind.proofs.Begun.{begun-length}
 use Rattle.mic_rewind.proofs.Zipping.{kept-length}
 

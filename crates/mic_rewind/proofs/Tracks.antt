@@ -1,7 +1,6 @@
 -- How the states of kept cycles change with the cycles and with the cursor.
 use Rattle.std.proofs.Common.{◌≡◌, sym, ap, subst, refl, ℕ, zero, suc, List, [], ◌∷◌, ◌++◌, length, drop}
-use Rattle.mic_rewind.specs.declared.moment.Moment.{Moment}
-use Rattle.mic_rewind.specs.Prelude.{Cycle, undone, redone, words_before, moment_before, states_before, states_after, Fits, LeadTo, LeadFrom}
+use Rattle.mic_rewind.proofs.Common.{Moment, Cycle, undone, redone, words_before, moment_before, states_before, states_after, Fits, LeadTo, LeadFrom}
 
 pub words_before-snoc : (cs : List Cycle) (c : Cycle) (words : List ℕ) → words_before (cs ++ c ∷ []) words ≡ words_before cs (undone c.written words)
 words_before-snoc [] c words = refl

@@ -1,14 +1,8 @@
 -- The cursor among kept cycles: what moves it, and what appends to them.
 use Rattle.std.proofs.Common.{◌≡◌, ◌∙◌, sym, ap, subst, refl, ℕ, zero, suc, ◌+◌, ◌-◌, ◌<◌, ◌≤◌, List, [], ◌∷◌, ◌++◌, length, take, drop, get_or, length-drop, arith, Some, None}
-use Rattle.std.proofs.lemmas.Grind.{common_steps}
-use Rattle.std.specs.List.{slice_get}
-use Rattle.std.specs.Option.{IsSome}
-use Rattle.std.proofs.Math.Seq.{take-suc, drop-cons}
-use Rattle.std.proofs.lemmas.Option.{get_or_from_slice_get, slice_get_within}
-use Rattle.circular_buffer.specs.Buffer.{Buffer, buffer, keep_last}
-use Rattle.mic_clock.specs.Prelude.{tick_of}
-use Rattle.mic_rewind.specs.declared.moment.Moment.{Moment}
-use Rattle.mic_rewind.specs.Prelude.{Cycle, undone, redone, states_before, states_after, Fits, LeadTo, LeadFrom, GoesBack, appended, past, future, view_of, IsHistory}
+use Rattle.mic_rewind.proofs.Common.{common_steps, slice_get, IsSome, take-suc, drop-cons, get_or_from_slice_get, slice_get_within, Buffer, buffer, keep_last}
+use Rattle.mic_rewind.proofs.Common.{tick_of, Moment, Cycle, undone, redone, states_before, states_after, Fits, LeadTo, LeadFrom, GoesBack, appended, past}
+use Rattle.mic_rewind.proofs.Common.{future, view_of, IsHistory}
 use Rattle.mic_rewind.proofs.Tracks.{states_before-snoc, states_before-length, states_after-length, states_before-drop, LeadTo-drop, LeadTo-last, LeadTo-front, LeadTo-snoc, back-before, back-after, back-leads}
 
 -- the items around the cycle at a place

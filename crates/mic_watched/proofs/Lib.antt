@@ -1,3 +1,4 @@
+pub mod Common
 pub mod Turns
 pub mod Shown
 pub mod Saying

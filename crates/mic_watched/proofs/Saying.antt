@@ -1,9 +1,6 @@
 -- The texts of a watcher for cycles one after the other.
-use Rattle.std.proofs.Common.{◌≡◌, ℕ, List, [], ◌∷◌, ◌++◌, ap, sym, ◌∙◌, append_assoc, refl, subst, Result, Ok, Option}
-use Rattle.std.proofs.lemmas.List.{append-nil}
-use Rattle.mic_base.specs.Prelude.{puts_nothing, puts_then, Puts, HasCause}
-use Rattle.mic_watched.specs.declared.cycle.Cycle.{Cycle}
-use Rattle.mic_watched.specs.Prelude.{kept_of, PrintsOf, Saw}
+use Rattle.mic_watched.proofs.Common.{◌≡◌, ℕ, List, [], ◌∷◌, ◌++◌, ap, sym, ◌∙◌, append_assoc, refl, subst, Result, Ok, Option, append-nil, puts_nothing}
+use Rattle.mic_watched.proofs.Common.{puts_then, Puts, HasCause, Cycle, kept_of, PrintsOf, Saw}
 
 module _ {Kept : Type 0} (keeps : Kept → Cycle → Kept) (Prints : Kept → Cycle → List ℕ → Type 0) where
   pub kept-append : (k : Kept) (cs ds : List Cycle) → kept_of keeps Prints k (cs ++ ds) ≡ kept_of keeps Prints (kept_of keeps Prints k cs) ds

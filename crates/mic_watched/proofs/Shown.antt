@@ -1,12 +1,9 @@
 -- The cycles between boards of a run.
-use Rattle.std.proofs.Common.{◌≡◌, ◌≢◌, ◌≤◌, inl, ℕ, zero, suc, List, [], ◌∷◌, ◌++◌, Option, Some, None, IsSome, refl, sym, ◌∙◌, ap, subst}
+use Rattle.mic_watched.proofs.Common.{◌≡◌, ◌≢◌, ◌≤◌, inl, ℕ, zero, suc, List, [], ◌∷◌, ◌++◌, Option, Some, None, IsSome, refl, sym, ◌∙◌, ap, subst, Counts, End}
+use Rattle.mic_watched.proofs.Common.{Cycle, shown_where, cycle_between, shown, cycles_of, boundary_in, boundary_of, cycle_on, shown_on, LeadsOver, ShowsCycles}
 use Rattle.console_port.specs.Prelude.{IsLost}
-use Rattle.mic_clock.specs.declared.counts.Counts.{Counts}
-use Rattle.mic_clock.specs.declared.end.End.{End}
 use Rattle.mic_clock.specs.declared.end.End.TheVariants as ends
 use Rattle.mic_clock.specs.Prelude.{Meaning, BoardView, MicroRun, last_cycles, word_at, turn, turns, bounded, buses_of, ShowsRun, ShowsAs, IsLedTo, IsCutAt, IsCutByRead, IsCutByWrite-lost, Leads, Leads-along, Leads-flushed, NoFault, IsTurned, RunIsCutByRead, TurnIsCut, IsCountedTurn}
-use Rattle.mic_watched.specs.declared.cycle.Cycle.{Cycle}
-use Rattle.mic_watched.specs.Prelude.{shown_where, cycle_between, shown, cycles_of, boundary_in, boundary_of, cycle_on, shown_on, LeadsOver, ShowsCycles}
 use Rattle.mic_watched.proofs.Turns.{cycles-plus, cycles-none, boundary-counted}
 
 where_same : (end : Option End) (c d : Cycle) → (end ≡ None → c ≡ d) → shown_where end c ≡ shown_where end d

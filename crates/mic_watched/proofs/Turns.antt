@@ -1,14 +1,8 @@
 -- Turns of a run, and the cycles that they show.
-use Rattle.std.proofs.Common.{◌≡◌, ◌+◌, ◌≤◌, ◌∙◌, ap, zero, suc, zero-add, add-zero, add-suc, ℕ, List, [], ◌++◌, length, length-append, append_assoc, Bool, true, false, if◌then◌else◌, Option, Some, None, refl, sym, subst, arith}
-use Rattle.std.proofs.lemmas.List.{append-nil, nil_from_length}
-use Rattle.std.proofs.lemmas.Bool.{eq-eqb, ne_eqb}
-use Rattle.mic_clock.specs.declared.counts.Boundary.{Boundary}
-use Rattle.mic_clock.specs.declared.counts.Counts.{Counts}
-use Rattle.mic_clock.specs.declared.end.End.{End}
-use Rattle.mic_clock.specs.declared.registers.Registers.{Registers}
+use Rattle.mic_watched.proofs.Common.{◌≡◌, ◌+◌, ◌≤◌, ◌∙◌, ap, zero, suc, zero-add, add-zero, add-suc, ℕ, List, [], ◌++◌, length, length-append, append_assoc}
+use Rattle.mic_watched.proofs.Common.{Bool, true, false, if◌then◌else◌, Option, Some, None, refl, sym, subst, arith, append-nil, nil_from_length, eq-eqb}
+use Rattle.mic_watched.proofs.Common.{ne_eqb, Boundary, Counts, End, Registers, Cycle, shown_where, cycle_between, shown, cycles_of, boundary_at, boundary_in}
 use Rattle.mic_clock.specs.Prelude.{Meaning, MicroRun, last_cycles, cycles_in, turns, turns-last, turns-plus, turns-suc, turn-counts, counts_at, counts_between, counts_after}
-use Rattle.mic_watched.specs.declared.cycle.Cycle.{Cycle}
-use Rattle.mic_watched.specs.Prelude.{shown_where, cycle_between, shown, cycles_of, boundary_at, boundary_in}
 
 module _ {State : Type 0} (m : Meaning State) (words : List ℕ) (bound : Option ℕ) where
   -- the cycles of turns, counted from the first one

@@ -1,13 +1,6 @@
 -- Environments that agree on the numbers of a sum.
-use Rattle.std.proofs.Common.{◌≡◌, ℕ, ◌+◌, ◌*◌, ◌<◌, List, [], ◌∷◌, refl, sym, ap, ◌∙◌}
-use Rattle.std.specs.List.{All}
-use Rattle.std.proofs.lemmas.List.Elements.{All-head, All-tail}
-use Rattle.std.proofs.lemmas.List.Sums.{sum_by-cons}
-use Rattle.mic_words.specs.Arithmetic.{wrap}
-use Rattle.micro_terms.specs.Ordered.{NamesSumBelow}
-use Rattle.micro_terms.specs.Value.{value, weight}
-use Rattle.micro_terms.specs.declared.part.Part.{Part}
-use Rattle.micro_terms.specs.declared.term.Term.{Term}
+use Rattle.micro_terms.proofs.Common.{◌≡◌, ℕ, ◌+◌, ◌*◌, ◌<◌, List, [], ◌∷◌, refl, sym, ap, ◌∙◌, All, All-head, All-tail, sum_by-cons, wrap, NamesSumBelow}
+use Rattle.micro_terms.proofs.Common.{value, weight, Part, Term}
 use Rattle.micro_terms.proofs.Weights.{part_weight}
 
 -- two environments have the same words below n

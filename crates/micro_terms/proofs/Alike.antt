@@ -1,8 +1,5 @@
 -- Parts that are written alike.
-use Rattle.std.proofs.Common.{◌≡◌, ◌&&◌, eqb, ap, ◌∙◌}
-use Rattle.std.specs.Bool.{Decides}
-use Rattle.std.proofs.lemmas.Bool.Decides.{Decides-and, Decides-eqb, Decides-like}
-use Rattle.micro_terms.specs.declared.part.Part.{Part}
+use Rattle.micro_terms.proofs.Common.{◌≡◌, ◌&&◌, eqb, ap, ◌∙◌, Decides, Decides-and, Decides-eqb, Decides-like, Part}
 
 one : (a b : Part) → (a.coefficient ≡ b.coefficient) × (a.number ≡ b.number) → a ≡ b
 one a b h =

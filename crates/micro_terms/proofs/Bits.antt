@@ -1,9 +1,6 @@
 -- The bits that two words share, and the bits that either has.
-use Rattle.std.proofs.Common.{◌≡◌, ℕ, ◌+◌, ◌-◌, ◌<◌, ◌%◌, ◌∙◌, ap, sym, arith}
-use Rattle.std.specs.Prelude.{bit_and, bit_or}
-use Rattle.std.specs.Int.Bits.{and_self, and_zero_l, or_add_and}
-use Rattle.mic_words.specs.Arithmetic.{wrap}
-use Rattle.std.proofs.lemmas.Nat.{and_assoc, and_comm, and_mask, and-not, and_le_l, or_of_32}
+use Rattle.micro_terms.proofs.Common.{◌≡◌, ℕ, ◌+◌, ◌-◌, ◌<◌, ◌%◌, ◌∙◌, ap, sym, arith, bit_and, bit_or, and_self, and_zero_l, or_add_and, wrap, and_assoc}
+use Rattle.micro_terms.proofs.Common.{and_comm, and_mask, and-not, and_le_l, or_of_32}
 
 pub and_all : (x : ℕ) → x < 4294967296 → bit_and 4294967295 x ≡ x
 and_all x h = and_comm 4294967295 x ∙ (and_mask x 32 ∙ (let e : x % 4294967296 ≡ x = omega arith in e))

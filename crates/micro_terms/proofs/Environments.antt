@@ -1,18 +1,10 @@
 -- An environment, built number by number.
-use Rattle.std.proofs.Common.{◌≡◌, ◌+◌, ◌-◌, [], ◌∷◌, ◌<◌, ◌≤◌, ◌==◌, ◌%◌, ◌/◌, ℕ, zero, suc, Bool, true, false, if◌then◌else◌, List, Some, length, get_or, refl, sym, ap, ◌∙◌, arith}
-use Rattle.std.specs.Prelude.{slice_get, slice_index, bit_and, drop}
-use Rattle.std.proofs.lemmas.Option.{slice_get_within, get_or_from_slice_get}
-use Rattle.std.proofs.lemmas.Nat.{and_le_l}
-use Rattle.mic_words.specs.Arithmetic.{half, signed_byte}
+use Rattle.micro_terms.proofs.Common.{◌≡◌, ◌+◌, ◌-◌, [], ◌∷◌, ◌<◌, ◌≤◌, ◌==◌, ◌%◌, ◌/◌, ℕ, zero, suc, Bool, true, false, if◌then◌else◌, List, Some, length}
+use Rattle.micro_terms.proofs.Common.{get_or, refl, sym, ap, ◌∙◌, arith, slice_get, slice_index, bit_and, drop, slice_get_within, get_or_from_slice_get}
+use Rattle.micro_terms.proofs.Common.{and_le_l, half, signed_byte, value, Environment, Fits, IsNode, word_of_kind, Kind, Node, Free, Sum, Other, NamesKindBelow}
+use Rattle.micro_terms.proofs.Common.{NamesBelow, AreOrdered, HasEnvironments}
 use Rattle.console_port.specs.World.{World, byte_in, byte_of, next_byte}
-use Rattle.micro_terms.specs.Value.{value}
-use Rattle.micro_terms.specs.Environment.{Environment}
-use Rattle.micro_terms.specs.Meaning.{Fits, IsNode, word_of_kind}
-use Rattle.micro_terms.specs.declared.node.Kind.{Kind}
 use Rattle.micro_terms.specs.declared.node.Kind.TheVariants as kinds
-use Rattle.micro_terms.specs.declared.node.Node.{Node}
-use Rattle.micro_terms.specs.declared.node.Node.TheVariants.{Free, Sum, Other}
-use Rattle.micro_terms.specs.Ordered.{NamesKindBelow, NamesBelow, AreOrdered, HasEnvironments}
 use Rattle.micro_terms.proofs.Agreement.{Agree, values_agree}
 use Rattle.micro_terms.proofs.Weights.{value_lt}
 

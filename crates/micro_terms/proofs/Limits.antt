@@ -1,14 +1,8 @@
 -- A byte's greatest word.
-use Rattle.std.proofs.Common.{◌≡◌, ◌<◌, ◌≤◌, ◌%◌, ◌/◌, ◌-◌, ◌^◌, ℕ, ◌&&◌, true, if◌then◌else◌, List, Option, Some, None, refl, arith}
-use Rattle.std.specs.Prelude.{slice_get, slice_index}
+use Rattle.micro_terms.proofs.Common.{◌≡◌, ◌<◌, ◌≤◌, ◌%◌, ◌/◌, ◌-◌, ◌^◌, ℕ, ◌&&◌, true, if◌then◌else◌, List, Option, Some, None, refl, arith, slice_get}
+use Rattle.micro_terms.proofs.Common.{slice_index, Environment, Fits, IsIn, IsLimited, end_of, is_byte_node, limit_of, Node, Free, Sum, Other, Range}
 use Rattle.console_port.specs.World.{byte_in, byte_of}
-use Rattle.micro_terms.specs.Environment.{Environment}
-use Rattle.micro_terms.specs.Meaning.{Fits}
-use Rattle.micro_terms.specs.Ranges.{IsIn, IsLimited, end_of, is_byte_node, limit_of}
 use Rattle.micro_terms.specs.declared.node.Kind.TheVariants as kinds
-use Rattle.micro_terms.specs.declared.node.Node.{Node}
-use Rattle.micro_terms.specs.declared.node.Node.TheVariants.{Free, Sum, Other}
-use Rattle.micro_terms.specs.declared.range.Range.{Range}
 
 rest_small : (y : ℕ) → y % 256 < 256
 rest_small y = omega arith

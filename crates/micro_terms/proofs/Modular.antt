@@ -1,8 +1,5 @@
 -- Sums and products modulo 2^32.
-use Rattle.std.proofs.Common.{◌≡◌, ℕ, ◌+◌, ◌-◌, ◌*◌, ◌<◌, ◌%◌, refl, ap, ◌∙◌, arith}
-use Rattle.std.proofs.Math.Nat.{mul_comm, mul_assoc, add-mul}
-use Rattle.std.proofs.lemmas.Nat.{mul-mod_first, mul-mod_second}
-use Rattle.mic_words.specs.Arithmetic.{wrap}
+use Rattle.micro_terms.proofs.Common.{◌≡◌, ℕ, ◌+◌, ◌-◌, ◌*◌, ◌<◌, ◌%◌, refl, ap, ◌∙◌, arith, mul_comm, mul_assoc, add-mul, mul-mod_first, mul-mod_second, wrap}
 
 -- a factor may be cut to a word
 pub cut_first : (a x : ℕ) → wrap (wrap a * x) ≡ wrap (a * x)

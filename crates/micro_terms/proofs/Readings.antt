@@ -1,15 +1,6 @@
 -- A term's word and its reading over the whole numbers.
-use Rattle.std.proofs.Common.{◌≡◌, ℕ, ◌+◌, ◌-◌, ◌*◌, ◌<◌, ◌≤◌, ◌%◌, Bool, true, false, cond, List, [], ◌∷◌, refl, sym, ap, ◌∙◌, ltb, arith}
-use Rattle.std.specs.List.{sum_by}
-use Rattle.std.proofs.Math.Nat.{add-mul}
-use Rattle.std.proofs.lemmas.List.Sums.{sum_by-cons}
-use Rattle.std.proofs.lemmas.Nat.{mul-le}
-use Rattle.mic_words.specs.Arithmetic.{wrap}
-use Rattle.micro_terms.specs.declared.part.Part.{Part}
-use Rattle.micro_terms.specs.declared.range.Range.{Range}
-use Rattle.micro_terms.specs.declared.term.Term.{Term}
-use Rattle.micro_terms.specs.Ranges.{share, side, IsWithin}
-use Rattle.micro_terms.specs.Value.{value, weight}
+use Rattle.micro_terms.proofs.Common.{◌≡◌, ℕ, ◌+◌, ◌-◌, ◌*◌, ◌<◌, ◌≤◌, ◌%◌, Bool, true, false, cond, List, [], ◌∷◌, refl, sym, ap, ◌∙◌, ltb, arith, sum_by}
+use Rattle.micro_terms.proofs.Common.{add-mul, sum_by-cons, mul-le, wrap, Part, Range, Term, share, side, IsWithin, value, weight}
 use Rattle.micro_terms.proofs.Modular.{cut_first, sums}
 use Rattle.micro_terms.proofs.Weights.{part_weight, value_lt}
 

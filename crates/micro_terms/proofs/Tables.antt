@@ -1,9 +1,6 @@
 -- A table with one node more.
-use Rattle.std.proofs.Common.{◌≡◌, ℕ, ◌<◌, List, [], ◌∷◌, ◌++◌, Some, length, ap, ◌∙◌, arith}
-use Rattle.std.specs.Prelude.{slice_get}
-use Rattle.std.proofs.lemmas.Option.{slice_get_within, slice_get-get_or, get_or_from_slice_get}
-use Rattle.std.proofs.lemmas.List.{length_push, get_or_push, get_or_append_left}
-use Rattle.micro_terms.specs.declared.node.Node.{Node}
+use Rattle.micro_terms.proofs.Common.{◌≡◌, ℕ, ◌<◌, List, [], ◌∷◌, ◌++◌, Some, length, ap, ◌∙◌, arith, slice_get, slice_get_within, slice_get-get_or}
+use Rattle.micro_terms.proofs.Common.{get_or_from_slice_get, length_push, get_or_push, get_or_append_left, Node}
 
 pub still_there : (xs : List Node) (x : Node) (i : ℕ) (a : Node) → slice_get xs i ≡ Some a → slice_get (xs ++ x ∷ []) i ≡ Some a
 still_there xs x i a h =

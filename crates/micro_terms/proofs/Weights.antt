@@ -1,13 +1,7 @@
 -- The weight of a list of parts after each change of it.
-use Rattle.std.proofs.Common.{◌≡◌, ℕ, ◌+◌, ◌*◌, ◌%◌, ◌<◌, ◌≤◌, List, [], ◌∷◌, ◌++◌, length, take, take_all, get_or, set, refl, sym, ap, ◌∙◌, arith}
-use Rattle.std.proofs.Math.Nat.{mul-add, mul_comm, zero-mul}
-use Rattle.std.proofs.lemmas.Nat.{mul-mod_first}
-use Rattle.std.proofs.lemmas.List.Sums.{sum_by_push, sum_by_more, sum_by-set, sum_by-remove, sum_by-insert}
-use Rattle.std.specs.List.{insert, remove}
-use Rattle.mic_words.specs.Arithmetic.{wrap}
-use Rattle.micro_terms.specs.declared.term.Term.{Term}
-use Rattle.micro_terms.specs.declared.part.Part.{Part}
-use Rattle.micro_terms.specs.Value.{weight, value}
+use Rattle.micro_terms.proofs.Common.{◌≡◌, ℕ, ◌+◌, ◌*◌, ◌%◌, ◌<◌, ◌≤◌, List, [], ◌∷◌, ◌++◌, length, take, take_all, get_or, set, refl, sym, ap, ◌∙◌, arith}
+use Rattle.micro_terms.proofs.Common.{mul-add, mul_comm, zero-mul, mul-mod_first, sum_by_push, sum_by_more, sum_by-set, sum_by-remove, sum_by-insert, insert}
+use Rattle.micro_terms.proofs.Common.{remove, wrap, Term, Part, weight, value}
 use Rattle.micro_terms.proofs.Modular.{sums, scale, add, cut_second, wrap_wrap, wrap_lt, exchanged}
 
 -- one part's weight

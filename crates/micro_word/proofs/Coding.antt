@@ -1,18 +1,13 @@
 -- A valid statement is the one that its word's fields name, and a canonical word is that of the statement that its fields name.
-use Rattle.std.proofs.Common.{◌≡◌, ℕ, ◌<◌, Bool, true, false, not, ◌==◌, nat_lt, if◌then◌else◌, Option, Some, None, unwrap_or, is_some, IfSome, IfNone, IsTrue, refl, sym, ap, ◌∙◌, subst}
+use Rattle.micro_word.proofs.Common.{◌≡◌, ℕ, ◌<◌, Bool, true, false, not, ◌==◌, nat_lt, if◌then◌else◌, Option, Some, None, unwrap_or, is_some, IfSome, IfNone}
+use Rattle.micro_word.proofs.Common.{IsTrue, refl, sym, ap, ◌∙◌, subst, Machine, Mic1, Mic2, AluOp, BusSource, Placed, Fields}
 use Rattle.micro_word.proofs.Conditions.{both, join, below, above}
 use Rattle.micro_word.proofs.Sums.{Fitting, fields-word, fields_fit, word_with-lt, word-fields}
 use Rattle.micro_word.proofs.Parts.{row_back, gates_back, shift_back, shift_bits-shift_of, mem_back, mem_bits-mem_of, fetch_bit-lt, fetch_back, fetch_bit-back, bit_may_fetch, bus_back, bus_side, side-lt, side_fits, bus_code-back, a_back, a_side, a_code-lt, side_a_fits, a_code-back, NextBack, next_back, TargetBack, target_back}
 use Rattle.micro_word.specs.Prelude.{word_with, fields_of, row, operation_of_gates, op_of, shift_bits, shift_of, mem_bits, mem_of, fetch_bit, bus_code, source_of, a_code, a_of, codes, named, microword_of, statement_of, has_operation, may_be_a, may_be_b, fits_side, is_mixed, is_valid, IsCanonical, is_row, is_side, is_side_a, are_apart, is_target, is_one_at_most, are_canonical, word_end, is_canonical, decoded_as, SpellsWord}
 pub use Rattle.micro_word.specs.Words.{Valid}
-use Rattle.mic_words.specs.declared.machine.Machine.{Machine}
-use Rattle.mic_words.specs.declared.machine.Machine.TheVariants.{Mic1, Mic2}
-use Rattle.micro_word.specs.declared.statement.AluOp.{AluOp}
 use Rattle.micro_word.specs.declared.statement.AluOp.TheVariants as ops
-use Rattle.micro_word.specs.declared.statement.BusSource.{BusSource}
 use Rattle.micro_word.specs.declared.statement.BusSource.TheVariants as bus
-use Rattle.micro_word.specs.declared.statement.Placed.{Placed}
-use Rattle.micro_word.specs.declared.layout.Fields.{Fields}
 
 -- a valid statement meets each condition
 pub valid : (machine : Machine) (p : Placed) → IsTrue (is_valid machine p) → Valid machine p

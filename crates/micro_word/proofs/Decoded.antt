@@ -1,10 +1,7 @@
 -- The lines of a control store stay those of its words.
-use Rattle.std.proofs.Common.{◌≡◌, ℕ, ◌<◌, IsTrue, List, length, replicate, slice_index, slice_set, get_or, subst, sym, inl, inr, get_or-set_same, get_or-set_other}
-use Rattle.std.proofs.lemmas.List.{get_or-replicate}
-use Rattle.std.proofs.lemmas.Bool.{cases_eq}
-use Rattle.mic_words.specs.declared.machine.Machine.{Machine}
+use Rattle.micro_word.proofs.Common.{◌≡◌, ℕ, ◌<◌, IsTrue, List, length, replicate, slice_index, slice_set, get_or, subst, sym, inl, inr, get_or-set_same}
+use Rattle.micro_word.proofs.Common.{get_or-set_other, get_or-replicate, cases_eq, Machine, Lines}
 use Rattle.micro_word.specs.Prelude.{fields_of, AreLines, AreCanonical, AreDecoded, is_canonical}
-use Rattle.micro_word.specs.declared.lines.Lines.{Lines}
 
 both : (machine : Machine) (w v : ℕ) (l k : Lines) → w ≡ v → l ≡ k → AreLines machine (fields_of machine v) k → AreLines machine (fields_of machine w) l
 both machine w v l k words lines are =

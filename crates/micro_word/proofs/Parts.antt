@@ -1,20 +1,13 @@
 -- The code of each part, decoded, is that part again.
-use Rattle.std.proofs.Common.{◌≡◌, ℕ, zero, suc, ◌<◌, Bool, true, false, is_some, ◌||◌, ◌==◌, nat_lt, if◌then◌else◌, Option, Some, None, unwrap_or, IsTrue, refl, sym, ap, ◌∙◌, subst, arith}
-use Rattle.std.proofs.lemmas.Bool.Decides.{nat_tests}
+use Rattle.micro_word.proofs.Common.{◌≡◌, ℕ, zero, suc, ◌<◌, Bool, true, false, is_some, ◌||◌, ◌==◌, nat_lt, if◌then◌else◌, Option, Some, None, unwrap_or}
+use Rattle.micro_word.proofs.Common.{IsTrue, refl, sym, ap, ◌∙◌, subst, arith, nat_tests, Machine, Mic1, Mic2, AluOp, BusSource, Shift, Mem, PlacedNext}
 use Rattle.micro_word.proofs.Conditions.{both, equal, below, above, found}
 use Rattle.micro_word.proofs.Sums.{fetch_end, a_end}
 use Rattle.micro_word.specs.Prelude.{row, operation_of_gates, op_of, operations, shift_bits, shift_of, mem_bits, mem_of, fetch_bit, source_code, sources, is_code, bus_code, source_of, idle_code, a_code, a_of, jam_bits, addr_bits, decoded_next, is_h, may_be_a, may_be_b, fits_side, may_fetch, is_next, is_side, is_side_a, is_target, is_one_at_most}
-use Rattle.mic_words.specs.declared.machine.Machine.{Machine}
-use Rattle.mic_words.specs.declared.machine.Machine.TheVariants.{Mic1, Mic2}
-use Rattle.micro_word.specs.declared.statement.AluOp.{AluOp}
 use Rattle.micro_word.specs.declared.statement.AluOp.TheVariants as ops
-use Rattle.micro_word.specs.declared.statement.BusSource.{BusSource}
 use Rattle.micro_word.specs.declared.statement.BusSource.TheVariants as bus
-use Rattle.micro_word.specs.declared.statement.Shift.{Shift}
 use Rattle.micro_word.specs.declared.statement.Shift.TheVariants as shifts
-use Rattle.micro_word.specs.declared.statement.Mem.{Mem}
 use Rattle.micro_word.specs.declared.statement.Mem.TheVariants as mems
-use Rattle.micro_word.specs.declared.statement.PlacedNext.{PlacedNext}
 use Rattle.micro_word.specs.declared.statement.PlacedNext.TheVariants as nexts
 use Rattle.micro_word.specs.declared.statement.Test.TheVariants as tests
 

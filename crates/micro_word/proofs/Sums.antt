@@ -1,9 +1,6 @@
 -- The fields of a sum of fields.
 use Rattle.micro_word.specs.Prelude.{word_end, word_with, fields_of}
-use Rattle.std.proofs.Common.{◌≡◌, ℕ, ◌/◌, ◌%◌, ◌^◌, ◌<◌, arith}
-use Rattle.mic_words.specs.declared.machine.Machine.{Machine}
-use Rattle.mic_words.specs.declared.machine.Machine.TheVariants.{Mic1, Mic2}
-use Rattle.micro_word.specs.declared.layout.Fields.{Fields}
+use Rattle.micro_word.proofs.Common.{◌≡◌, ℕ, ◌/◌, ◌%◌, ◌^◌, ◌<◌, arith, Machine, Mic1, Mic2, Fields}
 
 -- where a machine's word has no such field, only 0 fits
 abbrev pub fetch_end : Machine → ℕ

@@ -1,13 +1,7 @@
 -- One more name in a list of names.
-use Rattle.std.proofs.Common.{◌≡◌, ℕ, ◌+◌, ◌<◌, Bool, true, false, List, [], ◌∷◌, ◌++◌, Option, Some, None, length, refl, sym, ap, ◌∙◌, cond, arith}
-use Rattle.std.specs.Prelude.{option_map}
-use Rattle.std.specs.Str.{bytes_eq}
-use Rattle.std.specs.Ordering.{nat_cmp}
-use Rattle.std.specs.Cmp.Lexicographic.{slice_cmp, texts_ties}
-use Rattle.std.specs.BTreeMap.{BTreeMap, get, is_at}
+use Rattle.source_text.proofs.Common.{◌≡◌, ℕ, ◌+◌, ◌<◌, Bool, true, false, List, [], ◌∷◌, ◌++◌, Option, Some, None, length, refl, sym, ap, ◌∙◌, cond, arith}
+use Rattle.source_text.proofs.Common.{option_map, bytes_eq, nat_cmp, slice_cmp, texts_ties, BTreeMap, get, is_at, length_push, ArePlaces, place_of_name}
 use Rattle.std.proofs.lemmas.Slice.Eq.{bytes_eq-Decides}
-use Rattle.std.proofs.lemmas.List.{length_push}
-use Rattle.source_text.specs.Prelude.{ArePlaces, place_of_name}
 
 -- a name that is not in a list is neither its first name nor one after it
 absent : (b : Bool) (o : Option ℕ) → cond b (Some 0) (option_map (λ i. i + 1) o) ≡ None → (b ≡ false) × (o ≡ None)

@@ -1,7 +1,6 @@
 -- Looking for a comment, place by place.
-use Rattle.std.proofs.Common.{◌≡◌, ℕ, zero, suc, ◌+◌, ◌-◌, ◌<◌, ◌≤◌, false, List, [], ◌∷◌, ◌++◌, take, drop, length, refl, ap, ◌∙◌, sym, arith}
-use Rattle.std.proofs.lemmas.List.{take_rest}
-use Rattle.source_text.specs.Prelude.{without_comment, begins_comment}
+use Rattle.source_text.proofs.Common.{◌≡◌, ℕ, zero, suc, ◌+◌, ◌-◌, ◌<◌, ◌≤◌, false, List, [], ◌∷◌, ◌++◌, take, drop, length, refl, ap, ◌∙◌, sym, arith}
+use Rattle.source_text.proofs.Common.{take_rest, without_comment, begins_comment}
 
 -- no comment begins before this place
 abbrev pub IsPassed : List ℕ → ℕ → Type 0

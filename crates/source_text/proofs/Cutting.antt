@@ -1,13 +1,7 @@
 -- The first line of a text.
-use Rattle.std.proofs.Common.{◌≡◌, ℕ, ◌+◌, ◌-◌, ◌<◌, ◌≤◌, false, List, [], ◌∷◌, take, drop, length, refl, ap, ◌∙◌, sym, arith, length-drop}
-use Rattle.std.specs.Prelude.{not, ◌==◌}
-use Rattle.std.specs.List.{prefix_len}
+use Rattle.source_text.proofs.Common.{◌≡◌, ℕ, ◌+◌, ◌-◌, ◌<◌, ◌≤◌, false, List, [], ◌∷◌, take, drop, length, refl, ap, ◌∙◌, sym, arith, length-drop, not, ◌==◌}
+use Rattle.source_text.proofs.Common.{prefix_len, fails_before_first, lines, lines_of_parts, strip_carriage_return, take_rest, nat_tests, before_more, parts}
 use Rattle.std.proofs.lemmas.List.Splits.{slice_split_first, slice_split_none}
-use Rattle.std.proofs.lemmas.List.Sums.{fails_before_first}
-use Rattle.std.specs.Str.Lines.{lines, lines_of_parts, strip_carriage_return}
-use Rattle.std.proofs.lemmas.List.{take_rest}
-use Rattle.std.proofs.lemmas.Bool.Decides.{nat_tests}
-use Rattle.source_text.specs.Prelude.{before_more, parts}
 
 -- how many bytes stand before the first newline
 abbrev pub len : List ℕ → ℕ

@@ -1,10 +1,8 @@
 -- What a line spells is what is read from it.
-use Rattle.std.proofs.Common.{◌≡◌, ℕ, zero, suc, ◌≤◌, ◌<◌, Bool, true, false, subst, List, [], ◌∷◌, ◌++◌, Option, Some, None, drop, take, length, refl, sym, ap, ◌∙◌, append_assoc, arith, length-drop}
-use Rattle.std.specs.Prelude.{option_map, option_and_then, ◌&&◌}
-use Rattle.std.specs.List.{list_all}
-use Rattle.std.proofs.lemmas.List.{append-nil, take-append-drop}
+use Rattle.source_text.proofs.Common.{◌≡◌, ℕ, zero, suc, ◌≤◌, ◌<◌, Bool, true, false, subst, List, [], ◌∷◌, ◌++◌, Option, Some, None, drop, take, length, refl}
+use Rattle.source_text.proofs.Common.{sym, ap, ◌∙◌, append_assoc, arith, length-drop, option_map, option_and_then, ◌&&◌, list_all, append-nil, take-append-drop}
+use Rattle.source_text.proofs.Common.{Table, extent, front_of, token_of, AreBlank, EndsLexeme, IsLexeme, Spells, is_blank, lex, cut_at, lex_blank, lex_token}
 use Rattle.std.proofs.Math.Seq.{take-append_seam, drop-append_seam}
-use Rattle.source_text.specs.Prelude.{Table, extent, front_of, token_of, AreBlank, EndsLexeme, IsLexeme, Spells, is_blank, lex, cut_at, lex_blank, lex_token}
 use Rattle.source_text.proofs.Shapes.{may_end, reaches, spells}
 
 -- the tokens that were read before, and those still read

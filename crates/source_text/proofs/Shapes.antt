@@ -1,10 +1,8 @@
 -- A token reaches as far as its first byte says, and what reaches so far has the shape of a token.
-use Rattle.std.proofs.Common.{◌≡◌, ℕ, ◌≤◌, Bool, true, false, inl, inr, List, [], ◌∷◌, ◌++◌, Some, drop, take, length, refl, arith, cond}
-use Rattle.std.specs.Prelude.{◌⊎◌}
-use Rattle.mic_base.specs.Prelude.{is_name_byte}
-use Rattle.source_text.specs.declared.table.Front.{Front}
+use Rattle.source_text.proofs.Common.{◌≡◌, ℕ, ◌≤◌, Bool, true, false, inl, inr, List, [], ◌∷◌, ◌++◌, Some, drop, take, length, refl, arith, cond, ◌⊎◌}
+use Rattle.source_text.proofs.Common.{is_name_byte, Front, run_all, run_passes, run_stops, quote_len, GoesOn, MayEnd, Table, extent, front_of, is_pair, reach}
+use Rattle.source_text.proofs.Common.{token_of, IsLexeme, is_blank}
 use Rattle.source_text.specs.declared.table.Front.TheVariants as fronts
-use Rattle.source_text.specs.Prelude.{run_all, run_passes, run_stops, quote_len, GoesOn, MayEnd, Table, extent, front_of, is_pair, reach, token_of, IsLexeme, is_blank}
 
 -- ---- after a single quote
 

@@ -1,7 +1,7 @@
 -- What is read from a text is what it says, and a text says one thing.
-use Rattle.std.proofs.Common.{◌≡◌, ℕ, suc, ◌+◌, List, [], ◌∷◌, ◌++◌, Option, Some, None, length, refl, sym, ap, subst, ◌∙◌, arith, inl, inr, length-append}
-use Rattle.std.specs.Prelude.{Result, Ok, Err}
-use Rattle.source_text.specs.Prelude.{contents, Spells, Grammar, IsRefused, IsRefusedBehind, SayAll, SaysLine, SpellsProgram, add_read, add_said, Agrees, IsReadAsSpelled, Makes, Parser, step, Leads, walk}
+use Rattle.source_text.proofs.Common.{◌≡◌, ℕ, suc, ◌+◌, List, [], ◌∷◌, ◌++◌, Option, Some, None, length, refl, sym, ap, subst, ◌∙◌, arith, inl, inr}
+use Rattle.source_text.proofs.Common.{length-append, Result, Ok, Err, contents, Spells, Grammar, IsRefused, IsRefusedBehind, SayAll, SaysLine, SpellsProgram}
+use Rattle.source_text.proofs.Common.{add_read, add_said, Agrees, IsReadAsSpelled, Makes, Parser, step, Leads, walk}
 use Rattle.source_text.proofs.Walking.{leads_walk, refused_walk}
 
 module _ {T F C P E S : Type 0} (G : Grammar T F C P E) (X : Parser T F C P E S) (start : S) (a : Agrees G X start) where

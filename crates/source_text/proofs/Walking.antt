@@ -1,7 +1,5 @@
 -- A walk over lines gives the last state where no line is refused, else the first refusal.
-use Rattle.std.proofs.Common.{◌≡◌, ℕ, ◌+◌, List, [], ◌∷◌, ◌++◌, length, refl, sym, ap, subst, ◌∙◌, arith, append_assoc, length-append}
-use Rattle.std.specs.Prelude.{Ok, Err}
-use Rattle.std.proofs.lemmas.List.{append-nil}
+use Rattle.std.proofs.Common.{◌≡◌, ℕ, ◌+◌, List, [], ◌∷◌, ◌++◌, length, refl, sym, ap, subst, ◌∙◌, arith, append_assoc, length-append, Ok, Err, append-nil}
 use Rattle.source_text.specs.Prelude.{Step, go_on, walk, Leads, FirstRefused, StopsAt}
 
 module _ {S E : Type 0} (step : Step S E) where

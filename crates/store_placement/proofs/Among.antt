@@ -1,8 +1,7 @@
 -- Elements of a list, and what holds of them.
-use Rattle.std.proofs.Common.{◌≡◌, ℕ, ◌+◌, ◌<◌, ◌≤◌, Bool, true, false, cond, ◌&&◌, ◌⊎◌, List, [], ◌∷◌, Option, Some, None, length, map, filter, get_or, take, refl, sym, ap, subst, ◌∙◌, inl, inr, zero, suc, arith}
-use Rattle.std.specs.List.{All, list_any, filter_map, cons_option, find, range_with_len}
-use Rattle.std.proofs.lemmas.Bool.{cases_eq, or_cases, or_left, or_parts, or_right}
-use Rattle.store_placement.specs.Prelude.{below}
+use Rattle.store_placement.proofs.Common.{◌≡◌, ℕ, ◌+◌, ◌<◌, ◌≤◌, Bool, true, false, cond, ◌&&◌, ◌⊎◌, List, [], ◌∷◌, Option, Some, None, length, map, filter}
+use Rattle.store_placement.proofs.Common.{get_or, take, refl, sym, ap, subst, ◌∙◌, inl, inr, zero, suc, arith, All, list_any, filter_map, cons_option, find}
+use Rattle.store_placement.proofs.Common.{range_with_len, cases_eq, or_cases, or_left, or_parts, or_right, below}
 
 abbrev pub Among : {X : Type 0} → X → List X → Type 0
 Among x [] = ⊥

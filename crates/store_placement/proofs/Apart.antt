@@ -1,11 +1,8 @@
 -- Lists of which no two elements clash, and how long they can be.
-use Rattle.std.proofs.Common.{◌≡◌, ◌≢◌, ℕ, ◌+◌, ◌<◌, ◌≤◌, Bool, true, false, cond, List, [], ◌∷◌, Option, Some, None, length, map, filter, take, eqb, refl, sym, ap, subst, ◌∙◌, inl, inr, zero, suc, arith}
-use Rattle.std.specs.Cmp.{nat_eq_equiv}
-use Rattle.std.specs.List.{IsDistinct, AllByRecursion, filter_map, cons_option, range_with_len}
-use Rattle.std.specs.Set.{is_member}
-use Rattle.std.proofs.lemmas.Bool.{ne_eqb, eq-eqb, eqb-true}
-use Rattle.std.proofs.lemmas.Map.Made.{length-le_from_is_member}
-use Rattle.store_placement.specs.Prelude.{below}
+use Rattle.store_placement.proofs.Common.{◌≡◌, ◌≢◌, ℕ, ◌+◌, ◌<◌, ◌≤◌, Bool, true, false, cond, List, [], ◌∷◌, Option, Some, None, length, map, filter, take}
+use Rattle.store_placement.proofs.Common.{eqb, refl, sym, ap, subst, ◌∙◌, inl, inr, zero, suc, arith, nat_eq_equiv, AllByRecursion, filter_map, cons_option}
+use Rattle.store_placement.proofs.Common.{range_with_len, is_member, ne_eqb, eq-eqb, eqb-true, length-le_from_is_member, below}
+use Rattle.std.specs.List.{IsDistinct}
 use Rattle.store_placement.proofs.Among.{Among, any_at, from_any, among-filter, among-filter_map, among-map, among_map, among-take, among-range}
 
 -- R holds of each element and each later one

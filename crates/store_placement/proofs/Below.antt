@@ -1,10 +1,7 @@
 -- Lists over the numbers below n, one number on.
-use Rattle.std.proofs.Common.{◌≡◌, ℕ, ◌+◌, Bool, true, false, cond, [], ◌∷◌, ◌++◌, Option, Some, None, length, map, filter, refl, sym, ap, ◌∙◌, arith}
-use Rattle.std.specs.List.{filter_map, cons_option, range_with_len}
-use Rattle.std.proofs.lemmas.List.{append-nil, map-id, map-append, length-map}
-use Rattle.std.proofs.lemmas.List.FromFn.{map-range_with_len_more, length-range_with_len}
-use Rattle.std.proofs.lemmas.List.Elements.{filter-append, filter_map-append}
-use Rattle.store_placement.specs.Prelude.{below}
+use Rattle.store_placement.proofs.Common.{◌≡◌, ℕ, ◌+◌, Bool, true, false, cond, [], ◌∷◌, ◌++◌, Option, Some, None, length, map, filter, refl, sym, ap, ◌∙◌}
+use Rattle.store_placement.proofs.Common.{arith, filter_map, cons_option, range_with_len, append-nil, map-id, map-append, length-map, map-range_with_len_more}
+use Rattle.store_placement.proofs.Common.{length-range_with_len, filter-append, filter_map-append, below}
 
 pub below_none : below 0 ≡ []
 unfolding below

@@ -1,12 +1,10 @@
 -- What the steps of placing leave is the chosen placement, and there is only one.
-use Rattle.std.proofs.Common.{◌≡◌, ℕ, ◌+◌, ◌<◌, ◌≤◌, Bool, true, false, cond, not, ◌&&◌, List, [], ◌∷◌, Option, Some, None, length, map, take, get_or, eqb, refl, sym, ap, subst, ◌∙◌, inl, inr, arith}
-use Rattle.std.specs.Prelude.{is_none}
-use Rattle.std.specs.Option.{option_or}
-use Rattle.std.specs.List.{list_any, All, filter, count_by}
-use Rattle.std.proofs.lemmas.Bool.{eq-eqb, or_left, or_right}
-use Rattle.std.proofs.lemmas.List.FromFn.{get_or-map-range_with_len, fill_by_all}
-use Rattle.store_placement.specs.declared.pair.Pair.{Pair}
-use Rattle.store_placement.specs.Prelude.{Demands, AreWithin, fixed_at, below, Never, NeverTwo, forced, all_forced, stands_in, clashes, in_wrong_half, collide, is_free_low, free_lows, free_addresses, open_pairs, is_single, singles, before_singles, IsChosen, IsChosenList, pair_address, with_pairs, with_free}
+use Rattle.store_placement.proofs.Common.{◌≡◌, ℕ, ◌+◌, ◌<◌, ◌≤◌, Bool, true, false, cond, not, ◌&&◌, List, [], ◌∷◌, Option, Some, None, length, map, take}
+use Rattle.store_placement.proofs.Common.{get_or, eqb, refl, sym, ap, subst, ◌∙◌, inl, inr, arith, is_none, option_or, list_any, All, count_by, eq-eqb, or_left}
+use Rattle.store_placement.proofs.Common.{or_right, get_or-map-range_with_len, fill_by_all, Pair, Demands, AreWithin, fixed_at, below, Never, NeverTwo, forced}
+use Rattle.store_placement.proofs.Common.{all_forced, stands_in, clashes, in_wrong_half, collide, is_free_low, free_lows, free_addresses, open_pairs, is_single}
+use Rattle.store_placement.proofs.Common.{singles, before_singles, IsChosen, IsChosenList, pair_address, with_pairs, with_free}
+use Rattle.std.specs.List.{filter}
 use Rattle.store_placement.proofs.Among.{Among, All-among, All-from_among, none_of, among-below, among_below, among-filter, among_filter}
 use Rattle.store_placement.proofs.Below.{length-map_below}
 use Rattle.store_placement.proofs.ForcedLemmas.{length-all_forced, at_all_forced}

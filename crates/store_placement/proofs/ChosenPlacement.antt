@@ -1,11 +1,10 @@
 -- The chosen placement is a placement, where nothing is refused.
-use Rattle.std.proofs.Common.{◌≡◌, ◌≢◌, ℕ, ◌+◌, ◌-◌, ◌<◌, Bool, true, false, cond, not, ◌&&◌, List, Option, Some, None, length, map, eqb, refl, sym, ap, subst, ◌∙◌, inl, inr, arith}
-use Rattle.std.specs.Prelude.{is_none}
-use Rattle.std.specs.List.{list_any, filter}
-use Rattle.std.proofs.lemmas.Bool.{eqb-true, eq-eqb, cases_lt, cases_eq, and_parts, not-true, or_parts, or_right}
-use Rattle.std.proofs.lemmas.List.{get_or_past}
-use Rattle.store_placement.specs.declared.pair.Pair.{Pair}
-use Rattle.store_placement.specs.Prelude.{Demands, fixed_at, below, NeverTwo, forced, all_forced, same_address, stands_in, is_pair_of, are_split, split_apart, collide, is_taken, is_free, is_free_low, free_lows, free_addresses, open_pairs, is_single, singles, before_singles, IsChosen, IsPlacement}
+use Rattle.store_placement.proofs.Common.{◌≡◌, ◌≢◌, ℕ, ◌+◌, ◌-◌, ◌<◌, Bool, true, false, cond, not, ◌&&◌, List, Option, Some, None, length, map, eqb, refl, sym}
+use Rattle.store_placement.proofs.Common.{ap, subst, ◌∙◌, inl, inr, arith, is_none, list_any, eqb-true, eq-eqb, cases_lt, cases_eq, and_parts, not-true}
+use Rattle.store_placement.proofs.Common.{or_parts, or_right, get_or_past, Pair, Demands, fixed_at, below, NeverTwo, forced, all_forced, same_address}
+use Rattle.store_placement.proofs.Common.{stands_in, is_pair_of, are_split, split_apart, collide, is_taken, is_free, is_free_low, free_lows, free_addresses}
+use Rattle.store_placement.proofs.Common.{open_pairs, is_single, singles, before_singles, IsChosen, IsPlacement}
+use Rattle.std.specs.List.{filter}
 use Rattle.store_placement.proofs.Among.{Among, All-among, All-from_among, any_at, from_any, none_of, right_false, among_map, among-take, among-filter, among_filter, among-below, among_below}
 use Rattle.store_placement.proofs.Apart.{Apart, Apart-below, Apart-weaker, Apart-filter, Apart-take, same_from_map}
 use Rattle.store_placement.proofs.ClearPairs.{AreClear, AreHalved, of_statements, stands_cases, one_role, fixed_high, fixed_low}

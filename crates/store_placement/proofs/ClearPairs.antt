@@ -1,8 +1,8 @@
 -- What holds where no statement stands in two pairs or in both roles, none is fixed in the wrong half, and no two collide.
-use Rattle.std.proofs.Common.{◌≡◌, ℕ, ◌<◌, ◌≤◌, true, false, cond, not, ◌&&◌, ◌⊎◌, List, Option, Some, length, eqb, refl, sym, ap, ◌∙◌, inl, inr, arith}
-use Rattle.std.proofs.lemmas.Bool.{eqb-true, eq-eqb, cases_lt, lt-ltb, le-ltb, and_from, and_parts, not-false, or_cases, or_left, or_parts, or_right}
-use Rattle.store_placement.specs.declared.pair.Pair.{Pair}
-use Rattle.store_placement.specs.Prelude.{AreWithin, IsOfStatements, fixed_at, same_pair, Never, stands_in, stands_beside, stands_twice, clashes, in_wrong_half, is_wrong, is_true_target, is_false_target}
+use Rattle.store_placement.proofs.Common.{◌≡◌, ℕ, ◌<◌, ◌≤◌, true, false, cond, not, ◌&&◌, ◌⊎◌, List, Option, Some, length, eqb, refl, sym, ap, ◌∙◌, inl, inr}
+use Rattle.store_placement.proofs.Common.{arith, eqb-true, eq-eqb, cases_lt, lt-ltb, le-ltb, and_from, and_parts, not-false, or_cases, or_left, or_parts}
+use Rattle.store_placement.proofs.Common.{or_right, Pair, AreWithin, IsOfStatements, fixed_at, same_pair, Never, stands_in, stands_beside, stands_twice}
+use Rattle.store_placement.proofs.Common.{clashes, in_wrong_half, is_wrong, is_true_target, is_false_target}
 use Rattle.store_placement.proofs.Among.{Among, All-among, any_at, none_of, right_false}
 
 -- the pairs are of statements, and no statement clashes

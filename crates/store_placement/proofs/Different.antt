@@ -1,7 +1,6 @@
 -- How many different elements a list has, one element on.
-use Rattle.std.proofs.Common.{◌≡◌, ℕ, ◌+◌, ◌<◌, Bool, true, false, cond, List, ◌∷◌, length, get_or, drop, suc, ap, ◌∙◌, arith}
-use Rattle.std.specs.Set.{distinct_count, unique_keys, is_member}
-use Rattle.std.proofs.lemmas.List.{drop_more}
+use Rattle.store_placement.proofs.Common.{◌≡◌, ℕ, ◌+◌, ◌<◌, Bool, true, false, cond, List, ◌∷◌, length, get_or, drop, suc, ap, ◌∙◌, arith, distinct_count}
+use Rattle.store_placement.proofs.Common.{unique_keys, is_member, drop_more}
 
 again : {X : Type 0} (same : X → X → Bool) (x : X) (xs : List X) → is_member same xs x ≡ true → distinct_count same (x ∷ xs) ≡ distinct_count same xs
 again same x xs is = ap (λ b. length (cond b (unique_keys same xs) (x ∷ unique_keys same xs))) is

@@ -1,18 +1,11 @@
 -- A program's statements at a placement have words, and a store is filled with them one by one.
-use Rattle.std.proofs.Common.{◌≡◌, ◌≢◌, ℕ, ◌+◌, ◌<◌, true, List, [], ◌∷◌, ◌++◌, Option, Some, None, length, set, replicate, zero, suc, refl, sym, ap, subst, ◌∙◌, inl, inr, arith}
-use Rattle.std.specs.Prelude.{slice_get, slice_index, option_and_then, IsTrue}
-use Rattle.std.specs.List.{filter_map}
-use Rattle.std.specs.Option.{option_to_list}
-use Rattle.std.proofs.lemmas.Bool.{lt-ltb, cases_eq, and_from}
-use Rattle.std.proofs.lemmas.List.{length-map, length-set, length-replicate, get_or-replicate, get_or-set_same, get_or-set_other}
-use Rattle.std.proofs.lemmas.Option.{slice_get_within, get_or_from_slice_get}
-use Rattle.micro_word.specs.Prelude.{microword_of, is_valid, is_part, is_next}
-use Rattle.mal_line.specs.declared.next.Next.{Next}
+use Rattle.store_placement.proofs.Common.{◌≡◌, ◌≢◌, ℕ, ◌+◌, ◌<◌, true, List, [], ◌∷◌, ◌++◌, Option, Some, None, length, set, replicate, zero, suc, refl, sym}
+use Rattle.store_placement.proofs.Common.{ap, subst, ◌∙◌, inl, inr, arith, slice_get, slice_index, option_and_then, IsTrue, filter_map, option_to_list, lt-ltb}
+use Rattle.store_placement.proofs.Common.{cases_eq, and_from, length-map, length-set, length-replicate, get_or-replicate, get_or-set_same, get_or-set_other}
+use Rattle.store_placement.proofs.Common.{slice_get_within, get_or_from_slice_get, microword_of, is_valid, is_part, is_next, Next, Statement, Pair, Places}
+use Rattle.store_placement.proofs.Common.{demands_of, pair_of, statement_pair, placed_next, LeadsInside, placed_statement, placed_default, IsFilled}
 use Rattle.mal_line.specs.declared.next.Next.TheVariants as nexts
-use Rattle.mal_parser.specs.declared.statement.Statement.{Statement}
 use Rattle.mal_parser.specs.Prelude.{MalView, IsMalProgram, HasTargets}
-use Rattle.store_placement.specs.declared.pair.Pair.{Pair}
-use Rattle.store_placement.specs.Prelude.{Places, demands_of, pair_of, statement_pair, placed_next, LeadsInside, placed_statement, placed_default, IsFilled}
 use Rattle.store_placement.proofs.Among.{Among, All-among, among_at, among_filter_map}
 use Rattle.store_placement.proofs.ProgramLemmas.{labelled_below, fallback_is}
 

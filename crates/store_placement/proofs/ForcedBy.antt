@@ -1,10 +1,7 @@
 -- What forces a statement to its address.
-use Rattle.std.proofs.Common.{◌≡◌, ℕ, ◌+◌, ◌-◌, true, false, cond, ◌⊎◌, List, [], ◌∷◌, Option, Some, None, eqb, refl, sym, ap, ◌∙◌, inl, inr}
-use Rattle.std.specs.Option.{option_or, option_map}
-use Rattle.std.proofs.lemmas.Bool.{eqb-true, eq-eqb, ne_eqb, or_left, or_right}
-use Rattle.std.proofs.lemmas.Option.{same_Some}
-use Rattle.store_placement.specs.declared.pair.Pair.{Pair}
-use Rattle.store_placement.specs.Prelude.{fixed_at, stands_in, given_by, given, forced}
+use Rattle.store_placement.proofs.Common.{◌≡◌, ℕ, ◌+◌, ◌-◌, true, false, cond, ◌⊎◌, List, [], ◌∷◌, Option, Some, None, eqb, refl, sym, ap, ◌∙◌, inl, inr}
+use Rattle.store_placement.proofs.Common.{option_or, option_map, eqb-true, eq-eqb, ne_eqb, or_left, or_right, same_Some, Pair, fixed_at, stands_in, given_by}
+use Rattle.store_placement.proofs.Common.{given, forced}
 use Rattle.store_placement.proofs.Among.{Among}
 use Rattle.store_placement.proofs.ClearPairs.{AreClear, stands_cases, one_pair, one_role}
 

@@ -1,8 +1,5 @@
 -- What each statement is forced to, read from the list.
-use Rattle.std.proofs.Common.{◌≡◌, ℕ, ◌<◌, List, Option, length, get_or, arith}
-use Rattle.std.proofs.lemmas.List.FromFn.{get_or-map-range_with_len}
-use Rattle.store_placement.specs.declared.pair.Pair.{Pair}
-use Rattle.store_placement.specs.Prelude.{below, forced, all_forced}
+use Rattle.store_placement.proofs.Common.{◌≡◌, ℕ, ◌<◌, List, Option, length, get_or, arith, get_or-map-range_with_len, Pair, below, forced, all_forced}
 use Rattle.store_placement.proofs.Below.{length-map_below}
 
 pub length-all_forced : (fixed : List (Option ℕ)) (pairs : List Pair) → length (all_forced fixed pairs) ≡ length fixed

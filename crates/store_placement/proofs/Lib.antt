@@ -1,3 +1,4 @@
+pub mod Common
 pub mod Among
 pub mod Apart
 pub mod Below

@@ -1,11 +1,8 @@
 -- A list that passes the computed test `IsListed` is the chosen placement, and no other list is.
-use Rattle.std.proofs.Common.{◌≡◌, ◌≢◌, ℕ, ◌+◌, ◌<◌, Bool, true, false, not, List, [], ◌∷◌, Option, Some, None, length, zero, suc, eqb, refl, sym, ap, ◌∙◌, inl, inr, arith}
-use Rattle.std.specs.Prelude.{slice_index, nat_lt}
-use Rattle.std.specs.List.{list_any, list_all}
-use Rattle.std.proofs.lemmas.Bool.{eqb-true, eq-eqb, ltb-true, cases_lt, and_parts, not-true}
-use Rattle.std.proofs.lemmas.List.{ext_get_or}
-use Rattle.store_placement.specs.declared.pair.Pair.{Pair}
-use Rattle.store_placement.specs.Prelude.{Demands, AreWithin, below, Never, forced, clashes, IsPlacement, open_pairs, IsChosenList, are_different, is_kept, IsListed}
+use Rattle.store_placement.proofs.Common.{◌≡◌, ◌≢◌, ℕ, ◌+◌, ◌<◌, Bool, true, false, not, List, [], ◌∷◌, Option, Some, None, length, zero, suc, eqb, refl, sym}
+use Rattle.store_placement.proofs.Common.{ap, ◌∙◌, inl, inr, arith, slice_index, nat_lt, list_any, list_all, eqb-true, eq-eqb, ltb-true, cases_lt, and_parts}
+use Rattle.store_placement.proofs.Common.{not-true, ext_get_or, Pair, Demands, AreWithin, below, Never, forced, clashes, IsPlacement, open_pairs, IsChosenList}
+use Rattle.store_placement.proofs.Common.{are_different, is_kept, IsListed}
 use Rattle.store_placement.proofs.Among.{Among, All-from_among, among_at, among_below, none_of}
 use Rattle.store_placement.proofs.ForcedBy.{forced_own}
 use Rattle.store_placement.proofs.OpenPairs.{open_from}

@@ -1,11 +1,8 @@
 -- Marks of taken addresses, one statement on.
-use Rattle.std.proofs.Common.{◌≡◌, ℕ, ◌+◌, ◌<◌, Bool, true, false, ◌||◌, ◌&&◌, List, [], Option, Some, None, length, take, get_or, replicate, refl, sym, ap, ◌∙◌, inl, inr, arith}
-use Rattle.std.specs.Prelude.{not, nat_lt}
-use Rattle.std.proofs.lemmas.Bool.{cases_eq, ltb-true, not-false, or_parts}
-use Rattle.std.proofs.lemmas.List.{get_or-replicate, get_or-take, length-take-le}
-use Rattle.std.proofs.lemmas.List.Folds.{list_any_more, list_any_none}
-use Rattle.store_placement.specs.declared.pair.Pair.{Pair}
-use Rattle.store_placement.specs.Prelude.{is_taken, fixed_at, NeverTwo, all_forced, forced, same_address, are_split, collide, is_pair_of, split_apart, AreTaken, has_split, is_marked, may_collide, share_address}
+use Rattle.store_placement.proofs.Common.{◌≡◌, ℕ, ◌+◌, ◌<◌, Bool, true, false, ◌||◌, ◌&&◌, List, [], Option, Some, None, length, take, get_or, replicate, refl}
+use Rattle.store_placement.proofs.Common.{sym, ap, ◌∙◌, inl, inr, arith, not, nat_lt, cases_eq, ltb-true, not-false, or_parts, get_or-replicate, get_or-take}
+use Rattle.store_placement.proofs.Common.{length-take-le, list_any_more, list_any_none, Pair, is_taken, fixed_at, NeverTwo, all_forced, forced, same_address}
+use Rattle.store_placement.proofs.Common.{are_split, collide, is_pair_of, split_apart, AreTaken, has_split, is_marked, may_collide, share_address}
 use Rattle.store_placement.proofs.Among.{All-from_among, among_at, none_of}
 use Rattle.store_placement.proofs.ForcedLemmas.{at_all_forced, length-all_forced}
 

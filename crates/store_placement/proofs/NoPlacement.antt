@@ -1,11 +1,11 @@
 -- Where constraints are refused, there is no placement.
-use Rattle.std.proofs.Common.{◌≡◌, ◌≢◌, ℕ, ◌+◌, ◌<◌, ◌≤◌, true, false, cond, not, ◌&&◌, List, Option, Some, None, length, map, eqb, ltb, refl, sym, ap, subst, ◌∙◌, inl, inr, arith}
-use Rattle.std.proofs.lemmas.Bool.{eqb-true, eqb-false, eq-eqb, ltb-true, ltb-false, false_from_ne_true, and_parts, not-true, or_cases}
-use Rattle.std.proofs.lemmas.List.{length-map}
-use Rattle.store_placement.specs.declared.pair.Pair.{Pair}
-use Rattle.store_placement.specs.declared.refusal.PlaceError.{PlaceError}
+use Rattle.store_placement.proofs.Common.{◌≡◌, ◌≢◌, ℕ, ◌+◌, ◌<◌, ◌≤◌, true, false, cond, not, ◌&&◌, List, Option, Some, None, length, map, eqb, ltb, refl, sym}
+use Rattle.store_placement.proofs.Common.{ap, subst, ◌∙◌, inl, inr, arith, eqb-true, eqb-false, eq-eqb, ltb-true, ltb-false, false_from_ne_true, and_parts}
+use Rattle.store_placement.proofs.Common.{not-true, or_cases, length-map, Pair, PlaceError, Demands, AreWithin, fixed_at, same_pair, below, forced, all_forced}
+use Rattle.store_placement.proofs.Common.{same_address, stands_in, stands_beside, stands_twice, clashes, in_wrong_half, is_wrong, is_true_target}
+use Rattle.store_placement.proofs.Common.{is_false_target, is_pair_of, are_split, split_apart, collide, Refuses, is_taken, is_free_low, free_lows, open_pairs}
+use Rattle.store_placement.proofs.Common.{IsPlacement, HasPlacement}
 use Rattle.store_placement.specs.declared.refusal.PlaceError.TheVariants as errors
-use Rattle.store_placement.specs.Prelude.{Demands, AreWithin, fixed_at, same_pair, below, forced, all_forced, same_address, stands_in, stands_beside, stands_twice, clashes, in_wrong_half, is_wrong, is_true_target, is_false_target, is_pair_of, are_split, split_apart, collide, Refuses, is_taken, is_free_low, free_lows, open_pairs, IsPlacement, HasPlacement}
 use Rattle.store_placement.proofs.Among.{Among, All-among, from_any, among-map, among-below, among_below, among_filter}
 use Rattle.store_placement.proofs.Apart.{Apart, Apart-map, length-le_from_among}
 use Rattle.store_placement.proofs.ClearPairs.{AreClear, of_statements, stands_cases, stands_yes, stands_no, pair_is}

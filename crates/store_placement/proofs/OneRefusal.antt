@@ -1,9 +1,7 @@
 -- Constraints have one refusal at most.
-use Rattle.std.proofs.Common.{◌≡◌, ℕ, Bool, true, false, refl, sym, ap, ◌∙◌, inl, inr, arith}
-use Rattle.std.proofs.lemmas.Bool.{cases_lt}
-use Rattle.store_placement.specs.declared.refusal.PlaceError.{PlaceError}
+use Rattle.store_placement.proofs.Common.{◌≡◌, ℕ, Bool, true, false, refl, sym, ap, ◌∙◌, inl, inr, arith, cases_lt, PlaceError, Demands, Never, IsFirst}
+use Rattle.store_placement.proofs.Common.{NeverTwo, IsFirstTwo, Refuses}
 use Rattle.store_placement.specs.declared.refusal.PlaceError.TheVariants as errors
-use Rattle.store_placement.specs.Prelude.{Demands, Never, IsFirst, NeverTwo, IsFirstTwo, Refuses}
 
 contradict : (b : Bool) {X : Type 0} → b ≡ true → b ≡ false → X
 contradict b yes_it not_it = let wrong : true ≡ false = sym yes_it ∙ not_it in absurd (cc)

@@ -1,9 +1,7 @@
 -- The pairs that no fixed statement places.
-use Rattle.std.proofs.Common.{◌≡◌, ◌≢◌, ℕ, ◌<◌, min, true, ◌&&◌, List, Option, Some, None, length, eqb, refl, sym, ap, ◌∙◌, inl, inr, arith}
-use Rattle.std.specs.Prelude.{is_none}
-use Rattle.std.proofs.lemmas.Bool.{eqb-true, eq-eqb, cases_lt, and_parts, or_left, or_right}
-use Rattle.store_placement.specs.declared.pair.Pair.{Pair}
-use Rattle.store_placement.specs.Prelude.{fixed_at, below, stands_in, forced, is_opened_by, opened_by, open_pairs}
+use Rattle.store_placement.proofs.Common.{◌≡◌, ◌≢◌, ℕ, ◌<◌, min, true, ◌&&◌, List, Option, Some, None, length, eqb, refl, sym, ap, ◌∙◌, inl, inr, arith}
+use Rattle.store_placement.proofs.Common.{is_none, eqb-true, eq-eqb, cases_lt, and_parts, or_left, or_right, Pair, fixed_at, below, stands_in, forced}
+use Rattle.store_placement.proofs.Common.{is_opened_by, opened_by, open_pairs}
 use Rattle.store_placement.proofs.Among.{Among, among-filter_map, among_filter_map, among_below, found, find_some}
 use Rattle.store_placement.proofs.Apart.{Apart, Apart-below, Apart-filter_map}
 use Rattle.store_placement.proofs.ClearPairs.{AreClear, of_statements, stands_cases, stands_yes, stands_no, one_pair, one_role}

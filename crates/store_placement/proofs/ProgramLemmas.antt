@@ -1,17 +1,9 @@
 -- What holds of the statements of each program.
-use Rattle.std.proofs.Common.{◌≡◌, ℕ, ◌+◌, ◌<◌, List, [], ◌∷◌, ◌++◌, Option, Some, None, length, map, take, refl, ap, subst, ◌∙◌}
-use Rattle.std.specs.Prelude.{slice_get, IfSome, option_and_then}
-use Rattle.std.specs.List.{filter_map, cons_option}
-use Rattle.std.specs.Option.{ForSome, option_to_list, IsSome}
-use Rattle.std.proofs.lemmas.List.{take_more, map_push}
-use Rattle.std.proofs.lemmas.List.Elements.{filter_map-append}
-use Rattle.std.proofs.lemmas.Option.{slice_get_within, get_or_from_slice_get}
-use Rattle.mal_line.specs.declared.next.Next.{Next}
+use Rattle.store_placement.proofs.Common.{◌≡◌, ℕ, ◌+◌, ◌<◌, List, [], ◌∷◌, ◌++◌, Option, Some, None, length, map, take, refl, ap, subst, ◌∙◌, slice_get, IfSome}
+use Rattle.store_placement.proofs.Common.{option_and_then, filter_map, cons_option, ForSome, option_to_list, IsSome, take_more, map_push, filter_map-append}
+use Rattle.store_placement.proofs.Common.{slice_get_within, get_or_from_slice_get, Next, Statement, Pair, IsOfStatements, pair_of}
 use Rattle.mal_line.specs.declared.next.Next.TheVariants as nexts
-use Rattle.mal_parser.specs.declared.statement.Statement.{Statement}
 use Rattle.mal_parser.specs.Prelude.{MalView, IsMalProgram, IsFallback, IsLabelled, HasTargets}
-use Rattle.store_placement.specs.declared.pair.Pair.{Pair}
-use Rattle.store_placement.specs.Prelude.{IsOfStatements, pair_of}
 
 -- a list up to the next element
 pub take_next : {X : Type 0} (xs : List X) (s : ℕ) (x : X) → slice_get xs s ≡ Some x → take (s + 1) xs ≡ take s xs ++ x ∷ []

@@ -1,13 +1,9 @@
 -- The steps of placing give the chosen placement.
-use Rattle.std.proofs.Common.{◌≡◌, ◌≢◌, ℕ, ◌+◌, ◌<◌, ◌≤◌, Bool, true, false, cond, List, [], ◌∷◌, ◌++◌, Option, Some, None, length, map, take, get_or, eqb, zero, suc, refl, sym, ap, ◌∙◌, inl, inr, arith}
-use Rattle.std.specs.Prelude.{is_none}
-use Rattle.std.specs.List.{filter, filter_map, count_by}
-use Rattle.std.proofs.lemmas.Bool.{eqb-true, eq-eqb, ne_eqb}
-use Rattle.std.proofs.lemmas.List.{map-append, take_more, length_push}
-use Rattle.std.proofs.lemmas.List.Filters.{length-filter_both}
-use Rattle.std.proofs.lemmas.List.Recursion.{is_count_by}
-use Rattle.store_placement.specs.declared.pair.Pair.{Pair}
-use Rattle.store_placement.specs.Prelude.{below, same_address, is_taken, is_free, free_addresses, pair_address, with_free}
+use Rattle.store_placement.proofs.Common.{◌≡◌, ◌≢◌, ℕ, ◌+◌, ◌<◌, ◌≤◌, Bool, true, false, cond, List, [], ◌∷◌, ◌++◌, Option, Some, None, length, map, take}
+use Rattle.store_placement.proofs.Common.{get_or, eqb, zero, suc, refl, sym, ap, ◌∙◌, inl, inr, arith, is_none, filter_map, count_by, eqb-true, eq-eqb, ne_eqb}
+use Rattle.store_placement.proofs.Common.{map-append, take_more, length_push, length-filter_both, is_count_by, Pair, below, same_address, is_taken, is_free}
+use Rattle.store_placement.proofs.Common.{free_addresses, pair_address, with_free}
+use Rattle.std.specs.List.{filter}
 use Rattle.store_placement.proofs.Among.{Among, from_any, among-filter, among_filter_map}
 use Rattle.store_placement.proofs.Apart.{Apart, Apart-below, Apart-weaker, Apart-filter, length-le_from_among}
 use Rattle.store_placement.proofs.Below.{length-below, below_none, filter-below_kept, filter-below_dropped}

@@ -1,16 +1,10 @@
 -- Store files and the words that they hold.
-use Rattle.std.proofs.Common.{◌≡◌, ◌≢◌, ℕ, ◌+◌, ◌*◌, ◌/◌, ◌%◌, ◌^◌, ◌<◌, ◌≤◌, true, false, cond, not, List, [], ◌∷◌, ◌++◌, Some, None, length, map, take, drop, set, replicate, suc, refl, sym, ap, subst, ◌∙◌, arith}
-use Rattle.std.specs.Prelude.{slice_index, IsTrue, nat_eq}
-use Rattle.std.specs.List.{flat_map, starts_with, range_with_len}
-use Rattle.std.proofs.lemmas.Bool.{ltb-true, and_parts}
-use Rattle.std.proofs.lemmas.List.{drop_more, drop_all, ext_get_or, length-append, length-set, length-replicate, get_or-set_same, get_or-set_other, take-append-drop}
-use borrow.Author.Count.{below_more}
-use Rattle.std.specs.Cmp.Lexicographic.{same_text}
-use Rattle.std.proofs.lemmas.List.FromFn.{length-map-range_with_len, get_or-map-range_with_len}
-use Rattle.mic_words.specs.declared.machine.Machine.{Machine}
-use Rattle.mic_words.specs.declared.machine.Machine.TheVariants.{Mic1, Mic2}
-use Rattle.micro_word.specs.Prelude.{is_canonical, ControlStore, IsStore}
-use Rattle.store_placement.specs.Prelude.{IsFirst, magic, word_bytes, store_file, machine_of, number_at, word_at, is_bad, IsReadFrom}
+use Rattle.store_placement.proofs.Common.{◌≡◌, ◌≢◌, ℕ, ◌+◌, ◌*◌, ◌/◌, ◌%◌, ◌^◌, ◌<◌, ◌≤◌, true, false, cond, not, List, [], ◌∷◌, ◌++◌, Some, None, length, map}
+use Rattle.store_placement.proofs.Common.{take, drop, set, replicate, suc, refl, sym, ap, subst, ◌∙◌, arith, slice_index, IsTrue, nat_eq, flat_map, starts_with}
+use Rattle.store_placement.proofs.Common.{range_with_len, ltb-true, and_parts, drop_more, drop_all, ext_get_or, length-append, length-set, length-replicate}
+use Rattle.store_placement.proofs.Common.{get_or-set_same, get_or-set_other, take-append-drop, below_more, same_text, length-map-range_with_len}
+use Rattle.store_placement.proofs.Common.{get_or-map-range_with_len, Machine, Mic1, Mic2, is_canonical, ControlStore, IsStore, IsFirst, magic, word_bytes}
+use Rattle.store_placement.proofs.Common.{store_file, machine_of, number_at, word_at, is_bad, IsReadFrom}
 
 -- the bytes from k on are five and the rest
 five_more : (bytes : List ℕ) (k : ℕ) → k + 5 ≤ length bytes →

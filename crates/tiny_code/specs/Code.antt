@@ -1,11 +1,7 @@
 -- The code of a program. A jump's distance is the size of the code between, so the code of a part does not depend on where it stands.
 use Rattle.std.specs.Prelude.{ℕ, ℤ, pos, neg_ℤ, ◌+◌, not, if◌then◌else◌, nat_le, nat_lt, ◌==◌, List, [], ◌∷◌, ◌++◌, length}
-use Rattle.std.specs.List.{filter, flat_map, enumerate_from, position_or_len}
-use Rattle.ijvm_instr.specs.declared.instr.Instr.{Instr}
+use Rattle.tiny_code.specs.Common.{filter, flat_map, enumerate_from, position_or_len, Instr, row_of, size_of, Operator, Plus, Minus, And, Or}
 use Rattle.ijvm_instr.specs.declared.instr.Instr.TheVariants.{Bipush, LdcW, Iload, Istore, Pop, Iadd, Isub, Iand, Iflt, IfIcmpeq, Goto, Ireturn, Ior, Invokevirtual, In, Out, Halt as HaltCode}
-use Rattle.ijvm_instr.specs.Prelude.{row_of, size_of}
-use Rattle.tiny_tree.specs.declared.tree.Operator.{Operator}
-use Rattle.tiny_tree.specs.declared.tree.Operator.TheVariants.{Plus, Minus, And, Or}
 use Rattle.tiny_tree.specs.Prelude.{Term, Number, Variable, Called, Get, Group, Expr, Sum, Steps, no_steps, step, Arguments, no_arguments, argument, Cond, Equal, Different, Less, Statement, Var, Assign, Calls, If, While, Return, Put, Halt, Else, no_else, else_block, Statements, no_statements, statement, Function, Program}
 
 -- where the pool has a number above 127, and the entry of a function

@@ -1,9 +1,7 @@
 -- The image of a program's code: its parts are main's code and the other functions, each after its header, and its pool is 0, the
 -- functions' addresses, and the numbers.
 use Rattle.std.specs.Prelude.{◌≡◌, ℕ, ◌+◌, List, [], ◌∷◌, ◌++◌, map, slice_get, Some}
-use Rattle.ijvm_instr.specs.Prelude.{jumps_of}
-use Rattle.ijvm_image.specs.Prelude.{header, ImageView}
-use Rattle.ijvm_text.specs.Prelude.{code_bytes, IsImageOf, Layout, Part}
+use Rattle.tiny_code.specs.Common.{jumps_of, header, ImageView, code_bytes, IsImageOf, Layout, Part}
 use Rattle.tiny_tree.specs.Prelude.{IsNamed, vars_of, Cond, Equal, Different, Less, Statement, If, While, Else, no_else, else_block, Statements, no_statements, statement, Function, Program}
 use Rattle.tiny_code.specs.Code.{Places, main_code, method_code, methods, numbers, places_of}
 

@@ -1,9 +1,6 @@
 -- An image in which a program is laid out: main's code from address 0 on, then the other functions in order, each with its header.
 use Rattle.std.specs.Prelude.{◌≡◌, ◌≢◌, ◌<◌, ◌≤◌, ℕ, ◌+◌, List, [], ◌∷◌, length, slice_get, Some, All}
-use Rattle.std.specs.List.{flat_map}
-use Rattle.ijvm_instr.specs.declared.instr.Instr.{Instr}
-use Rattle.ijvm_instr.specs.Prelude.{row_of, size_of, instr_at}
-use Rattle.ijvm_image.specs.Prelude.{ImageView, params, others}
+use Rattle.tiny_code.specs.Common.{flat_map, Instr, row_of, size_of, instr_at, ImageView, params, others}
 use Rattle.tiny_tree.specs.Prelude.{Function, Program, vars_of}
 use Rattle.tiny_code.specs.Code.{Places, code_size, main_code, method_code, method_size, methods, function_numbers}
 

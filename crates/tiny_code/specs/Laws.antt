@@ -1,7 +1,6 @@
 -- What the laws of every program's code speak of.
 use Rattle.std.specs.Prelude.{◌≡◌, ◌≢◌, ◌≤◌, ℕ, ◌+◌, List, ◌++◌, length, slice_get, Some}
-use Rattle.ijvm_instr.specs.declared.instr.Instr.{Instr}
-use Rattle.ijvm_text.specs.Prelude.{code_bytes}
+use Rattle.tiny_code.specs.Common.{Instr, code_bytes}
 use Rattle.tiny_tree.specs.Prelude.{Function, Program}
 use Rattle.tiny_code.specs.Code.{code_size}
 use Rattle.tiny_code.specs.Laid.{CodeAt}

@@ -1,3 +1,4 @@
+pub mod Common
 pub mod Code
 pub mod Laid
 pub mod Standing

@@ -1,13 +1,9 @@
 -- Each jump of a program's code has its line, and its expressions have no jumps.
 use Rattle.std.proofs.Common.{◌≡◌, ℕ, ℤ, pos, neg_ℤ, Bool, true, false, List, [], ◌∷◌, ◌++◌, length, refl, ap, arith, length-append, ◌+◌}
 use Rattle.std.specs.Prelude.{if◌then◌else◌, nat_le}
-use Rattle.std.proofs.lemmas.Grind.{flat_map-append}
-use Rattle.ijvm_instr.specs.declared.instr.Instr.{Instr}
+use Rattle.tiny_code.specs.Common.{flat_map-append, Instr, row_of, HasLines, distance_in, distances, Operator, Plus}
 use Rattle.ijvm_instr.specs.declared.instr.Instr.TheVariants.{Bipush, LdcW, Istore, Pop, Isub, Iflt}
 use Rattle.ijvm_instr.specs.declared.instr.Instr.TheVariants.{IfIcmpeq, Goto, Ireturn, Invokevirtual, Out, Halt as HaltCode}
-use Rattle.ijvm_instr.specs.Prelude.{row_of, HasLines, distance_in, distances}
-use Rattle.tiny_tree.specs.declared.tree.Operator.{Operator}
-use Rattle.tiny_tree.specs.declared.tree.Operator.TheVariants.{Plus}
 use Rattle.tiny_tree.specs.Prelude.{Term, Number, Variable, Called, Get, Group, Expr, Sum, Steps, no_steps, step, Arguments, no_arguments, argument, Cond, Equal, Different, Less, Statement, Var, Assign, Calls, If, While, Return, Put, Halt, Else, no_else, else_block, Statements, no_statements, statement, Function}
 use Rattle.tiny_code.specs.Code.{Places, arguments_code, choice, code_size, else_code, expr_code, if_code, leave_code, loop}
 use Rattle.tiny_code.specs.Code.{main_code, method_code, number_code, operator_code, statement_code, statements_code, steps_code, term_code, test_code}

@@ -1,9 +1,7 @@
 -- The functions but main: how many there are, and where the pool has their entries.
 use Rattle.std.proofs.Common.{◌≡◌, ◌≢◌, ◌<◌, ◌≤◌, ⊎_elim, ℕ, suc, ◌+◌, Bool, true, false, List, [], ◌∷◌, length, refl, sym, ap, ◌∙◌, arith}
 use Rattle.std.specs.Prelude.{not, ◌==◌, nat_lt, cond, if◌then◌else◌}
-use Rattle.std.specs.List.{filter, enumerate_from}
-use Rattle.std.proofs.lemmas.Bool.{lt-ltb, le-ltb}
-use Rattle.std.proofs.lemmas.Bool.Decides.{eqb_tells}
+use Rattle.tiny_code.specs.Common.{filter, enumerate_from, lt-ltb, le-ltb, eqb_tells}
 use Rattle.tiny_tree.specs.Prelude.{Function}
 
 pub apart : (n x y : ℕ) → n ≢ x → y ≡ n → not (y == x) ≡ true

@@ -1,11 +1,7 @@
 -- How long code is and where it stands, part by part, and where its jumps lead.
 use Rattle.std.proofs.Common.{◌≡◌, ◌≤◌, ℕ, zero, suc, ◌+◌, ◌-◌, ◌%◌, List, [], ◌∷◌, ◌++◌, length, refl, ap, ◌∙◌, subst, arith, length-append}
 use Rattle.std.specs.Prelude.{pos, neg_ℤ, All}
-use Rattle.std.proofs.lemmas.List.Elements.{All-nil, All-cons, All-head, All-tail}
-use Rattle.mic_words.specs.Prelude.{wrap}
-use Rattle.ijvm_instr.specs.declared.instr.Instr.{Instr}
-use Rattle.ijvm_instr.specs.Prelude.{row_of, size_of, spelling, target}
-use Rattle.ijvm_text.specs.Prelude.{code_bytes}
+use Rattle.tiny_code.specs.Common.{All-nil, All-cons, All-head, All-tail, wrap, Instr, row_of, size_of, spelling, target, code_bytes}
 use Rattle.tiny_code.specs.Code.{code_size}
 use Rattle.tiny_code.specs.Laid.{CodeAt}
 

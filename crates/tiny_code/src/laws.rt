@@ -2,9 +2,7 @@
 
 ghost use Rattle.std.specs.Prelude.{ℕ, List, All};
 ghost use Rattle.std.specs.List.{Contains};
-ghost use Rattle.ijvm_image.specs.Prelude.{ImageView};
-ghost use Rattle.ijvm_instr.specs.declared.instr.Instr.{Instr};
-ghost use Rattle.ijvm_instr.specs.Prelude.{IsInstr, HasLines};
+ghost use Rattle.tiny_code.specs.Common.{ImageView, Instr, IsInstr, HasLines};
 ghost use Rattle.tiny_tree.specs.Prelude.{Function, Program};
 ghost use Rattle.tiny_code.specs.Code.{Places, main_code, method_code, methods};
 ghost use Rattle.tiny_code.specs.Image.{statements_lines};

@@ -1,18 +1,9 @@
 -- The pool of a program, and its refusals.
-use Rattle.std.proofs.Common.{◌≡◌, ℕ, List, ◌∷◌, ◌++◌, length, map, subst, ap, ◌∙◌}
-use Rattle.std.specs.Prelude.{IfErr, Result, Ok, Err}
-use Rattle.ijvm_text.specs.declared.units.Units.{Units}
-use Rattle.ijvm_text.specs.Prelude.{begins, pool_of, AreUnits}
-use Rattle.tiny_tree.specs.declared.tree.Function.{Function}
+use Rattle.tiny_compiler.proofs.Common.{◌≡◌, ℕ, List, ◌∷◌, ◌++◌, length, map, subst, ap, ◌∙◌, IfErr, Result, Ok, Err, Units, begins, pool_of, AreUnits}
+use Rattle.tiny_compiler.proofs.Common.{Function, Table, IsTableOf, numbers_in, Spells, TinyError, HasNoCode, TooLarge, IsTooLarge, program_of}
 use Rattle.tiny_tree.specs.Tree as tree
 use Rattle.tiny_tree.specs.Prelude.{Program, function_tree}
 use Rattle.tiny_code.specs.Prelude.{layout_of}
-use Rattle.tiny_pool.specs.declared.table.Table.{Table}
-use Rattle.tiny_pool.specs.Prelude.{IsTableOf, numbers_in}
-use Rattle.tiny_parser.specs.Prelude.{Spells}
-use Rattle.tiny_parser.specs.declared.error.TinyError.{TinyError}
-use Rattle.tiny_compiler.specs.Prelude.{HasNoCode, TooLarge, IsTooLarge}
-use Rattle.tiny_emit.specs.Prelude.{program_of}
 
 pub pool_is : (program : Program) (main : tree.Function) (table : Table) (units : Units) (pool : List ℕ) → IsTableOf table program →
     AreUnits (layout_of program main) units → pool ≡ 0 ∷ (units.entries.items ++ numbers_in table) → pool ≡ pool_of (layout_of program main)

@@ -1,18 +1,9 @@
 -- The instructions of a program's code have operands in the ranges of their types.
-use Rattle.std.proofs.Common.{◌≡◌, ◌<◌, ◌≤◌, ◌⊎◌, inl, inr, ⊎_elim, ℕ, ℤ, pos, negsuc, ◌+◌, Bool, true, false, List, [], ◌∷◌, ◌++◌, length, Some, None, refl, sym, ◌∙◌, arith}
-use Rattle.std.specs.Prelude.{nat_le, nat_lt, ◌||◌, ◌^◌, neg_ℤ, slice_get, cond, if◌then◌else◌, FitsSigned}
-use Rattle.std.specs.Int.{w16}
-use Rattle.std.specs.List.{All, zip}
-use Rattle.std.proofs.lemmas.Bool.{lt-ltb}
-use Rattle.std.proofs.lemmas.Bool.Decides.{leb_tells}
-use Rattle.std.proofs.lemmas.List.Elements.{All-nil, All-cons, All-head, All-tail}
-use Rattle.ijvm_instr.specs.declared.instr.Instr.{Instr}
+use Rattle.tiny_compiler.proofs.Common.{◌≡◌, ◌<◌, ◌≤◌, ◌⊎◌, inl, inr, ⊎_elim, ℕ, ℤ, pos, negsuc, ◌+◌, Bool, true, false, List, [], ◌∷◌, ◌++◌, length, Some}
+use Rattle.tiny_compiler.proofs.Common.{None, refl, sym, ◌∙◌, arith, nat_le, nat_lt, ◌||◌, ◌^◌, neg_ℤ, slice_get, cond, if◌then◌else◌, FitsSigned, w16, All}
+use Rattle.tiny_compiler.proofs.Common.{zip, lt-ltb, leb_tells, All-nil, All-cons, All-head, All-tail, Instr, Operands, Offset, AreInRange, IsInstr, row_of}
+use Rattle.tiny_compiler.proofs.Common.{HasLines, Jump, distance_in, distances, first_far, is_far, jumps_of, Operator, Plus}
 use Rattle.ijvm_instr.specs.declared.instr.Instr.TheVariants.{Bipush, LdcW, Iload, Istore, Pop, Isub, Iflt, IfIcmpeq, Goto, Ireturn, Invokevirtual, In, Out, Halt as HaltCode}
-use Rattle.ijvm_instr.specs.declared.row.Operands.{Operands}
-use Rattle.ijvm_instr.specs.declared.row.Operands.TheVariants.{Offset}
-use Rattle.ijvm_instr.specs.Prelude.{AreInRange, IsInstr, row_of, HasLines, Jump, distance_in, distances, first_far, is_far, jumps_of}
-use Rattle.tiny_tree.specs.declared.tree.Operator.{Operator}
-use Rattle.tiny_tree.specs.declared.tree.Operator.TheVariants.{Plus}
 use Rattle.tiny_tree.specs.Prelude.{Term, Number, Variable, Called, Get, Group, Expr, Sum, Steps, no_steps, step, Arguments, no_arguments, argument, Cond, Equal, Different, Less, Statement, Var, Assign, Calls, If, While, Return, Put, Halt, Else, no_else, else_block, Statements, no_statements, statement, Function, Program, Seen, seen_after, IsCallable, IsNamedTerm, IsNamedExpr, AreNamedSteps, AreNamedArguments, IsNamedCond, IsNamedStatement, AreNamed, IsNamedElse, arguments_count}
 use Rattle.tiny_code.specs.Prelude.{Places, code_size, choice, loop, operator_code, number_code, term_code, expr_code, steps_code, arguments_code, test_code, if_code, leave_code, statement_code, statements_code, else_code}
 

@@ -1,15 +1,11 @@
 -- In the image of its code a program is laid out.
-use Rattle.std.proofs.Common.{◌≡◌, ◌≢◌, ◌<◌, ◌≤◌, ℕ, zero, suc, ◌+◌, ◌/◌, ◌%◌, Bool, true, false, List, [], ◌∷◌, ◌++◌, length, map, Some, refl, sym, ap, ◌∙◌, subst, arith, append_assoc, length-append, pos}
-use Rattle.std.specs.Prelude.{◌==◌, ◌^◌, nat_lt, if◌then◌else◌, slice_get, slice_index, FitsSigned}
-use Rattle.std.specs.Int.{w8}
-use Rattle.std.specs.List.{All, Contains, position_or_len}
+use Rattle.tiny_compiler.proofs.Common.{◌≡◌, ◌≢◌, ◌<◌, ◌≤◌, ℕ, zero, suc, ◌+◌, ◌/◌, ◌%◌, Bool, true, false, List, [], ◌∷◌, ◌++◌, length, map, Some, refl, sym}
+use Rattle.tiny_compiler.proofs.Common.{ap, ◌∙◌, subst, arith, append_assoc, length-append, pos, ◌==◌, ◌^◌, nat_lt, if◌then◌else◌, slice_get, slice_index}
+use Rattle.tiny_compiler.proofs.Common.{FitsSigned, w8, All, Contains, position_or_len, All-nil, All-cons, All-head, All-tail, Contains-append_right, Instr}
+use Rattle.tiny_compiler.proofs.Common.{IsInstr, Jump, header, ImageView, params, others, code_bytes, Part, begins, bytes_of, jumps_in, length-begins}
+use Rattle.ijvm_text.specs.Prelude.{jumps_of}
 use Rattle.std.proofs.lemmas.List.{get_or-append-add, length-map}
-use Rattle.std.proofs.lemmas.List.Elements.{All-nil, All-cons, All-head, All-tail, Contains-append_right}
-use Rattle.ijvm_instr.specs.declared.instr.Instr.{Instr}
 use Rattle.ijvm_instr.specs.declared.instr.Instr.TheVariants.{Bipush, Ireturn}
-use Rattle.ijvm_instr.specs.Prelude.{IsInstr, Jump}
-use Rattle.ijvm_image.specs.Prelude.{header, ImageView, params, others}
-use Rattle.ijvm_text.specs.Prelude.{code_bytes, Part, begins, bytes_of, jumps_in, jumps_of, length-begins}
 use Rattle.tiny_tree.specs.Prelude.{Function, Program, IsNamed, IsNamedFunction, vars_of}
 use Rattle.tiny_code.specs.Prelude.{Places, code_size, main_code, method_code, method_size, methods, numbers, places_of, statements_code, AreMethodsAt, CodeAt, IsLaidOut, IsMethodAt, AreEntries, entry, from_main, all_back, all_front, bytes_size, size_append, IsCodeOf, layout_of, main_part, method_part, main_lined, method_lined}
 use Rattle.tiny_compiler.proofs.Lists.{Finds, all_found, get_after, prefix_short}

@@ -1,3 +1,4 @@
+pub mod Common
 mod OneProgram
 mod Lists
 mod Fitting

@@ -1,10 +1,7 @@
 -- Places in lists: where the pool has each number.
-use Rattle.std.proofs.Common.{◌≡◌, ◌≢◌, ◌≤◌, ◌⊎◌, inl, inr, ⊎_elim, ℕ, suc, ◌+◌, Bool, true, false, List, [], ◌∷◌, ◌++◌, length, Some, refl, sym, ap, ◌∙◌, arith}
-use Rattle.std.specs.Prelude.{not, ◌==◌, slice_get, cond}
-use Rattle.std.specs.List.{All, filter, position_or_len}
-use Rattle.std.proofs.lemmas.Bool.{eq-eqb}
-use Rattle.std.proofs.lemmas.Bool.Decides.{eqb_tells}
-use Rattle.std.proofs.lemmas.List.Elements.{All-nil, All-cons, All-head, All-tail}
+use Rattle.tiny_compiler.proofs.Common.{◌≡◌, ◌≢◌, ◌≤◌, ◌⊎◌, inl, inr, ⊎_elim, ℕ, suc, ◌+◌, Bool, true, false, List, [], ◌∷◌, ◌++◌, length, Some, refl, sym, ap}
+use Rattle.tiny_compiler.proofs.Common.{◌∙◌, arith, not, ◌==◌, slice_get, cond, All, filter, position_or_len, eq-eqb, eqb_tells, All-nil, All-cons, All-head}
+use Rattle.tiny_compiler.proofs.Common.{All-tail}
 use Rattle.tiny_code.specs.Prelude.{once, apart}
 
 -- ---- each number once

@@ -1,16 +1,8 @@
 -- A text compiles to one program at most, or has one refusal.
-use Rattle.std.proofs.Common.{◌≡◌, ◌∙◌, ℕ, List, Some, sym, ap, subst, arith}
-use Rattle.std.specs.Prelude.{slice_get}
-use Rattle.std.proofs.lemmas.Option.{none-some, same_Some}
-use Rattle.ijvm_instr.specs.Prelude.{Jump}
-use Rattle.ijvm_image.specs.Prelude.{ImageView}
-use Rattle.ijvm_text.specs.Prelude.{IsImageOf, Layout, pool_of, text_of}
-use Rattle.verifier_facts.specs.Prelude.{VerifiedView, IsMainCount, one_count}
+use Rattle.tiny_compiler.proofs.Common.{◌≡◌, ◌∙◌, ℕ, List, Some, sym, ap, subst, arith, slice_get, none-some, same_Some, Jump, ImageView, IsImageOf, Layout}
+use Rattle.tiny_compiler.proofs.Common.{pool_of, text_of, VerifiedView, IsMainCount, one_count, IsRefused, Spells, TinyError, JumpTooFar, PoolTooLong}
+use Rattle.tiny_compiler.proofs.Common.{TextTooLong, HasNoCode, IsCompiled, NoProgram, TooLarge, ExceedsBy, IsTooLarge}
 use Rattle.tiny_tree.specs.Prelude.{Function, Program}
-use Rattle.tiny_parser.specs.Prelude.{IsRefused, Spells}
-use Rattle.tiny_parser.specs.declared.error.TinyError.{TinyError}
-use Rattle.tiny_parser.specs.declared.error.TinyError.TheVariants.{JumpTooFar, PoolTooLong, TextTooLong}
-use Rattle.tiny_compiler.specs.Prelude.{HasNoCode, IsCompiled, NoProgram, TooLarge, ExceedsBy, IsTooLarge}
 use Rattle.tiny_code.specs.Prelude.{IsCodeOf, layout_of}
 
 -- ---- images and limits

@@ -1,15 +1,7 @@
 -- What compiling a text gives: the accepted image of its program's code, or the first of its refusals.
 use Rattle.std.specs.Prelude.{◌≡◌, ℕ, List}
-use Rattle.console_port.specs.declared.map.TheConstants.MemoryMap.{STANDARD}
-use Rattle.verifier_facts.specs.Prelude.{IsAccepted, VerifiedView}
-use Rattle.ijvm_image.specs.Prelude.{ImageView}
-use Rattle.tiny_tree.specs.Prelude.{IsNamed, Program}
-use Rattle.tiny_parser.specs.Prelude.{IsRefused, Spells}
-use Rattle.tiny_parser.specs.declared.error.TinyError.{TinyError}
-use Rattle.tiny_code.specs.Prelude.{IsCodeOf}
-use Rattle.mic_words.specs.declared.machine.Machine.{Machine}
-use Rattle.ijvm_meaning.specs.Prelude.{timing_of}
-use Rattle.tiny_runs.specs.Prelude.{RunsAsMeant, runs_of}
+use Rattle.tiny_compiler.specs.Common.{STANDARD, IsAccepted, VerifiedView, ImageView, IsNamed, Program, IsRefused, Spells, TinyError, IsCodeOf, Machine}
+use Rattle.tiny_compiler.specs.Common.{timing_of, RunsAsMeant, runs_of}
 use Rattle.tiny_compiler.specs.Image.{IsTooLarge}
 
 -- the image of the code of the text's program, in which names fit

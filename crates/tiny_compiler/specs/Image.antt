@@ -1,11 +1,7 @@
 -- The first limit that a program's code exceeds.
 use Rattle.std.specs.Prelude.{◌≡◌, ◌≤◌, length, slice_get, Some}
-use Rattle.ijvm_text.specs.declared.text.Text.{Text}
+use Rattle.tiny_compiler.specs.Common.{Text, Function, Program, TinyError, JumpTooFar, PoolTooLong, TextTooLong, layout_of}
 use Rattle.ijvm_text.specs.Prelude.{IsText, ExceedsJump, ExceedsPool, ExceedsText, Layout, jumps_of, pool_of, text_of}
-use Rattle.tiny_tree.specs.Prelude.{Function, Program}
-use Rattle.tiny_parser.specs.declared.error.TinyError.{TinyError}
-use Rattle.tiny_parser.specs.declared.error.TinyError.TheVariants.{JumpTooFar, PoolTooLong, TextTooLong}
-use Rattle.tiny_code.specs.Prelude.{layout_of}
 
 -- the first limit that is exceeded, and by what
 abbrev pub ExceedsBy : Layout → TinyError → Type 0

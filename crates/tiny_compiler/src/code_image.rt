@@ -1,10 +1,7 @@
 //! The image of a program's code.
 
 ghost use Rattle.std.specs.Prelude.{◌≡◌, ◌≤◌, IfErr, IfOk, None, OnOk, false, length};
-ghost use Rattle.tiny_tree.specs.Prelude.{IsNamed};
-ghost use Rattle.tiny_code.specs.Prelude.{IsCodeOf};
-ghost use Rattle.tiny_emit.specs.Prelude.{program_of};
-ghost use Rattle.tiny_parser.specs.Prelude.{is_memory};
+ghost use Rattle.tiny_compiler.specs.Common.{IsNamed, IsCodeOf, program_of, is_memory};
 ghost use Rattle.tiny_compiler.specs.Image.{IsTooLarge, TextExceedsBy};
 
 use ijvm_image::Image;

@@ -1,13 +1,8 @@
 //! What holds of every compiled text.
 
 ghost use Rattle.std.specs.Prelude.{◌≡◌, ℕ, List};
-ghost use Rattle.mic_words.specs.declared.machine.Machine.{Machine};
-ghost use Rattle.ijvm_image.specs.Prelude.{ImageView};
+ghost use Rattle.tiny_compiler.specs.Common.{Machine, ImageView, VerifiedView, Accepts, places_of, IsLaidOut, IsCodeOf, IsCoded, IsNamed, Program, TinyError};
 ghost use Rattle.console_port.specs.Prelude.{IsMap};
-ghost use Rattle.verifier_facts.specs.Prelude.{VerifiedView, Accepts};
-ghost use Rattle.tiny_code.specs.Prelude.{places_of, IsLaidOut, IsCodeOf, IsCoded};
-ghost use Rattle.tiny_tree.specs.Prelude.{IsNamed, Program};
-ghost use Rattle.tiny_parser.specs.declared.error.TinyError.{TinyError};
 ghost use Rattle.tiny_compiler.specs.Compiled.{HasNoCode, IsCompiled, RunsAsSpelled};
 
 use tiny_code::{methods_are_the_others, written_code_stands};

@@ -1,9 +1,7 @@
 //! The verified image of a program's code.
 
 ghost use Rattle.std.specs.Prelude.{◌≡◌, IfOk};
-ghost use Rattle.console_port.specs.declared.map.TheConstants.MemoryMap.{STANDARD};
-ghost use Rattle.verifier_facts.specs.Prelude.{IsAccepted};
-ghost use Rattle.tiny_code.specs.Prelude.{IsCoded};
+ghost use Rattle.tiny_compiler.specs.Common.{STANDARD, IsAccepted, IsCoded};
 
 use crate::laws::coded_programs_are_accepted;
 use console_port::MemoryMap;

@@ -1,15 +1,10 @@
 -- Bytes that are appended, part by part.
-use Rattle.std.proofs.Common.{◌≡◌, ◌<◌, ◌≤◌, ℕ, ◌+◌, List, [], ◌∷◌, ◌++◌, length, map, drop, get_or, refl, sym, ap, ◌∙◌, append_assoc}
-use Rattle.std.proofs.lemmas.List.{append-nil, drop_all}
-use Rattle.ijvm_instr.specs.declared.instr.Instr.{Instr}
-use Rattle.ijvm_instr.specs.declared.instr.Instr.TheVariants.{LdcW, Invokevirtual}
-use Rattle.tiny_tree.specs.declared.tree.Operator.{Operator}
+use Rattle.tiny_emit.proofs.Common.{◌≡◌, ◌<◌, ◌≤◌, ℕ, ◌+◌, List, [], ◌∷◌, ◌++◌, length, map, drop, get_or, refl, sym, ap, ◌∙◌, append_assoc, append-nil}
+use Rattle.tiny_emit.proofs.Common.{drop_all, Instr, LdcW, Invokevirtual, Operator, Step, out-Step, arguments_of, steps_of, expr_tree, step_tree, term_tree}
+use Rattle.tiny_emit.proofs.Common.{drop_item, expr_tree_out, step_tree_out, joined, none, code_bytes, Places, arguments_code, expr_code, operator_code}
+use Rattle.tiny_emit.proofs.Common.{steps_code, term_code}
 use Rattle.tiny_tree.specs.declared.tree.Expr.{Expr, out-Expr}
-use Rattle.tiny_tree.specs.declared.tree.Step.{Step, out-Step}
 use Rattle.tiny_tree.specs.Tree as tree
-use Rattle.tiny_tree.specs.Prelude.{arguments_of, steps_of, expr_tree, step_tree, term_tree, drop_item, expr_tree_out, step_tree_out}
-use Rattle.ijvm_text.specs.Prelude.{joined, none, code_bytes}
-use Rattle.tiny_code.specs.Prelude.{Places, arguments_code, expr_code, operator_code, steps_code, term_code}
 
 pub then_bytes : (old mid new : List ℕ) (a b : List Instr) → mid ≡ old ++ code_bytes a → new ≡ mid ++ code_bytes b →
     new ≡ old ++ code_bytes (a ++ b)

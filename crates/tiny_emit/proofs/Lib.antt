@@ -1,3 +1,4 @@
+pub mod Common
 mod Bytes
 mod Sides
 mod Lists

@@ -1,12 +1,8 @@
 -- The code of blocks, statement by statement.
-use Rattle.std.proofs.Common.{◌≡◌, ◌<◌, ◌≤◌, ℕ, ◌+◌, List, length, map, drop, get_or, sym, subst}
-use Rattle.std.proofs.lemmas.List.{drop_all}
-use Rattle.tiny_tree.specs.declared.tree.Statement.{Statement}
+use Rattle.tiny_emit.proofs.Common.{◌≡◌, ◌<◌, ◌≤◌, ℕ, ◌+◌, List, length, map, drop, get_or, sym, subst, drop_all, Statement, statements_of, statement_tree}
+use Rattle.tiny_emit.proofs.Common.{drop_item, Places, statement_code, statements_code, statement_lines, statements_lines, statement_lined, Text, AddsCode}
+use Rattle.tiny_emit.proofs.Common.{no_code}
 use Rattle.tiny_tree.specs.Tree as tree
-use Rattle.tiny_tree.specs.Prelude.{statements_of, statement_tree, drop_item}
-use Rattle.tiny_code.specs.Prelude.{Places, statement_code, statements_code, statement_lines, statements_lines, statement_lined}
-use Rattle.ijvm_text.specs.declared.text.Text.{Text}
-use Rattle.ijvm_text.specs.Prelude.{AddsCode, no_code}
 use Rattle.tiny_emit.proofs.Sides.{then_code}
 
 module _ (p : Places) (local : ℕ) where

@@ -1,18 +1,9 @@
 -- The code of tests, choices and loops, piece by piece.
-use Rattle.std.proofs.Common.{◌≡◌, ℕ, ℤ, pos, ◌+◌, ◌-◌, List, [], ◌∷◌, ◌++◌, length, refl, sym, ap, ◌∙◌, subst, arith}
-use Rattle.std.specs.Prelude.{neg_ℤ}
-use Rattle.std.specs.List.{zip}
-use Rattle.ijvm_instr.specs.declared.instr.Instr.{Instr}
-use Rattle.ijvm_instr.specs.declared.instr.Instr.TheVariants.{Iflt, IfIcmpeq, Goto}
-use Rattle.ijvm_instr.specs.Prelude.{HasLines, Jump, distances, jumps_of}
-use Rattle.tiny_tree.specs.Prelude.{Cond, Expr, Equal, Different, Less}
-use Rattle.tiny_code.specs.Prelude.{Places, choice, code_size, if_code, leave_code, loop, test_code, if_lines, leave_lines, while_lines, distances_append, leave_lined, test_lined, bytes_size}
-use Rattle.ijvm_text.specs.declared.text.Text.{Text}
+use Rattle.tiny_emit.proofs.Common.{◌≡◌, ℕ, ℤ, pos, ◌+◌, ◌-◌, List, [], ◌∷◌, ◌++◌, length, refl, sym, ap, ◌∙◌, subst, arith, neg_ℤ, zip, Instr, Iflt, IfIcmpeq}
+use Rattle.tiny_emit.proofs.Common.{Goto, HasLines, Jump, distances, jumps_of, Cond, Expr, Equal, Different, Less, Places, choice, code_size, if_code}
+use Rattle.tiny_emit.proofs.Common.{leave_code, loop, test_code, if_lines, leave_lines, while_lines, distances_append, leave_lined, test_lined, bytes_size}
+use Rattle.tiny_emit.proofs.Common.{Text, Ifeq, jump_by, joined, then, Adds, AddsCode, AddsJump, IsCode, code_bytes, jump_of}
 use Rattle.ijvm_program.specs.declared.line.Jump as kinds
-use Rattle.ijvm_program.specs.declared.line.Jump.TheVariants.{Ifeq}
-use Rattle.ijvm_program.specs.Prelude.{jump_by}
-use Rattle.ijvm_text.specs.Prelude.{joined, then, Adds, AddsCode, AddsJump, IsCode, code_bytes}
-use Rattle.tiny_emit.specs.Prelude.{jump_of}
 
 zip_append : (i j : List ℕ) (d e : List ℤ) → length i ≡ length d → zip (i ++ j) (d ++ e) ≡ zip i d ++ zip j e
 zip_append [] j [] e h = refl

@@ -1,22 +1,12 @@
 -- The texts of functions, one after the other.
-use Rattle.std.proofs.Common.{◌≡◌, ◌≢◌, ◌<◌, ◌≤◌, ⊎_elim, ℕ, pos, ◌+◌, Bool, List, [], ◌∷◌, ◌++◌, length, map, drop, get_or, Some, None, refl, sym, ap, ◌∙◌, subst}
-use Rattle.std.specs.Prelude.{not, ◌==◌, cond, slice_get}
-use Rattle.std.specs.List.{filter, enumerate_from}
+use Rattle.tiny_emit.proofs.Common.{◌≡◌, ◌≢◌, ◌<◌, ◌≤◌, ⊎_elim, ℕ, pos, ◌+◌, Bool, List, [], ◌∷◌, ◌++◌, length, map, drop, get_or, Some, None, refl, sym, ap}
+use Rattle.tiny_emit.proofs.Common.{◌∙◌, subst, not, ◌==◌, cond, slice_get, filter, enumerate_from, append-nil, drop_all, eqb_tells, Instr, Bipush, Ireturn}
+use Rattle.tiny_emit.proofs.Common.{Halt, header, HasLines, vars_of, Function, Program, function_tree, drop_item, Places, main_code, method_code, methods}
+use Rattle.tiny_emit.proofs.Common.{places_of, statements_code, layout_of, method_part, statements_lines, statements_lined, Text, Units, Adds, AddsCode, then}
+use Rattle.tiny_emit.proofs.Common.{code_bytes, AreUnits, whole, AddsMain, AddsMethod, AddsMethods, program_of}
 use Rattle.std.specs.Option.{option_map}
-use Rattle.std.proofs.lemmas.List.{append-nil, drop_all}
 use Rattle.std.proofs.lemmas.Option.{same_Some, slice_get-map, slice_get_read}
-use Rattle.std.proofs.lemmas.Bool.Decides.{eqb_tells}
-use Rattle.ijvm_instr.specs.declared.instr.Instr.{Instr}
-use Rattle.ijvm_instr.specs.declared.instr.Instr.TheVariants.{Bipush, Ireturn, Halt}
-use Rattle.ijvm_image.specs.Prelude.{header}
-use Rattle.ijvm_instr.specs.Prelude.{HasLines}
 use Rattle.tiny_tree.specs.declared.tree.Function as declared
-use Rattle.tiny_tree.specs.Prelude.{vars_of, Function, Program, function_tree, drop_item}
-use Rattle.tiny_code.specs.Prelude.{Places, main_code, method_code, methods, places_of, statements_code, layout_of, method_part, statements_lines, statements_lined}
-use Rattle.ijvm_text.specs.declared.text.Text.{Text}
-use Rattle.ijvm_text.specs.declared.units.Units.{Units}
-use Rattle.ijvm_text.specs.Prelude.{Adds, AddsCode, then, code_bytes, AreUnits, whole}
-use Rattle.tiny_emit.specs.Prelude.{AddsMain, AddsMethod, AddsMethods, program_of}
 use Rattle.tiny_emit.proofs.Sides.{then_code}
 
 -- with no jump at the end

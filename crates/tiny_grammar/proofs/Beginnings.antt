@@ -1,7 +1,5 @@
 -- Tokens with which no part begins.
-use Rattle.std.proofs.Common.{◌≡◌, refl}
-use Rattle.std.specs.Prelude.{None, [], ◌∷◌}
-use Rattle.tiny_draft.specs.declared.token.Kind.{Kind}
+use Rattle.tiny_grammar.proofs.Common.{◌≡◌, refl, None, [], ◌∷◌, Kind}
 use Rattle.tiny_draft.specs.declared.token.Kind.TheVariants as kinds
 use Rattle.tiny_draft.specs.declared.token.Sign.TheVariants as signs
 use Rattle.tiny_grammar.specs.Prelude.{MoreArguments, Steps, before, begins_arguments, begins_block, begins_call, begins_else, begins_functions, begins_more, begins_more_parameters, begins_statement, begins_term, is_name, is_number, is_sign}

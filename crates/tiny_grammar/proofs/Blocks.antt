@@ -1,16 +1,10 @@
 -- How statements and blocks go on.
-use Rattle.std.proofs.Common.{◌≡◌, ℕ, ◌+◌, ◌-◌, ◌<◌, true, false, List, [], ◌∷◌, ◌++◌, map, refl, ap, sym, ◌∙◌, arith, append_assoc}
-use Rattle.std.specs.Prelude.{Option, Some, None}
-use Rattle.std.proofs.lemmas.List.{append-nil, map_push}
+use Rattle.tiny_grammar.proofs.Common.{◌≡◌, ℕ, ◌+◌, ◌-◌, ◌<◌, true, false, List, [], ◌∷◌, ◌++◌, map, refl, ap, sym, ◌∙◌, arith, append_assoc, Option, Some}
+use Rattle.tiny_grammar.proofs.Common.{None, append-nil, map_push, Word, Statement, statements_of, statement_tree, Sign, Token, Refusal}
 use Rattle.tiny_draft.specs.declared.tree.Statement as declared
-use Rattle.tiny_draft.specs.declared.tree.Word.{Word}
-use Rattle.tiny_draft.specs.Prelude.{Statement, statements_of, statement_tree}
 use Rattle.tiny_draft.specs.Tree as tree
 use Rattle.tiny_draft.specs.declared.token.Kind.TheVariants as kinds
-use Rattle.tiny_draft.specs.declared.token.Sign.{Sign}
 use Rattle.tiny_draft.specs.declared.token.Sign.TheVariants as signs
-use Rattle.tiny_draft.specs.declared.token.Token.{Token}
-use Rattle.tiny_grammar.specs.declared.refusal.Refusal.{Refusal}
 use Rattle.tiny_grammar.specs.Prelude.{first_kind, first_line, end, kept_line, sign, sign_at, word, spell_arguments, spell_block, spell_expr, spell_statement, spell_statements, Stays, turn, ABlock, ACond, AfterName, AName, Arguments, AStatement, MaybeElse, Outcome, Part, Statements, Want, before, begins, begins_statement, fault, is_name, is_sign, or_skip, take_on, value, walk, HoldsNoBlock, Moves, NameAt, Reads, ReadsAll, Says, Sees, Stops}
 use Rattle.tiny_grammar.proofs.Beginnings.{block_none, else_none, statement_none}
 use Rattle.tiny_grammar.proofs.Exprs.{name_at}

@@ -1,13 +1,10 @@
 -- The grammar on a worked program.
-use Rattle.std.proofs.Common.{ℕ, List, [], ◌∷◌, refl}
+use Rattle.tiny_grammar.proofs.Common.{ℕ, List, [], ◌∷◌, refl, Sign, Token, Word, Function, Expr, Variable, Number, Called, Sum, no_steps, step, argument}
+use Rattle.tiny_grammar.proofs.Common.{no_arguments, Compare, While, Put, Return, statement, no_statements}
 use Rattle.tiny_tree.specs.declared.tree.Operator.TheVariants as operators
 use Rattle.tiny_draft.specs.declared.token.Kind.TheVariants as kinds
-use Rattle.tiny_draft.specs.declared.token.Sign.{Sign}
 use Rattle.tiny_draft.specs.declared.token.Sign.TheVariants as signs
-use Rattle.tiny_draft.specs.declared.token.Token.{Token}
 use Rattle.tiny_draft.specs.declared.tree.Comparison.TheVariants as comparisons
-use Rattle.tiny_draft.specs.declared.tree.Word.{Word}
-use Rattle.tiny_draft.specs.Prelude.{Function, Expr, Variable, Number, Called, Sum, no_steps, step, argument, no_arguments, Compare, While, Put, Return, statement, no_statements}
 use Rattle.tiny_grammar.specs.Prelude.{SpellsProgram}
 
 abbrev of : Sign → ℕ → Token

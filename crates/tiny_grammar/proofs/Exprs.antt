@@ -1,22 +1,14 @@
 -- How expressions, conditions and arguments go on.
-use Rattle.std.proofs.Common.{◌≡◌, ℕ, ◌+◌, ◌-◌, ◌<◌, List, [], ◌∷◌, ◌++◌, map, refl, ap, sym, ◌∙◌, append_assoc}
-use Rattle.std.specs.Prelude.{None, Some, option_map}
-use Rattle.std.proofs.lemmas.List.{map_push}
-use Rattle.tiny_tree.specs.declared.tree.Operator.{Operator}
-use Rattle.tiny_tree.specs.declared.tree.Operator.TheVariants as operators
-use Rattle.tiny_draft.specs.declared.tree.Comparison.{Comparison}
-use Rattle.tiny_draft.specs.declared.tree.Comparison.TheVariants as comparisons
+use Rattle.tiny_grammar.proofs.Common.{◌≡◌, ℕ, ◌+◌, ◌-◌, ◌<◌, List, [], ◌∷◌, ◌++◌, map, refl, ap, sym, ◌∙◌, append_assoc, None, Some, option_map, map_push}
+use Rattle.tiny_grammar.proofs.Common.{Operator, Comparison, Word, arguments_of, steps_of, expr_tree, step_tree, term_tree, Kind, Token, Refusal}
 use Rattle.tiny_draft.specs.declared.tree.Expr.{Expr}
-use Rattle.tiny_draft.specs.declared.tree.Step.{Step}
 use Rattle.tiny_draft.specs.declared.tree.Term.{Term}
-use Rattle.tiny_draft.specs.declared.tree.Word.{Word}
-use Rattle.tiny_draft.specs.Prelude.{arguments_of, steps_of, expr_tree, step_tree, term_tree}
+use Rattle.tiny_tree.specs.declared.tree.Operator.TheVariants as operators
+use Rattle.tiny_draft.specs.declared.tree.Comparison.TheVariants as comparisons
+use Rattle.tiny_draft.specs.declared.tree.Step.{Step}
 use Rattle.tiny_draft.specs.Tree as tree
-use Rattle.tiny_draft.specs.declared.token.Kind.{Kind}
 use Rattle.tiny_draft.specs.declared.token.Kind.TheVariants as kinds
 use Rattle.tiny_draft.specs.declared.token.Sign.TheVariants as signs
-use Rattle.tiny_draft.specs.declared.token.Token.{Token}
-use Rattle.tiny_grammar.specs.declared.refusal.Refusal.{Refusal}
 use Rattle.tiny_grammar.specs.Prelude.{first_kind, bare, comparison, end, kept_line, operator, sign, word, spell_arguments, spell_cond, spell_expr, spell_steps, spell_term, Stays, turn, ACond, AnExpr, ATerm, Arguments, Compare, MoreArguments, Part, Steps, Want, begins, comparison_of, fault, is_sign, operator_of, value, ComparisonAt, Moves, NameAt, NumberAt, OperatorAt, Reads, ReadsAll, Sees, Stops}
 use Rattle.tiny_grammar.proofs.Lists.{arguments_end, commas_more, steps_more, with_commas}
 use Rattle.tiny_grammar.proofs.Beginnings.{arguments_not_closed, more_none}

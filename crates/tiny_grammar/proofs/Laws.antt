@@ -1,14 +1,8 @@
 -- The machine refuses what the grammar refuses, and takes what it spells.
-use Rattle.std.proofs.Common.{◌≡◌, ℕ, Bool, true, false, List, [], ◌∷◌, ◌++◌, length, map, cond, refl, ap, sym, subst, ◌∙◌, arith}
-use Rattle.std.specs.Prelude.{Option, Some, None, Err, ◌==◌, ◌≢◌}
-use Rattle.std.proofs.lemmas.List.{append-nil}
-use Rattle.std.proofs.lemmas.Bool.{eqb-true}
-use Rattle.tiny_draft.specs.Prelude.{Function}
-use Rattle.tiny_draft.specs.declared.token.Kind.{Kind}
+use Rattle.tiny_grammar.proofs.Common.{◌≡◌, ℕ, Bool, true, false, List, [], ◌∷◌, ◌++◌, length, map, cond, refl, ap, sym, subst, ◌∙◌, arith, Option, Some, None}
+use Rattle.tiny_grammar.proofs.Common.{Err, ◌==◌, ◌≢◌, append-nil, eqb-true, Function, Kind, Token, Refusal}
 use Rattle.tiny_draft.specs.declared.token.Kind.TheVariants as kinds
 use Rattle.tiny_draft.specs.declared.token.Sign.TheVariants as signs
-use Rattle.tiny_draft.specs.declared.token.Token.{Token}
-use Rattle.tiny_grammar.specs.declared.refusal.Refusal.{Refusal}
 use Rattle.tiny_grammar.specs.declared.refusal.Refusal.TheVariants as refusals
 use Rattle.tiny_grammar.specs.Prelude.{first_kind, SpellsProgram, kept, Part, begins, fault, fault_by, follow, is_optional, is_sign, or_skip, spent, walk, Begins, IsCutShort, IsReason, IsRefused, IsRefusedAt, IsShallow, left, turn, Opens}
 use Rattle.tiny_grammar.specs.Machine as m

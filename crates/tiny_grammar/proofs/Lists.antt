@@ -1,11 +1,7 @@
 -- Lists of terms and of arguments that grow at their ends.
-use Rattle.std.proofs.Common.{◌≡◌, List, [], ◌∷◌, ◌++◌, refl, ap, sym, ◌∙◌, append_assoc}
-use Rattle.std.proofs.lemmas.List.{append-nil}
-use Rattle.tiny_tree.specs.declared.tree.Operator.{Operator}
-use Rattle.tiny_draft.specs.Prelude.{Function, Term, Expr, steps_of, arguments_of}
-use Rattle.tiny_draft.specs.declared.tree.Word.{Word}
+use Rattle.tiny_grammar.proofs.Common.{◌≡◌, List, [], ◌∷◌, ◌++◌, refl, ap, sym, ◌∙◌, append_assoc, append-nil, Operator, Function, Term, Expr, steps_of}
+use Rattle.tiny_grammar.proofs.Common.{arguments_of, Word, Token}
 use Rattle.tiny_draft.specs.declared.token.Sign.TheVariants as signs
-use Rattle.tiny_draft.specs.declared.token.Token.{Token}
 use Rattle.tiny_grammar.specs.Prelude.{operator, sign, word, spell_term, spell_expr, spell_steps, spell_arguments, spell_function, spell_functions, spell_parameters}
 
 -- arguments with a comma after each

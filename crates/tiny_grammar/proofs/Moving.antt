@@ -1,10 +1,6 @@
 -- Steps of the machine, and moves one after the other.
-use Rattle.std.proofs.Common.{◌≡◌, ℕ, ◌+◌, ◌-◌, ◌<◌, true, false, List, [], ◌∷◌, ◌++◌, refl, ap, sym, subst, ◌∙◌, arith, append_assoc, length-append}
-use Rattle.std.proofs.lemmas.Bool.{ne_eqb}
-use Rattle.std.specs.Prelude.{Option, Some, None, Err, map, ◌==◌}
-use Rattle.tiny_draft.specs.declared.token.Kind.{Kind}
-use Rattle.tiny_draft.specs.declared.token.Token.{Token}
-use Rattle.tiny_grammar.specs.declared.refusal.Refusal.{Refusal}
+use Rattle.tiny_grammar.proofs.Common.{◌≡◌, ℕ, ◌+◌, ◌-◌, ◌<◌, true, false, List, [], ◌∷◌, ◌++◌, refl, ap, sym, subst, ◌∙◌, arith, append_assoc, length-append}
+use Rattle.tiny_grammar.proofs.Common.{ne_eqb, Option, Some, None, Err, map, ◌==◌, Kind, Token, Refusal}
 use Rattle.tiny_grammar.specs.declared.refusal.Refusal.TheVariants as refusals
 use Rattle.tiny_grammar.specs.Prelude.{first_kind, kept, kept_line, Part, before, begins, is_optional, follow, or_skip, fault, take_on, walk, Outcome, Stays, Opens, Closes, turn, Moves, Skips, Stops}
 

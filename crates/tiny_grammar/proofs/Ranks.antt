@@ -1,8 +1,5 @@
 -- A sign is known by its rank.
-use Rattle.std.proofs.Common.{◌≡◌, ℕ, true, refl, ap, sym, ◌∙◌}
-use Rattle.std.specs.Prelude.{◌==◌, if◌then◌else◌}
-use Rattle.std.proofs.lemmas.Bool.{eqb-true}
-use Rattle.tiny_draft.specs.declared.token.Sign.{Sign}
+use Rattle.tiny_grammar.proofs.Common.{◌≡◌, ℕ, true, refl, ap, sym, ◌∙◌, ◌==◌, if◌then◌else◌, eqb-true, Sign}
 use Rattle.tiny_draft.specs.declared.token.Sign.TheVariants as signs
 use Rattle.tiny_grammar.specs.Prelude.{rank}
 

@@ -1,9 +1,6 @@
 -- The machine over many tokens: how far it goes, and where it is refused.
-use Rattle.std.proofs.Common.{◌≡◌, ℕ, ◌+◌, ◌-◌, ◌<◌, Bool, true, false, List, [], ◌∷◌, ◌++◌, map, cond, refl, ap, sym, subst, arith}
-use Rattle.std.specs.Prelude.{Option, Some, None, Ok, Err, ◌==◌, option_and_then}
-use Rattle.std.proofs.lemmas.Bool.{eqb-true, eqb-false, ne_eqb}
-use Rattle.tiny_draft.specs.declared.token.Token.{Token}
-use Rattle.tiny_grammar.specs.declared.refusal.Refusal.{Refusal}
+use Rattle.tiny_grammar.proofs.Common.{◌≡◌, ℕ, ◌+◌, ◌-◌, ◌<◌, Bool, true, false, List, [], ◌∷◌, ◌++◌, map, cond, refl, ap, sym, subst, arith, Option, Some}
+use Rattle.tiny_grammar.proofs.Common.{None, Ok, Err, ◌==◌, option_and_then, eqb-true, eqb-false, ne_eqb, Token, Refusal}
 use Rattle.tiny_grammar.specs.declared.refusal.Refusal.TheVariants as refusals
 use Rattle.tiny_grammar.specs.Prelude.{kept, Closes, IsShallow, MayTurn, Opens, Stays, Turn, left, left_by, turn, Outcome, Part, fault_by, follow, go_on, spent, take_on, walk}
 

@@ -1,15 +1,9 @@
 -- How parameters and functions go on.
-use Rattle.std.proofs.Common.{◌≡◌, ℕ, ◌+◌, List, [], ◌∷◌, ◌++◌, map, refl, ap, sym, ◌∙◌, arith, append_assoc}
-use Rattle.std.specs.Prelude.{None}
-use Rattle.std.proofs.lemmas.List.{map_push}
+use Rattle.tiny_grammar.proofs.Common.{◌≡◌, ℕ, ◌+◌, List, [], ◌∷◌, ◌++◌, map, refl, ap, sym, ◌∙◌, arith, append_assoc, None, map_push, Word, Statements}
+use Rattle.tiny_grammar.proofs.Common.{function_tree, Kind, Token, Refusal}
 use Rattle.tiny_draft.specs.declared.tree.Function as declared
-use Rattle.tiny_draft.specs.declared.tree.Word.{Word}
-use Rattle.tiny_draft.specs.Prelude.{Statements, function_tree}
-use Rattle.tiny_draft.specs.declared.token.Kind.{Kind}
 use Rattle.tiny_draft.specs.declared.token.Kind.TheVariants as kinds
 use Rattle.tiny_draft.specs.declared.token.Sign.TheVariants as signs
-use Rattle.tiny_draft.specs.declared.token.Token.{Token}
-use Rattle.tiny_grammar.specs.declared.refusal.Refusal.{Refusal}
 use Rattle.tiny_grammar.specs.Prelude.{first_kind, sign, word, spell_block, spell_functions, spell_parameters, spell_signature, ABlock, AName, Functions, MoreParameters, Parameters, Part, Want, before, begins_parameters, fault, is_name, is_sign, signature, Moves, NameAt, Reads, ReadsAll, Sees, Stops}
 use Rattle.tiny_grammar.proofs.Beginnings.{more_parameters_none}
 use Rattle.tiny_grammar.proofs.Blocks.{name_wanted}

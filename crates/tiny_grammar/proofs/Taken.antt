@@ -1,15 +1,11 @@
 -- The machine takes what a tree spells.
-use Rattle.std.proofs.Common.{◌≡◌, true, List, [], ◌∷◌, ◌++◌, refl, ap, sym, ◌∙◌, append_assoc}
-use Rattle.std.specs.Prelude.{Some, None}
-use Rattle.tiny_tree.specs.declared.tree.Operator.{Operator}
+use Rattle.tiny_grammar.proofs.Common.{◌≡◌, true, List, [], ◌∷◌, ◌++◌, refl, ap, sym, ◌∙◌, append_assoc, Some, None, Operator, Comparison, Word, Function, Term}
+use Rattle.tiny_grammar.proofs.Common.{Number, Variable, Called, Get, Group, Expr, Sum, no_steps, step, no_arguments, argument, Cond, Statement, Var, Assign}
+use Rattle.tiny_grammar.proofs.Common.{Calls, If, While, Return, Put, Halt, no_else, else_block, no_statements, statement, Token}
 use Rattle.tiny_tree.specs.declared.tree.Operator.TheVariants as operators
-use Rattle.tiny_draft.specs.declared.tree.Comparison.{Comparison}
 use Rattle.tiny_draft.specs.declared.tree.Comparison.TheVariants as comparisons
-use Rattle.tiny_draft.specs.declared.tree.Word.{Word}
-use Rattle.tiny_draft.specs.Prelude.{Function, Term, Number, Variable, Called, Get, Group, Expr, Sum, no_steps, step, no_arguments, argument, Cond, Statement, Var, Assign, Calls, If, While, Return, Put, Halt, no_else, else_block, no_statements, statement}
 use Rattle.tiny_draft.specs.Tree as tree
 use Rattle.tiny_draft.specs.declared.token.Sign.TheVariants as signs
-use Rattle.tiny_draft.specs.declared.token.Token.{Token}
 use Rattle.tiny_grammar.specs.Prelude.{comparison, end, operator, sign, spell_arguments, spell_block, spell_cond, spell_else, spell_expr, spell_function, spell_functions, spell_more, spell_more_parameters, spell_parameters, spell_statement, spell_statements, spell_steps, spell_term, ABlock, ACond, AnExpr, Arguments, ATerm, Compare, Functions, MaybeCall, MaybeElse, MoreArguments, MoreParameters, Parameters, Part, Statements, Steps, Want, begins, begins_call, begins_else, begins_statement, begins_steps, is_optional}
 use Rattle.tiny_grammar.proofs.Runs.{steps}
 

@@ -1,17 +1,10 @@
 -- What the machine has taken can be completed: each part has a text, and a token before the texts of what it leaves to come is a text of the part.
-use Rattle.std.proofs.Common.{◌≡◌, ℕ, Bool, true, false, List, [], ◌∷◌, ◌++◌, map, cond, inl, inr, refl, ap, sym, subst, ◌∙◌, append_assoc}
-use Rattle.std.specs.Prelude.{Option, Some, None, ◌⊎◌, ◌==◌, ◌&&◌, option_and_then, option_map}
-use Rattle.std.proofs.lemmas.List.{append-nil}
-use Rattle.tiny_tree.specs.declared.tree.Operator.{Operator}
-use Rattle.tiny_draft.specs.declared.tree.Comparison.{Comparison}
+use Rattle.tiny_grammar.proofs.Common.{◌≡◌, ℕ, Bool, true, false, List, [], ◌∷◌, ◌++◌, map, cond, inl, inr, refl, ap, sym, subst, ◌∙◌, append_assoc, Option}
+use Rattle.tiny_grammar.proofs.Common.{Some, None, ◌⊎◌, ◌==◌, ◌&&◌, option_and_then, option_map, append-nil, Operator, Comparison, Word, Kind, Sign, Token}
 use Rattle.tiny_draft.specs.declared.tree.Comparison.TheVariants as comparisons
-use Rattle.tiny_draft.specs.declared.tree.Word.{Word}
 use Rattle.tiny_draft.specs.Tree as tree
-use Rattle.tiny_draft.specs.declared.token.Kind.{Kind}
 use Rattle.tiny_draft.specs.declared.token.Kind.TheVariants as kinds
-use Rattle.tiny_draft.specs.declared.token.Sign.{Sign}
 use Rattle.tiny_draft.specs.declared.token.Sign.TheVariants as signs
-use Rattle.tiny_draft.specs.declared.token.Token.{Token}
 use Rattle.tiny_grammar.specs.Prelude.{rank, comparison, end, kept, kept_line, operator, sign, sign_at, word, spell_arguments, spell_block, spell_cond, spell_else, spell_expr, spell_functions, spell_more, spell_more_parameters, spell_parameters, spell_statement, spell_statements, spell_steps, spell_term, ABlock, ACond, AfterName, AName, AnExpr, Arguments, AStatement, ATerm, Compare, Functions, MaybeCall, MaybeElse, MoreArguments, MoreParameters, Parameters, Part, Statements, Steps, Want, before, begins, begins_after_name, begins_arguments, begins_block, begins_call, begins_compare, begins_else, begins_functions, begins_more, begins_more_parameters, begins_parameters, begins_statement, begins_steps, begins_term, comparison_of, follow, is_optional, is_sign, operator_of, or_skip, spent, value, Begins}
 use Rattle.tiny_grammar.proofs.Exprs.{comparison_kept, operator_kept}
 use Rattle.tiny_grammar.proofs.Ranks.{same_sign}

@@ -1,19 +1,13 @@
 -- A list of tokens spells at most one tree.
-use Rattle.std.proofs.Common.{◌≡◌, ℕ, false, List, [], ◌∷◌, ◌++◌, refl, ap, ap₂, sym, ◌∙◌, append_assoc}
-use Rattle.std.specs.Prelude.{Some, None, ◌==◌, option_map}
-use Rattle.std.proofs.lemmas.Bool.{eqb-false}
-use Rattle.tiny_tree.specs.declared.tree.Operator.{Operator}
+use Rattle.tiny_grammar.proofs.Common.{◌≡◌, ℕ, false, List, [], ◌∷◌, ◌++◌, refl, ap, ap₂, sym, ◌∙◌, append_assoc, Some, None, ◌==◌, option_map, eqb-false}
+use Rattle.tiny_grammar.proofs.Common.{Operator, Comparison, Word, Function, Term, Number, Variable, Called, Get, Group, Expr, Sum, no_steps, step}
+use Rattle.tiny_grammar.proofs.Common.{no_arguments, argument, Cond, Statement, Var, Assign, Calls, If, While, Return, Put, Halt, Else, no_else, else_block}
+use Rattle.tiny_grammar.proofs.Common.{no_statements, statement, Kind, Sign, Token}
 use Rattle.tiny_tree.specs.declared.tree.Operator.TheVariants as operators
-use Rattle.tiny_draft.specs.declared.tree.Comparison.{Comparison}
 use Rattle.tiny_draft.specs.declared.tree.Comparison.TheVariants as comparisons
-use Rattle.tiny_draft.specs.declared.tree.Word.{Word}
-use Rattle.tiny_draft.specs.Prelude.{Function, Term, Number, Variable, Called, Get, Group, Expr, Sum, no_steps, step, no_arguments, argument, Cond, Statement, Var, Assign, Calls, If, While, Return, Put, Halt, Else, no_else, else_block, no_statements, statement}
 use Rattle.tiny_draft.specs.Tree as tree
-use Rattle.tiny_draft.specs.declared.token.Kind.{Kind}
 use Rattle.tiny_draft.specs.declared.token.Kind.TheVariants as kinds
-use Rattle.tiny_draft.specs.declared.token.Sign.{Sign}
 use Rattle.tiny_draft.specs.declared.token.Sign.TheVariants as signs
-use Rattle.tiny_draft.specs.declared.token.Token.{Token}
 use Rattle.tiny_grammar.specs.Prelude.{first_kind, rank, bare, comparison, end, operator, sign, sign_at, word, spell_arguments, spell_block, spell_cond, spell_else, spell_expr, spell_function, spell_functions, spell_more, spell_more_parameters, spell_parameters, spell_statement, spell_statements, spell_steps, spell_term, ATerm, Steps, begins_call, begins_else, begins_steps, comparison_of, operator_of}
 
 -- such tokens may stand after a term, an expression and a statement

@@ -1,15 +1,10 @@
 -- The grammar: how a tree is spelled. Only names, `if`, `while` and `return` keep their lines, so the other tokens stand here without lines.
 use Rattle.std.specs.Prelude.{◌≡◌, ℕ, List, [], ◌∷◌, ◌++◌, map}
-use Rattle.tiny_tree.specs.declared.tree.Operator.{Operator}
+use Rattle.tiny_grammar.specs.Common.{Operator, Kind, Sign, Token, Comparison, Word}
 use Rattle.tiny_tree.specs.declared.tree.Operator.TheVariants as operators
-use Rattle.tiny_draft.specs.declared.token.Kind.{Kind}
 use Rattle.tiny_draft.specs.declared.token.Kind.TheVariants as kinds
-use Rattle.tiny_draft.specs.declared.token.Sign.{Sign}
 use Rattle.tiny_draft.specs.declared.token.Sign.TheVariants as signs
-use Rattle.tiny_draft.specs.declared.token.Token.{Token}
-use Rattle.tiny_draft.specs.declared.tree.Comparison.{Comparison}
 use Rattle.tiny_draft.specs.declared.tree.Comparison.TheVariants as comparisons
-use Rattle.tiny_draft.specs.declared.tree.Word.{Word}
 use Rattle.tiny_draft.specs.Prelude.{Function, Term, Number, Variable, Called, Get, Group, Expr, Sum, Steps, no_steps, step, Arguments, no_arguments, argument, Cond, Compare, Statement, Var, Assign, Calls, If, While, Return, Put, Halt, Else, no_else, else_block, Statements, no_statements, statement}
 
 -- ---- tokens without the lines that no tree keeps

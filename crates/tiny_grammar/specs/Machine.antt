@@ -1,14 +1,10 @@
 -- The grammar read token by token: which parts are still to come. It is a tool of the proofs; the laws of `Refusals` and `Grammar` show that it is right.
 use Rattle.std.specs.Prelude.{ℕ, ◌+◌, ◌-◌, ◌==◌, ◌&&◌, Bool, true, false, List, [], ◌∷◌, ◌++◌, Option, Some, None, Result, Ok, Err, if◌then◌else◌, option_map}
-use Rattle.tiny_tree.specs.declared.tree.Operator.{Operator}
+use Rattle.tiny_grammar.specs.Common.{Operator, Comparison, Kind, Sign, Token}
 use Rattle.tiny_tree.specs.declared.tree.Operator.TheVariants as operators
-use Rattle.tiny_draft.specs.declared.tree.Comparison.{Comparison}
 use Rattle.tiny_draft.specs.declared.tree.Comparison.TheVariants as comparisons
-use Rattle.tiny_draft.specs.declared.token.Kind.{Kind}
 use Rattle.tiny_draft.specs.declared.token.Kind.TheVariants as kinds
-use Rattle.tiny_draft.specs.declared.token.Sign.{Sign}
 use Rattle.tiny_draft.specs.declared.token.Sign.TheVariants as signs
-use Rattle.tiny_draft.specs.declared.token.Token.{Token}
 use Rattle.tiny_grammar.specs.declared.refusal.Refusal.{Refusal}
 use Rattle.tiny_grammar.specs.declared.refusal.Refusal.TheVariants as refusals
 use Rattle.tiny_grammar.specs.Refusals.{Turn, Stays, Opens, Closes, turn}

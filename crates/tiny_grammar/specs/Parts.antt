@@ -1,12 +1,7 @@
 -- Which part of a program is read from the front of the tokens, and what is after it.
 use Rattle.std.specs.Prelude.{◌≡◌, ℕ, ◌+◌, List, [], ◌∷◌, ◌++◌, map, Option, None, MatchOption}
-use Rattle.std.specs.Borrow.{Bor}
-use Rattle.tiny_draft.specs.declared.token.Sign.{Sign}
+use Rattle.tiny_grammar.specs.Common.{Bor, Sign, Token, Expr, Statement, Term}
 use Rattle.tiny_draft.specs.declared.token.Sign.TheVariants as signs
-use Rattle.tiny_draft.specs.declared.token.Token.{Token}
-use Rattle.tiny_draft.specs.declared.tree.Expr.{Expr}
-use Rattle.tiny_draft.specs.declared.tree.Statement.{Statement}
-use Rattle.tiny_draft.specs.declared.tree.Term.{Term}
 use Rattle.tiny_draft.specs.Tree as tree
 use Rattle.tiny_draft.specs.Prelude.{arguments_of, expr_tree, statement_tree, term_tree}
 use Rattle.tiny_grammar.specs.Grammar.{SpellsProgram, end, sign, spell_arguments, spell_expr, spell_statement, spell_term}

@@ -1,18 +1,13 @@
 -- What holds of a function that reads a part from the front of the tokens.
 use Rattle.std.specs.Prelude.{◌≡◌, ℕ, ◌+◌, Bool, true, false, List, [], ◌∷◌, ◌++◌, length, map, None, Some, Err}
-use Rattle.tiny_draft.specs.declared.token.Token.{Token}
-use Rattle.tiny_draft.specs.declared.token.Sign.{Sign}
+use Rattle.tiny_grammar.specs.Common.{Token, Sign, Statement, Word, Operator, Comparison}
 use Rattle.tiny_draft.specs.declared.token.Kind.TheVariants as kinds
 use Rattle.tiny_draft.specs.declared.token.Sign.TheVariants as signs
-use Rattle.tiny_draft.specs.declared.tree.Statement.{Statement}
-use Rattle.tiny_draft.specs.declared.tree.Word.{Word}
 use Rattle.tiny_draft.specs.Prelude.{statement_tree}
 use Rattle.tiny_grammar.specs.Tokens.{first_kind}
 use Rattle.tiny_grammar.specs.declared.refusal.Refusal.{Refusal}
 use Rattle.tiny_grammar.specs.declared.refusal.Refusal.TheVariants as refusals
 use Rattle.tiny_grammar.specs.Grammar.{kept, spell_statement, word}
-use Rattle.tiny_tree.specs.declared.tree.Operator.{Operator}
-use Rattle.tiny_draft.specs.declared.tree.Comparison.{Comparison}
 use Rattle.tiny_grammar.specs.Machine.{Part, AfterName, comparison_of, is_sign, operator_of, walk}
 
 abbrev pub is_memory : Refusal → Bool

@@ -1,10 +1,9 @@
 -- Which token is refused first, and why: those before it begin a program, and with this one they do not, or it opens too many levels.
 use Rattle.std.specs.Prelude.{◌≡◌, ◌≢◌, ℕ, ◌+◌, ◌-◌, ◌<◌, List, [], ◌∷◌, ◌++◌, map, ⊤}
 use Rattle.tiny_draft.specs.Prelude.{Function}
-use Rattle.tiny_draft.specs.declared.token.Kind.{Kind}
+use Rattle.tiny_grammar.specs.Common.{Kind, Token}
 use Rattle.tiny_draft.specs.declared.token.Kind.TheVariants as kinds
 use Rattle.tiny_draft.specs.declared.token.Sign.TheVariants as signs
-use Rattle.tiny_draft.specs.declared.token.Token.{Token}
 use Rattle.tiny_grammar.specs.declared.refusal.Refusal.{Refusal}
 use Rattle.tiny_grammar.specs.declared.refusal.Refusal.TheVariants as refusals
 use Rattle.tiny_grammar.specs.Grammar.{SpellsProgram, kept, spell_functions}

@@ -1,10 +1,8 @@
 -- Tokens from the front. Where none is left, the first one counts as a token that begins nothing.
 use Rattle.std.specs.Prelude.{ℕ, List, [], ◌∷◌}
-use Rattle.tiny_draft.specs.declared.token.Kind.{Kind}
+use Rattle.tiny_grammar.specs.Common.{Kind, Sign, Token}
 use Rattle.tiny_draft.specs.declared.token.Kind.TheVariants as kinds
-use Rattle.tiny_draft.specs.declared.token.Sign.{Sign}
 use Rattle.tiny_draft.specs.declared.token.Sign.TheVariants as signs
-use Rattle.tiny_draft.specs.declared.token.Token.{Token}
 
 abbrev pub first_kind : List Token → Kind
 first_kind [] = kinds.Bad

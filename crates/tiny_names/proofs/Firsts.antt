@@ -1,16 +1,8 @@
 -- Lists of faults, one after the other.
-use Rattle.std.proofs.Common.{◌≡◌, ℕ, ◌+◌, ◌<◌, [], ◌∷◌, ◌++◌, List, length, get_or, drop, map, refl, ap, ◌∙◌, arith}
-use Rattle.std.specs.Prelude.{Option, Some, None}
-use Rattle.tiny_draft.specs.declared.tree.Expr.{Expr}
-use Rattle.tiny_draft.specs.declared.tree.Step.{Step, out-Step}
+use Rattle.tiny_names.proofs.Common.{◌≡◌, ℕ, ◌+◌, ◌<◌, [], ◌∷◌, ◌++◌, List, length, get_or, drop, map, refl, ap, ◌∙◌, arith, Option, Some, None, Expr, Step}
+use Rattle.tiny_names.proofs.Common.{out-Step, fold_out-Step, Operator, drop_item, Fault, Signature, count, first, step_faults, term_faults}
 use Rattle.tiny_draft.specs.Prelude.{arguments_of, steps_of, call_level, expr_level, expr_tree, step_level, step_tree, sum_level, term_level, term_tree}
-use Rattle.tiny_draft.specs.declared.tree.Expr.TheFolds.{fold_out-Step}
-use Rattle.tiny_tree.specs.declared.tree.Operator.{Operator}
-use Rattle.tiny_tree.specs.Prelude.{drop_item}
 use Rattle.tiny_draft.specs.Tree as tree
-use Rattle.tiny_names.specs.declared.fault.Fault.{Fault}
-use Rattle.tiny_names.specs.declared.functions.Signature.{Signature}
-use Rattle.tiny_names.specs.Prelude.{count, first, step_faults, term_faults}
 
 pub first_some : (a b : List Fault) (f : Fault) → Some f ≡ first a → Some f ≡ first (a ++ b)
 first_some [] b f h = absurd (cc)

@@ -1,16 +1,9 @@
 -- Resolved lists.
-use Rattle.std.proofs.Common.{◌≡◌, ℕ, ◌≤◌, [], ◌∷◌, List, length, take, map, refl, ap, sym, ◌∙◌}
-use Rattle.std.specs.Prelude.{Option}
-use Rattle.tiny_tree.specs.declared.tree.Operator.{Operator}
-use Rattle.std.proofs.lemmas.List.{take_all}
-use Rattle.tiny_draft.specs.declared.tree.Block.{Block, out-Block}
-use Rattle.tiny_draft.specs.declared.tree.Statement.{Statement}
-use Rattle.tiny_draft.specs.declared.tree.Statement.TheFolds.{fold_out-Block}
+use Rattle.tiny_names.proofs.Common.{◌≡◌, ℕ, ◌≤◌, [], ◌∷◌, List, length, take, map, refl, ap, sym, ◌∙◌, Option, Operator, take_all, Block, out-Block, Statement}
+use Rattle.tiny_names.proofs.Common.{fold_out-Block, Signature, arguments, expr, statement, statements, steps, term}
 use Rattle.tiny_draft.specs.Tree as draft
 use Rattle.tiny_draft.specs.Prelude.{block_level, block_tree, branches_level, statement_level, statement_tree}
 use Rattle.tiny_tree.specs.Tree as tree
-use Rattle.tiny_names.specs.declared.functions.Signature.{Signature}
-use Rattle.tiny_names.specs.Prelude.{arguments, expr, statement, statements, steps, term}
 
 module _ (known : ℕ → Option Signature) (names : List ℕ) where
   abbrev pub step_of : Operator × draft.Term → Operator × tree.Term

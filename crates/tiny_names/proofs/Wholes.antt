@@ -1,19 +1,12 @@
 -- The faults of a whole program.
-use Rattle.std.proofs.Common.{◌≡◌, ℕ, ◌+◌, ◌<◌, ◌≤◌, [], ◌∷◌, ◌++◌, List, length, get_or, drop, take, map, refl, ap, sym, ◌∙◌}
-use Rattle.std.specs.Prelude.{Option, Some, None}
-use Rattle.std.proofs.lemmas.List.{drop_all, take_all}
-use mathlib.Core.Path.{fun_ext}
-use Rattle.tiny_draft.specs.declared.tree.Function.{Function}
+use Rattle.tiny_names.proofs.Common.{◌≡◌, ℕ, ◌+◌, ◌<◌, ◌≤◌, [], ◌∷◌, ◌++◌, List, length, get_or, drop, take, map, refl, ap, sym, ◌∙◌, Option, Some, None}
+use Rattle.tiny_names.proofs.Common.{drop_all, take_all, fun_ext, Function, drop_item, Fault, Unresolved, Signature, all_faults, faults_from, first}
+use Rattle.tiny_names.proofs.Common.{function_faults, main_faults, called, lookup, function_of, function_place, resolved, IsFirst}
 use Rattle.tiny_draft.specs.Tree as draft
 use Rattle.tiny_draft.specs.Prelude.{function_tree}
 use Rattle.tiny_tree.specs.Tree as tree
-use Rattle.tiny_tree.specs.Prelude.{drop_item}
-use Rattle.tiny_names.specs.declared.fault.Fault.{Fault}
 use Rattle.tiny_names.specs.declared.fault.Fault.TheVariants as faults
-use Rattle.tiny_names.specs.declared.fault.Unresolved.{Unresolved}
 use Rattle.tiny_names.specs.declared.fault.Unresolved.TheVariants as unresolved
-use Rattle.tiny_names.specs.declared.functions.Signature.{Signature}
-use Rattle.tiny_names.specs.Prelude.{all_faults, faults_from, first, function_faults, main_faults, called, lookup, function_of, function_place, resolved, IsFirst}
 use Rattle.tiny_names.proofs.Firsts.{first_none}
 
 first_whole : (a b : List Fault) (f : Fault) → first a ≡ Some f → first (a ++ b) ≡ Some f

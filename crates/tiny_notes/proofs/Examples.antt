@@ -1,13 +1,6 @@
 -- A worked program whose names are known, and an image in which it is laid out.
-use Rattle.std.proofs.Common.{◌≡◌, ◌≢◌, ℕ, zero, suc, ◌+◌, ◌≤◌, List, [], ◌∷◌, Some, refl, subst, arith}
-use Rattle.std.specs.Prelude.{slice_get}
-use Rattle.std.proofs.lemmas.Option.{same_Some}
-use Rattle.std.proofs.lemmas.List.Elements.{All-nil}
-use Rattle.ijvm_instr.specs.declared.instr.Instr.{Instr}
-use Rattle.ijvm_instr.specs.Prelude.{instr_at, of_bytes, row_of, size_of}
-use Rattle.ijvm_image.specs.Prelude.{ImageView, params, others}
-use Rattle.tiny_tree.specs.declared.tree.Operator.{Operator}
-use Rattle.tiny_tree.specs.declared.tree.Operator.TheVariants.{Plus, Minus}
+use Rattle.tiny_notes.proofs.Common.{◌≡◌, ◌≢◌, ℕ, zero, suc, ◌+◌, ◌≤◌, List, [], ◌∷◌, Some, refl, subst, arith, slice_get, same_Some, All-nil, Instr, instr_at}
+use Rattle.tiny_notes.proofs.Common.{of_bytes, row_of, size_of, ImageView, params, others, Operator, Plus, Minus}
 use Rattle.tiny_tree.specs.Prelude.{Term, Number, Variable, Called, Expr, Sum, no_steps, step, Different, Statement, Var, Assign, While, Return, Put, Function, Program, arguments_of, statements_of, IsNamed, IsNamedFunction}
 use Rattle.tiny_code.specs.Prelude.{Places, code_size, main_code, method_code, CodeAt, IsMethodAt, IsLaidOut}
 

@@ -1,3 +1,4 @@
+pub mod Common
 mod Scenes
 mod Single
 mod Straight

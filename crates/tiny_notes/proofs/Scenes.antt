@@ -1,13 +1,8 @@
 -- Where the code of a unit stands, and the notes of its instructions.
-use Rattle.std.proofs.Common.{◌≡◌, ◌<◌, ◌≤◌, ◌⊎◌, inl, inr, ℕ, ◌+◌, ◌-◌, ◌==◌, Bool, true, false, if◌then◌else◌, List, [], ◌∷◌, ◌++◌, length, Option, Some, None, refl, ap, ◌∙◌, subst, arith}
-use Rattle.std.specs.Prelude.{nat_lt, slice_get}
-use Rattle.std.proofs.lemmas.Bool.{eqb-true, le-ltb, ltb-false}
-use Rattle.ijvm_instr.specs.declared.instr.Instr.{Instr}
-use Rattle.ijvm_instr.specs.declared.instr.Instr.TheVariants.{Invokevirtual}
+use Rattle.tiny_notes.proofs.Common.{◌≡◌, ◌<◌, ◌≤◌, ◌⊎◌, inl, inr, ℕ, ◌+◌, ◌-◌, ◌==◌, Bool, true, false, if◌then◌else◌, List, [], ◌∷◌, ◌++◌, length, Option}
+use Rattle.tiny_notes.proofs.Common.{Some, None, refl, ap, ◌∙◌, subst, arith, nat_lt, slice_get, eqb-true, le-ltb, ltb-false, Instr, Invokevirtual, row_of}
+use Rattle.tiny_notes.proofs.Common.{size_of, instr_at, ImageView, params, others, need_of}
 use Rattle.ijvm_instr.specs.declared.row.Flow.TheVariants as flows
-use Rattle.ijvm_instr.specs.Prelude.{row_of, size_of, instr_at}
-use Rattle.ijvm_image.specs.Prelude.{ImageView, params, others}
-use Rattle.verifier_facts.specs.Prelude.{need_of}
 use Rattle.verifier_notes.specs.Prelude.{Note, FindsMethod, Item, Code, Header, items_size, note_at, HasHeader}
 use Rattle.tiny_tree.specs.Prelude.{Program, IsCallable, Seen, seen_with}
 use Rattle.tiny_code.specs.Prelude.{Places}

@@ -1,12 +1,8 @@
 -- One instruction meets its note.
-use Rattle.std.proofs.Common.{◌≡◌, ◌≢◌, ◌<◌, ◌≤◌, inl, inr, ⊎_elim, ℕ, ℤ, ◌+◌, ◌-◌, true, false, Some, None, refl, sym, ap, ◌∙◌, subst, arith}
-use Rattle.std.proofs.lemmas.Option.{same_Some}
-use Rattle.ijvm_instr.specs.declared.instr.Instr.{Instr}
-use Rattle.ijvm_instr.specs.declared.instr.Instr.TheVariants.{Istore, Iflt, IfIcmpeq, Goto, Ireturn, Halt}
-use Rattle.ijvm_instr.specs.declared.row.Flow.{Flow}
+use Rattle.tiny_notes.proofs.Common.{◌≡◌, ◌≢◌, ◌<◌, ◌≤◌, inl, inr, ⊎_elim, ℕ, ℤ, ◌+◌, ◌-◌, true, false, Some, None, refl, sym, ap, ◌∙◌, subst, arith, same_Some}
+use Rattle.tiny_notes.proofs.Common.{Instr, Istore, Iflt, IfIcmpeq, Goto, Ireturn, Halt, Flow, row_of, size_of, instr_at, target, HasConstant, GoesOn, need_of}
+use Rattle.tiny_notes.proofs.Common.{ways_of, Names}
 use Rattle.ijvm_instr.specs.declared.row.Flow.TheVariants as flows
-use Rattle.ijvm_instr.specs.Prelude.{row_of, size_of, instr_at, target}
-use Rattle.verifier_facts.specs.Prelude.{HasConstant, GoesOn, need_of, ways_of, Names}
 use Rattle.verifier_notes.specs.Prelude.{Note, LeadsOn, FindsMethod, note_at, IsMet}
 use Rattle.tiny_tree.specs.Prelude.{Seen, seen_with}
 use Rattle.tiny_notes.proofs.Scenes.{Scene, Suits, note_of, set_of, takes, next_depth, set_stored, at_depth}

@@ -1,10 +1,6 @@
 -- The items are the code, and begin with a note of depth 0; where a list's items stand.
-use Rattle.std.proofs.Common.{◌≡◌, ℕ, ℤ, pos, ◌+◌, List, [], ◌∷◌, ◌++◌, refl, sym, ap, ◌∙◌, subst, arith, append_assoc}
-use Rattle.std.specs.Prelude.{neg_ℤ}
-use Rattle.ijvm_instr.specs.declared.instr.Instr.{Instr}
-use Rattle.ijvm_instr.specs.declared.instr.Instr.TheVariants.{LdcW, Iload, Invokevirtual, In, Istore, Pop, Isub, Iflt, IfIcmpeq, Goto, Ireturn, Out, Halt as HaltCode}
-use Rattle.ijvm_instr.specs.Prelude.{row_of, size_of}
-use Rattle.ijvm_image.specs.Prelude.{ImageView}
+use Rattle.tiny_notes.proofs.Common.{◌≡◌, ℕ, ℤ, pos, ◌+◌, List, [], ◌∷◌, ◌++◌, refl, sym, ap, ◌∙◌, subst, arith, append_assoc, neg_ℤ, Instr, LdcW, Iload}
+use Rattle.tiny_notes.proofs.Common.{Invokevirtual, In, Istore, Pop, Isub, Iflt, IfIcmpeq, Goto, Ireturn, Out, Halt as HaltCode, row_of, size_of, ImageView}
 use Rattle.verifier_notes.specs.Prelude.{Note, Item, Code, Header, items_size, items_append, note_at_seam}
 use Rattle.tiny_tree.specs.Prelude.{Term, Number, Variable, Called, Get, Group, Expr, Sum, Cond, Equal, Different, Less, Statement, Var, Assign, Calls, If, While, Return, Put, Halt, Else, no_else, else_block, Statements, no_statements, statement, Seen, seen_after}
 use Rattle.tiny_code.specs.Prelude.{code_size, choice, loop, number_code, term_code, expr_code, steps_code, arguments_code, test_code, statement_code, statements_code, else_code, leave_code, CodeAt, size_append}

@@ -1,12 +1,8 @@
 -- The items of statements, which meet their notes wherever they stand.
-use Rattle.std.proofs.Common.{◌≡◌, ◌<◌, ◌≤◌, ℕ, ℤ, pos, ◌+◌, ◌==◌, Bool, true, false, if◌then◌else◌, List, [], ◌∷◌, ◌++◌, Some, refl, sym, ap, ◌∙◌, subst, arith, append_assoc}
-use Rattle.std.specs.Prelude.{neg_ℤ, slice_get}
-use Rattle.std.proofs.lemmas.Bool.{true≢false}
-use Rattle.ijvm_instr.specs.declared.instr.Instr.{Instr}
-use Rattle.ijvm_instr.specs.declared.instr.Instr.TheVariants.{Istore, Pop, Isub, Iflt, IfIcmpeq, Goto, Ireturn, Out, Halt as HaltCode}
+use Rattle.tiny_notes.proofs.Common.{◌≡◌, ◌<◌, ◌≤◌, ℕ, ℤ, pos, ◌+◌, ◌==◌, Bool, true, false, if◌then◌else◌, List, [], ◌∷◌, ◌++◌, Some, refl, sym, ap, ◌∙◌}
+use Rattle.tiny_notes.proofs.Common.{subst, arith, append_assoc, neg_ℤ, slice_get, true≢false, Instr, Istore, Pop, Isub, Iflt, IfIcmpeq, Goto, Ireturn, Out}
+use Rattle.tiny_notes.proofs.Common.{Halt as HaltCode, row_of, size_of, instr_at, target, HasConstant}
 use Rattle.ijvm_instr.specs.declared.row.Flow.TheVariants as flows
-use Rattle.ijvm_instr.specs.Prelude.{row_of, size_of, instr_at, target}
-use Rattle.verifier_facts.specs.Prelude.{HasConstant}
 use Rattle.verifier_notes.specs.Prelude.{Note, Item, Code, items_size, note_at, IsMet, AllMet, items_append, met_append}
 use Rattle.tiny_tree.specs.Prelude.{Called, Expr, Cond, Equal, Different, Less, Statement, Var, Assign, Calls, If, While, Return, Put, Halt, Else, no_else, else_block, Statements, no_statements, statement, Seen, seen_with, seen_after, IsNamedExpr, IsNamedCond, IsNamedStatement, AreNamed, IsNamedElse}
 use Rattle.tiny_code.specs.Prelude.{code_size, term_code, expr_code, test_code, expr_numbers, cond_numbers, statement_numbers, statements_numbers, else_numbers, HasNumbers, backward, forward}

@@ -1,18 +1,9 @@
 -- Code without jumps: the code of expressions.
-use Rattle.std.proofs.Common.{◌≡◌, ◌<◌, ◌≤◌, ⊎_elim, ℕ, pos, zero, suc, ◌+◌, Bool, true, false, if◌then◌else◌, List, [], ◌∷◌, ◌++◌, length, Some, None, refl, sym, ap, ◌∙◌, subst, arith}
-use Rattle.std.specs.Prelude.{nat_le, slice_get}
-use Rattle.std.proofs.lemmas.Option.{same_Some}
-use Rattle.std.specs.List.{All}
-use Rattle.std.proofs.lemmas.List.Elements.{All-nil, All-cons, All-head, All-tail}
-use Rattle.ijvm_instr.specs.declared.instr.Instr.{Instr}
-use Rattle.ijvm_instr.specs.declared.instr.Instr.TheVariants.{Bipush, LdcW, Iload, Invokevirtual, In}
-use Rattle.ijvm_instr.specs.declared.row.Flow.{Flow}
+use Rattle.tiny_notes.proofs.Common.{◌≡◌, ◌<◌, ◌≤◌, ⊎_elim, ℕ, pos, zero, suc, ◌+◌, Bool, true, false, if◌then◌else◌, List, [], ◌∷◌, ◌++◌, length, Some, None}
+use Rattle.tiny_notes.proofs.Common.{refl, sym, ap, ◌∙◌, subst, arith, nat_le, slice_get, same_Some, All, All-nil, All-cons, All-head, All-tail, Instr, Bipush}
+use Rattle.tiny_notes.proofs.Common.{LdcW, Iload, Invokevirtual, In, Flow, row_of, HasConstant, ways_of, Operator, Plus}
 use Rattle.ijvm_instr.specs.declared.row.Flow.TheVariants as flows
-use Rattle.ijvm_instr.specs.Prelude.{row_of}
-use Rattle.verifier_facts.specs.Prelude.{HasConstant, ways_of}
 use Rattle.verifier_notes.specs.Prelude.{Note, FindsMethod, note_at, AllMet, items_size}
-use Rattle.tiny_tree.specs.declared.tree.Operator.{Operator}
-use Rattle.tiny_tree.specs.declared.tree.Operator.TheVariants.{Plus}
 use Rattle.tiny_tree.specs.Prelude.{Term, Number, Variable, Called, Get, Group, Expr, Sum, Steps, no_steps, step, Arguments, no_arguments, argument, Seen, arguments_count, IsNamedTerm, IsNamedExpr, AreNamedSteps, AreNamedArguments}
 use Rattle.tiny_code.specs.Prelude.{code_size, operator_code, term_code, expr_code, steps_code, arguments_code, term_numbers, expr_numbers, steps_numbers, arguments_numbers, HasNumbers}
 use Rattle.tiny_notes.proofs.Scenes.{Scene, Suits, CallFinds, note_of, takes, next_depth, depth_after, straight, Stands, set_of, set_first, its_own}

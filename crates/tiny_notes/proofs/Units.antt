@@ -1,17 +1,9 @@
 -- The units of a program, one after the other: main, then each method after its header.
-use Rattle.std.proofs.Common.{◌≡◌, ◌≢◌, ◌<◌, ◌≤◌, ◌⊎◌, inl, inr, ℕ, pos, ◌+◌, ◌-◌, ◌==◌, Bool, true, false, if◌then◌else◌, List, [], ◌∷◌, ◌++◌, length, Option, Some, None, refl, sym, ap, ◌∙◌, subst, arith, append_assoc}
-use Rattle.std.specs.Prelude.{nat_lt, slice_get}
-use Rattle.std.specs.List.{All, Contains}
-use Rattle.std.specs.Option.{option_map}
-use Rattle.std.proofs.lemmas.Option.{same_Some}
-use Rattle.std.proofs.lemmas.Bool.{eq-eqb, lt-ltb, ltb-false, ltb-true}
-use Rattle.std.proofs.lemmas.List.Elements.{All-nil, All-cons, All-head, All-tail, All-weaker, All-contains, All-contains_itself}
-use Rattle.ijvm_instr.specs.declared.instr.Instr.{Instr}
-use Rattle.ijvm_instr.specs.declared.instr.Instr.TheVariants.{Bipush, Ireturn, Halt as HaltCode}
-use Rattle.ijvm_instr.specs.Prelude.{instr_at}
+use Rattle.tiny_notes.proofs.Common.{◌≡◌, ◌≢◌, ◌<◌, ◌≤◌, ◌⊎◌, inl, inr, ℕ, pos, ◌+◌, ◌-◌, ◌==◌, Bool, true, false, if◌then◌else◌, List, [], ◌∷◌, ◌++◌, length}
+use Rattle.tiny_notes.proofs.Common.{Option, Some, None, refl, sym, ap, ◌∙◌, subst, arith, append_assoc, nat_lt, slice_get, All, Contains, option_map}
+use Rattle.tiny_notes.proofs.Common.{same_Some, eq-eqb, lt-ltb, ltb-false, ltb-true, All-nil, All-cons, All-head, All-tail, All-weaker, All-contains}
+use Rattle.tiny_notes.proofs.Common.{All-contains_itself, Instr, Bipush, Ireturn, Halt as HaltCode, instr_at, ImageView, params, others, method_at, IsOwn}
 use Rattle.ijvm_image.specs.declared.method.Method.{Method}
-use Rattle.ijvm_image.specs.Prelude.{ImageView, params, others, method_at}
-use Rattle.verifier_facts.specs.Prelude.{IsOwn}
 use Rattle.verifier_notes.specs.Prelude.{Note, Item, Code, Header, items_size, note_at, HasHeader, IsMet, AllMet, IsListed, header_after, items_append, met_append, note_at_seam}
 use Rattle.tiny_tree.specs.Prelude.{Function, Program, IsCallable, Seen, names_count, parameters_seen, IsNamed}
 use Rattle.tiny_code.specs.Prelude.{Places, code_size, statements_code, main_code, method_size, methods, CodeAt, IsMethodAt, AreMethodsAt, Holds, back_at, front_at, size_append}

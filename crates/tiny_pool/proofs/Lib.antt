@@ -1,3 +1,4 @@
+pub mod Common
 mod Once
 mod Walks
 mod Pools

@@ -1,16 +1,8 @@
 -- One more number, and where the numbers are.
-use Rattle.std.proofs.Common.{◌≡◌, ◌<◌, ⊎_elim, ℕ, suc, ◌+◌, Bool, true, false, List, [], ◌∷◌, ◌++◌, length, refl, sym, ap, ◌∙◌, cond, Less, Equal, Greater, arith}
-use Rattle.std.specs.Prelude.{Option, Some, None, not, ◌==◌, ◌||◌, is_some, nat_lt}
-use Rattle.std.specs.List.{filter, list_any, position_or_len}
-use Rattle.std.specs.Ordering.{is_eq, nat_cmp}
-use Rattle.std.specs.BTreeMap.{get, is_at}
-use Rattle.std.proofs.lemmas.Bool.{eq-eqb, eqb-true}
+use Rattle.tiny_pool.proofs.Common.{◌≡◌, ◌<◌, ⊎_elim, ℕ, suc, ◌+◌, Bool, true, false, List, [], ◌∷◌, ◌++◌, length, refl, sym, ap, ◌∙◌, cond, Less, Equal}
+use Rattle.tiny_pool.proofs.Common.{Greater, arith, Option, Some, None, not, ◌==◌, ◌||◌, is_some, nat_lt, filter, list_any, position_or_len, is_eq, nat_cmp}
+use Rattle.tiny_pool.proofs.Common.{get, is_at, eq-eqb, eqb-true, append-nil, length_push, filter-append, once, Constants, HasSeen, or_else, place_from}
 use Rattle.std.proofs.lemmas.Bool.Decides.{eqb_tells, leb_tells}
-use Rattle.std.proofs.lemmas.List.{append-nil, length_push}
-use Rattle.std.proofs.lemmas.List.Elements.{filter-append}
-use Rattle.tiny_code.specs.Prelude.{once}
-use Rattle.tiny_pool.specs.declared.constants.Constants.{Constants}
-use Rattle.tiny_pool.specs.Prelude.{HasSeen, or_else, place_from}
 
 -- ---- numbers once
 

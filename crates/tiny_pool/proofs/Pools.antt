@@ -1,17 +1,8 @@
 -- How long a pool is, and the table of a program.
-use Rattle.std.proofs.Common.{◌≡◌, ℕ, ◌+◌, List, length, ap, ◌∙◌, cond, arith}
-use Rattle.std.specs.Prelude.{Option, Some, nat_lt, slice_get}
-use Rattle.std.specs.List.{flat_map}
-use Rattle.std.specs.Ordering.{nat_cmp}
-use Rattle.std.specs.BTreeMap.{get}
-use Rattle.std.proofs.lemmas.List.{length-append, length-map}
-use Rattle.std.proofs.lemmas.Option.{slice_get_within}
-use mathlib.Core.Path.{fun_ext}
-use Rattle.ijvm_text.specs.Prelude.{Part, begins, pool_of, length-begins}
-use Rattle.tiny_tree.specs.Prelude.{Function, Program}
-use Rattle.tiny_code.specs.Prelude.{Places, function_numbers, methods, numbers, places_of, layout_of, method_part, from_main}
-use Rattle.tiny_pool.specs.declared.table.Table.{Table}
-use Rattle.tiny_pool.specs.Prelude.{HasSeen, or_else, place_from, IsTableOf}
+use Rattle.tiny_pool.proofs.Common.{◌≡◌, ℕ, ◌+◌, List, length, ap, ◌∙◌, cond, arith, Option, Some, nat_lt, slice_get, flat_map, nat_cmp, get, length-append}
+use Rattle.tiny_pool.proofs.Common.{length-map, slice_get_within, fun_ext, Part, begins, pool_of, length-begins, Program, Places, function_numbers, methods}
+use Rattle.tiny_pool.proofs.Common.{numbers, places_of, layout_of, method_part, from_main, Table, HasSeen, or_else, place_from, IsTableOf}
+use Rattle.tiny_tree.specs.Prelude.{Function}
 use Rattle.tiny_pool.proofs.Once.{place_or_end}
 
 -- ---- how long it is

@@ -1,17 +1,10 @@
 -- Numbers that are added, part by part.
-use Rattle.std.proofs.Common.{◌≡◌, ◌<◌, ℕ, ◌+◌, List, [], ◌++◌, length, map, drop, get_or, sym, ap, ◌∙◌, append_assoc, subst}
-use Rattle.std.specs.List.{flat_map}
-use Rattle.std.proofs.lemmas.List.{append-nil}
+use Rattle.tiny_pool.proofs.Common.{◌≡◌, ◌<◌, ℕ, ◌+◌, List, [], ◌++◌, length, map, drop, get_or, sym, ap, ◌∙◌, append_assoc, subst, flat_map, append-nil, Expr}
+use Rattle.tiny_pool.proofs.Common.{out-Expr, Step, out-Step, Statement, Function, arguments_of, statements_of, steps_of, block_tree, expr_tree, function_tree}
+use Rattle.tiny_pool.proofs.Common.{statement_tree, step_tree, term_tree, drop_item, expr_tree_out, step_tree_out, arguments_numbers, expr_numbers}
+use Rattle.tiny_pool.proofs.Common.{function_numbers, statement_numbers, statements_numbers, steps_numbers, term_numbers, Constants, Adds, HasSeen}
 use Rattle.tiny_tree.specs.declared.tree.Operator.{Operator}
-use Rattle.tiny_tree.specs.declared.tree.Expr.{Expr, out-Expr}
-use Rattle.tiny_tree.specs.declared.tree.Step.{Step, out-Step}
-use Rattle.tiny_tree.specs.declared.tree.Statement.{Statement}
-use Rattle.tiny_tree.specs.declared.tree.Function.{Function}
 use Rattle.tiny_tree.specs.Tree as tree
-use Rattle.tiny_tree.specs.Prelude.{arguments_of, statements_of, steps_of, block_tree, expr_tree, function_tree, statement_tree, step_tree, term_tree, drop_item, expr_tree_out, step_tree_out}
-use Rattle.tiny_code.specs.Prelude.{arguments_numbers, expr_numbers, function_numbers, statement_numbers, statements_numbers, steps_numbers, term_numbers}
-use Rattle.tiny_pool.specs.declared.constants.Constants.{Constants}
-use Rattle.tiny_pool.specs.Prelude.{Adds, HasSeen}
 
 pub adds_none : (c : Constants) → Adds c c []
 adds_none c = record { seen = λ first before h. subst (λ (l : List ℕ). HasSeen c first l) (sym (append-nil before)) h }

@@ -1,12 +1,10 @@
 -- The runs of a program are as it means, from the central lemma.
-use Rattle.std.proofs.Common.{◌≡◌, ◌≢◌, ◌≤◌, ◌<◌, ◌⊎◌, ◌↔◌, inl, inr, ℕ, ◌+◌, List, [], refl, sym, ap, ◌∙◌, subst, arith}
-use Rattle.std.proofs.lemmas.Bool.{le-leb}
-use Rattle.ijvm_image.specs.Prelude.{ImageView}
+use Rattle.tiny_runs.proofs.Common.{◌≡◌, ◌≢◌, ◌≤◌, ◌<◌, ◌⊎◌, ◌↔◌, inl, inr, ℕ, ◌+◌, List, [], refl, sym, ap, ◌∙◌, subst, arith, le-leb, ImageView, output}
+use Rattle.tiny_runs.proofs.Common.{IsPrefix, Advances, runs_of}
 use Rattle.ijvm_meaning.specs.declared.run.RunEnd.TheVariants as ends
 use Rattle.ijvm_meaning.specs.Prelude.{State, start_of, Timing, TimedImage, Point, Finish, first_point, stopped, after_test, finish_from, EndsBy, Passes, Start, More, IsSafe, NeverStuck, ComesTo, Here, On}
 use Rattle.tiny_tree.specs.Prelude.{Program, IsNamed, Meaning, Ended, Cut, meaning}
 use Rattle.tiny_code.specs.Prelude.{Places, Holds}
-use Rattle.tiny_runs.specs.Prelude.{output, IsPrefix, Advances, runs_of}
 use Rattle.tiny_runs.proofs.Led.{whole_prefix, Led}
 use Rattle.tiny_runs.proofs.Runs.{follows}
 use Rattle.tiny_runs.proofs.Ends.{last, Tale, IsLimited, IsHalted, IsBounded, IsCut, tell, rises}

@@ -1,7 +1,5 @@
 -- From a state, with a world, a run does what a part of the meaning gives.
-use Rattle.std.proofs.Common.{◌≡◌, ◌≤◌, ℕ, zero, suc, ◌+◌, List, Option, Some, refl, sym, ap, ◌∙◌, subst, arith}
-use Rattle.std.specs.Prelude.{slice_get}
-use Rattle.ijvm_image.specs.Prelude.{ImageView}
+use Rattle.tiny_runs.proofs.Common.{◌≡◌, ◌≤◌, ℕ, zero, suc, ◌+◌, List, Option, Some, refl, sym, ap, ◌∙◌, subst, arith, slice_get, ImageView}
 use Rattle.ijvm_meaning.specs.Prelude.{Frame, State, Goes, Stuck, limited, step_outcome}
 use Rattle.ijvm_meaning.specs.Step.{Halts as StepHalts}
 use Rattle.tiny_tree.specs.Prelude.{TinyWorld, Result, Gives, Halts, Cuts, and_then, in_turn, Variables, Meaning, Ended, Cut, ending}

@@ -1,17 +1,10 @@
 -- The ends of a program's runs, from where they lead.
-use Rattle.std.proofs.Common.{◌≡◌, ◌<◌, ◌≤◌, ℕ, suc, ◌+◌, ◌%◌, Bool, true, false, if◌then◌else◌, Option, Some, None, refl, sym, ap, ◌∙◌, subst, arith}
-use Rattle.std.specs.Prelude.{nat_le, ◌==◌}
-use Rattle.std.proofs.lemmas.Bool.{leb-true, leb-false}
-use Rattle.mic_words.specs.declared.machine.Machine.{Machine}
-use Rattle.mic_words.specs.declared.machine.Machine.TheVariants.{Mic1, Mic2}
-use Rattle.ijvm_instr.specs.declared.instr.Instr.{Instr}
+use Rattle.tiny_runs.proofs.Common.{◌≡◌, ◌<◌, ◌≤◌, ℕ, suc, ◌+◌, ◌%◌, Bool, true, false, if◌then◌else◌, Option, Some, None, refl, sym, ap, ◌∙◌, subst, arith}
+use Rattle.tiny_runs.proofs.Common.{nat_le, ◌==◌, leb-true, leb-false, Machine, Mic1, Mic2, Instr, instr_at, ImageView, Advances}
 use Rattle.ijvm_instr.specs.declared.instr.Instr.TheVariants as instrs
-use Rattle.ijvm_instr.specs.Prelude.{instr_at}
-use Rattle.ijvm_image.specs.Prelude.{ImageView}
 use Rattle.ijvm_meaning.specs.declared.run.RunEnd.TheVariants as ends
 use Rattle.ijvm_meaning.specs.Prelude.{State, StepOutcome, Goes, Halts, step_if_any, step_outcome, cost_at, is_taken, entry_of, timing_of, TimedImage, Point, Finish, point_after, after_outcome, after_test, finish_from, EndsBy, Passes, Start, More}
 use Rattle.tiny_tree.specs.Prelude.{Meaning, Ended, Cut}
-use Rattle.tiny_runs.specs.Prelude.{Advances}
 use Rattle.tiny_runs.proofs.Led.{output, IsPrefix, whole_prefix, Led, Finishes, Stops, Limited, Leads}
 
 -- ---- what an instruction that goes on costs

@@ -1,12 +1,7 @@
 -- The code of statements does what they do.
-use Rattle.std.proofs.Common.{◌≡◌, ◌≢◌, ◌≤◌, ◌⊎◌, inl, inr, ⊎_elim, ℕ, ℤ, zero, suc, ◌+◌, ◌%◌, Bool, true, false, if◌then◌else◌, List, [], ◌∷◌, ◌++◌, Option, Some, refl, sym, ap, ◌∙◌, subst, arith, append_assoc}
-use Rattle.std.specs.Prelude.{pos, neg_ℤ, not, slice_get, slice_set}
-use Rattle.std.proofs.lemmas.Option.{same_Some}
-use Rattle.std.proofs.lemmas.Bool.{eq-eqb}
-use Rattle.std.proofs.lemmas.Bool.Decides.{eqb_tells}
-use Rattle.ijvm_instr.specs.declared.instr.Instr.{Instr}
-use Rattle.ijvm_instr.specs.declared.instr.Instr.TheVariants.{Istore, Pop, Isub, Iflt, Goto, Ireturn, Out, Halt as HaltCode}
-use Rattle.ijvm_instr.specs.Prelude.{row_of, size_of, instr_at, target}
+use Rattle.tiny_runs.proofs.Common.{◌≡◌, ◌≢◌, ◌≤◌, ◌⊎◌, inl, inr, ⊎_elim, ℕ, ℤ, zero, suc, ◌+◌, ◌%◌, Bool, true, false, if◌then◌else◌, List, [], ◌∷◌, ◌++◌}
+use Rattle.tiny_runs.proofs.Common.{Option, Some, refl, sym, ap, ◌∙◌, subst, arith, append_assoc, pos, neg_ℤ, not, slice_get, slice_set, same_Some, eq-eqb}
+use Rattle.tiny_runs.proofs.Common.{eqb_tells, Instr, Istore, Pop, Isub, Iflt, Goto, Ireturn, Out, Halt as HaltCode, row_of, size_of, instr_at, target}
 use Rattle.ijvm_meaning.specs.Prelude.{State, Goes, Stuck, way, step_outcome}
 use Rattle.tiny_tree.specs.Prelude.{Term, Expr, Cond, Equal, Different, Less, Statement, Var, Assign, Calls, If, While, Return, Put, Halt, Else, no_else, else_block, Statements, no_statements, statement, Called, Seen, IsNamedTerm, IsNamedExpr, IsNamedCond, IsNamedStatement, AreNamed, IsNamedElse, TinyWorld, Result, Gives, Halts, and_then, Variables, with_value, evaluate_term, evaluate, compare, evaluate_cond, Flow, GoesOn, Returns, unless_returned, either_side, repeat, execute, execute_all, execute_else, Meaning}
 use Rattle.tiny_code.specs.Prelude.{code_size, choice, loop, term_code, expr_code, test_code, test_jump, leave_code, statement_code, statements_code, else_code, term_numbers, expr_numbers, cond_numbers, statement_numbers, statements_numbers, else_numbers, HasNumbers, all_back, all_front, backward, forward, size_append}

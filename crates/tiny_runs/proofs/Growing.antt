@@ -1,8 +1,7 @@
 -- One more turn: a part that came to its end comes to it again, and what a cut part has given is a prefix of what is given then.
-use Rattle.std.proofs.Common.{◌≡◌, ◌≤◌, ℕ, zero, suc, ◌%◌, Bool, true, false, List, [], ◌∷◌, Option, Some, None, refl, sym, ap, ◌∙◌, subst, arith}
-use Rattle.std.specs.Prelude.{slice_get}
-use Rattle.tiny_tree.specs.Prelude.{Term, Number, Variable, Called, Get, Group, Expr, Sum, Steps, no_steps, step, Arguments, no_arguments, argument, Cond, Equal, Different, Less, Statement, Var, Assign, Calls, If, While, Return, Put, Halt, Else, no_else, else_block, Statements, no_statements, statement, Function, Program, TinyWorld, Result, Gives, Halts, Cuts, and_then, in_turn, Variables, with_value, CallResults, combine, evaluate_term, evaluate, evaluate_steps, evaluate_arguments, evaluate_cond, Flow, GoesOn, Returns, unless_returned, either_side, repeat, execute, execute_all, execute_else, returned, first_variables, execute_body, call, Ended, ending, at_end, start_world, meaning}
+use Rattle.std.proofs.Common.{◌≡◌, ◌≤◌, ℕ, zero, suc, ◌%◌, Bool, true, false, List, [], ◌∷◌, Option, Some, None, refl, sym, ap, ◌∙◌, subst, arith, slice_get}
 use Rattle.tiny_runs.specs.Prelude.{output, IsPrefix, GrowsWithTurns}
+use Rattle.tiny_tree.specs.Prelude.{Term, Number, Variable, Called, Get, Group, Expr, Sum, Steps, no_steps, step, Arguments, no_arguments, argument, Cond, Equal, Different, Less, Statement, Var, Assign, Calls, If, While, Return, Put, Halt, Else, no_else, else_block, Statements, no_statements, statement, Function, Program, TinyWorld, Result, Gives, Halts, Cuts, and_then, in_turn, Variables, with_value, CallResults, combine, evaluate_term, evaluate, evaluate_steps, evaluate_arguments, evaluate_cond, Flow, GoesOn, Returns, unless_returned, either_side, repeat, execute, execute_all, execute_else, returned, first_variables, execute_body, call, Ended, ending, at_end, start_world, meaning}
 use Rattle.tiny_runs.proofs.Led.{whole_prefix, prefix_trans}
 
 -- the same world, where one more turn may begin

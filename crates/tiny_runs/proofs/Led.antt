@@ -1,10 +1,6 @@
 -- Where a run leads, defined backwards: from a state on it does what a meaning says, or meets the stack's end with no more output than that.
-use Rattle.std.proofs.Common.{◌≡◌, ◌≤◌, ℕ, suc, Bool, true, false, if◌then◌else◌, List, [], ◌++◌, Some, refl, sym, ap, ◌∙◌, subst, arith, append_assoc}
-use Rattle.std.specs.Prelude.{nat_le}
-use Rattle.std.proofs.lemmas.List.{append-nil}
-use Rattle.ijvm_instr.specs.declared.instr.Instr.{Instr}
-use Rattle.ijvm_instr.specs.Prelude.{instr_at}
-use Rattle.ijvm_image.specs.Prelude.{ImageView}
+use Rattle.tiny_runs.proofs.Common.{◌≡◌, ◌≤◌, ℕ, suc, Bool, true, false, if◌then◌else◌, List, [], ◌++◌, Some, refl, sym, ap, ◌∙◌, subst, arith, append_assoc}
+use Rattle.tiny_runs.proofs.Common.{nat_le, append-nil, Instr, instr_at, ImageView}
 use Rattle.ijvm_meaning.specs.Prelude.{State, frames_of, base, Goes, Halts, Limits, Stuck, limited, step, step_if_any, step_outcome, same_frames, ComesTo, Here, On, NeverStuck}
 use Rattle.tiny_tree.specs.Prelude.{Meaning, Ended, Cut}
 pub use Rattle.tiny_runs.specs.AsMeant.{output, IsPrefix}

@@ -1,3 +1,4 @@
+pub mod Common
 mod Led
 mod Stands
 mod Does

@@ -1,14 +1,9 @@
 -- The code of a program does what the program means, calls and returns included.
-use Rattle.std.proofs.Common.{◌≡◌, ◌≤◌, ℕ, zero, suc, ◌+◌, Bool, if◌then◌else◌, List, [], ◌∷◌, ◌++◌, Option, Some, None, length, take, drop, map, replicate, refl, sym, ap, ◌∙◌, subst, arith}
-use Rattle.std.specs.Prelude.{pos, slice_get, slice_index, ◌==◌}
-use Rattle.std.proofs.lemmas.Option.{same_Some}
-use Rattle.std.proofs.lemmas.Bool.{lt-ltb}
+use Rattle.tiny_runs.proofs.Common.{◌≡◌, ◌≤◌, ℕ, zero, suc, ◌+◌, Bool, if◌then◌else◌, List, [], ◌∷◌, ◌++◌, Option, Some, None, length, take, drop, map}
+use Rattle.tiny_runs.proofs.Common.{replicate, refl, sym, ap, ◌∙◌, subst, arith, pos, slice_get, slice_index, ◌==◌, same_Some, lt-ltb, Instr, Bipush, Ireturn}
+use Rattle.tiny_runs.proofs.Common.{Invokevirtual, Halt as HaltCode, instr_at, ImageView, params, others, method_at}
 use Rattle.std.proofs.Math.Seq.{take-append_seam, drop-append-add}
-use Rattle.ijvm_instr.specs.declared.instr.Instr.{Instr}
-use Rattle.ijvm_instr.specs.declared.instr.Instr.TheVariants.{Bipush, Ireturn, Invokevirtual, Halt as HaltCode}
-use Rattle.ijvm_instr.specs.Prelude.{instr_at}
 use Rattle.ijvm_image.specs.declared.method.Method.{Method}
-use Rattle.ijvm_image.specs.Prelude.{ImageView, params, others, method_at}
 use Rattle.ijvm_meaning.specs.Prelude.{Frame, State, start_of, Stuck, limited, onto, in_method, entered, called_at, step_outcome}
 use Rattle.tiny_tree.specs.Prelude.{Function, Program, IsCallable, names_count, parameters_seen, IsNamed, TinyWorld, and_then, in_turn, CallResults, Flow, GoesOn, Returns, returned, first_variables, execute_body, call, at_end, meaning, start_world}
 use Rattle.tiny_code.specs.Prelude.{Places, code_size, statements_code, IsMethodAt, Holds}

@@ -1,7 +1,5 @@
 -- Code that stands in a text.
-use Rattle.std.proofs.Common.{◌≡◌, ◌≤◌, ℕ, ◌+◌, List, [], ◌∷◌, ◌++◌, Some, refl, arith}
-use Rattle.ijvm_instr.specs.declared.instr.Instr.{Instr}
-use Rattle.ijvm_instr.specs.Prelude.{row_of, size_of, instr_at}
+use Rattle.tiny_runs.proofs.Common.{◌≡◌, ◌≤◌, ℕ, ◌+◌, List, [], ◌∷◌, ◌++◌, Some, refl, arith, Instr, row_of, size_of, instr_at}
 use Rattle.tiny_code.specs.Prelude.{code_size, CodeAt, back_at, front_at, size_append}
 
 -- the code stands from the first address up to the second

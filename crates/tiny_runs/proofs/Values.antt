@@ -1,14 +1,8 @@
 -- The code of an expression leaves its value.
-use Rattle.std.proofs.Common.{◌≡◌, ◌≤◌, ℕ, ◌+◌, Bool, true, false, if◌then◌else◌, List, [], ◌∷◌, ◌++◌, Option, Some, None, length, drop, refl, sym, ap, ◌∙◌, subst, arith}
-use Rattle.std.specs.Prelude.{pos, nat_le, slice_get}
-use Rattle.std.proofs.lemmas.List.Elements.{All-head}
-use Rattle.ijvm_instr.specs.declared.instr.Instr.{Instr}
-use Rattle.ijvm_instr.specs.declared.instr.Instr.TheVariants.{Bipush, LdcW, Iadd, Isub, Iand, Ior, Invokevirtual, In}
-use Rattle.ijvm_instr.specs.Prelude.{row_of, size_of, instr_at}
-use Rattle.ijvm_image.specs.Prelude.{ImageView}
+use Rattle.tiny_runs.proofs.Common.{◌≡◌, ◌≤◌, ℕ, ◌+◌, Bool, true, false, if◌then◌else◌, List, [], ◌∷◌, ◌++◌, Option, Some, None, length, drop, refl, sym, ap}
+use Rattle.tiny_runs.proofs.Common.{◌∙◌, subst, arith, pos, nat_le, slice_get, All-head, Instr, Bipush, LdcW, Iadd, Isub, Iand, Ior, Invokevirtual, In, row_of}
+use Rattle.tiny_runs.proofs.Common.{size_of, instr_at, ImageView, Operator, Plus, Minus, And, Or}
 use Rattle.ijvm_meaning.specs.Prelude.{Frame, State, Goes, pushed, pushed_constant, loaded, step, step_outcome}
-use Rattle.tiny_tree.specs.declared.tree.Operator.{Operator}
-use Rattle.tiny_tree.specs.declared.tree.Operator.TheVariants.{Plus, Minus, And, Or}
 use Rattle.tiny_tree.specs.Tree.{step as step_on}
 use Rattle.tiny_tree.specs.Prelude.{Term, Number, Variable, Called, Get, Group, Expr, Sum, Steps, no_steps, Arguments, no_arguments, argument, Program, IsCallable, arguments_count, Seen, IsNamedTerm, IsNamedExpr, AreNamedSteps, AreNamedArguments, TinyWorld, Result, Gives, Variables, CallResults, combine, evaluate_term, evaluate, evaluate_steps, evaluate_arguments}
 use Rattle.tiny_code.specs.Prelude.{Places, code_size, operator_code, term_code, expr_code, steps_code, arguments_code, term_numbers, expr_numbers, steps_numbers, arguments_numbers, HasNumbers, all_back, all_front}

@@ -1,15 +1,6 @@
 -- The graph of the reached instructions, and the paths that carry a local as unset.
-use Rattle.std.proofs.Common.{◌≡◌, ℕ, ◌+◌, ◌<◌, inl, inr, Option, Some, None, List, length, ◌∙◌, sym, subst}
-use Rattle.std.specs.Prelude.{slice_get}
-use Rattle.std.proofs.lemmas.Option.{none-some}
-use Rattle.ijvm_instr.specs.declared.row.Row.{Row}
-use Rattle.ijvm_instr.specs.Prelude.{size_of}
-use Rattle.ijvm_image.specs.Prelude.{ImageView}
-use Rattle.verifier_reach.specs.declared.kept.Kept.{Kept}
-use Rattle.verifier_locals.specs.declared.graph.Node.{Node}
-use Rattle.verifier_facts.specs.Prelude.{Arrival, HasRow, GoesOn}
-use Rattle.verifier_reach.specs.Prelude.{kept_at, IsChecked, IsClosed}
-use Rattle.verifier_locals.specs.Prelude.{IsNodeOf, IsNodeAt}
+use Rattle.verifier_locals.proofs.Common.{◌≡◌, ℕ, ◌+◌, ◌<◌, inl, inr, Option, Some, None, List, length, ◌∙◌, sym, subst, slice_get, none-some, Row, size_of}
+use Rattle.verifier_locals.proofs.Common.{ImageView, Kept, Node, Arrival, HasRow, GoesOn, kept_at, IsChecked, IsClosed, IsNodeOf, IsNodeAt}
 
 -- where a checked instruction's unit goes on is inside the text
 pub way_inside : (image : ImageView) (a : Arrival) (r : Row) (need to : ℕ) → IsChecked image a r need → GoesOn r.flow a.at (a.at + size_of r) to → to < length image.text

@@ -1,3 +1,4 @@
+pub mod Common
 pub mod Graphs
 pub mod Traces
 pub mod Shortcuts

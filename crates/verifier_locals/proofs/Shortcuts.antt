@@ -1,12 +1,8 @@
 -- Ways in a graph with shortcuts are ways in the graph, and lead to each node that reads a local.
-use Rattle.std.proofs.Common.{◌≡◌, ◌≢◌, ℕ, ◌<◌, ◌⊎◌, inl, inr, Option, Some, None, List, length, refl, arith, ◌∙◌, ap, sym, subst, length-set}
-use Rattle.std.specs.Prelude.{slice_get, slice_set, IfSome}
-use Rattle.std.proofs.lemmas.Bool.{cases_eq}
-use Rattle.std.proofs.lemmas.Option.{slice_get_within, slice_get-get_or, same_Some}
-use Rattle.verifier_reach.specs.Prelude.{get_set_other, get_set_same}
-use Rattle.verifier_locals.specs.declared.graph.Node.{Node}
-use Rattle.verifier_locals.specs.declared.local_set.LocalSet.{LocalSet}
-use Rattle.verifier_locals.specs.Prelude.{LeadsTo, IsInside, Carries, Begin, Pass, ReadsUnset, ReadsNone, IsPlain, first_way, IsEndAt, Skips, Stay, Skip, IsPast, IsShortOf, IsShort}
+use Rattle.verifier_locals.proofs.Common.{◌≡◌, ◌≢◌, ℕ, ◌<◌, ◌⊎◌, inl, inr, Option, Some, None, List, length, refl, arith, ◌∙◌, ap, sym, subst, length-set}
+use Rattle.verifier_locals.proofs.Common.{slice_get, slice_set, IfSome, cases_eq, slice_get_within, slice_get-get_or, same_Some, get_set_other, get_set_same}
+use Rattle.verifier_locals.proofs.Common.{Node, LocalSet, LeadsTo, IsInside, Carries, Begin, Pass, ReadsUnset, ReadsNone, IsPlain, first_way, IsEndAt, Skips}
+use Rattle.verifier_locals.proofs.Common.{Stay, Skip, IsPast, IsShortOf, IsShort}
 use Rattle.verifier_locals.proofs.Traces.{way_below}
 
 no_number : (o : Option ℕ) (x : ℕ) → o ≡ None → o ≡ Some x → ⊥

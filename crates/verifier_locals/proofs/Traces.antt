@@ -1,16 +1,9 @@
 -- The search of a graph for locals that are not set.
-use Rattle.std.proofs.Common.{◌≡◌, ◌≢◌, ℕ, zero, suc, ◌+◌, ◌%◌, ◌^◌, ◌<◌, ◌≤◌, ◌⊎◌, inl, inr, Bool, cond, Option, Some, None, List, [], ◌∷◌, ◌++◌, length, refl, arith, ◌∙◌, ap, sym, subst, length-set, length-append}
-use Rattle.std.specs.Prelude.{slice_get, slice_set, Contains, IfSome}
-use Rattle.std.specs.Int.{bit_at}
-use Rattle.std.proofs.lemmas.Bool.{cases_eq, eq-eqb, ne_eqb}
-use Rattle.std.proofs.lemmas.Nat.Bits.{bit_at-zero}
-use Rattle.std.proofs.lemmas.List.Elements.{Contains-append_left, Contains-push, Contains-push_cases}
-use Rattle.std.proofs.lemmas.Option.{same_Some}
-use Rattle.verifier_reach.specs.Prelude.{get_set_other, get_set_same}
-use Rattle.verifier_locals.specs.declared.graph.Node.{Node}
-use Rattle.verifier_locals.specs.declared.local_set.LocalSet.{LocalSet}
-use Rattle.verifier_locals.specs.declared.trace.Mark.{Mark}
-use Rattle.verifier_locals.specs.Prelude.{Has, IsIn, LeadsTo, Carries, Begin, Pass, held, held_at, IsHeld, blanks, AreOlder, IsReady, MarksMore, IsMarked, IsPassed, Passes, IsTracing, ReadsUnset, ReadsNone}
+use Rattle.verifier_locals.proofs.Common.{◌≡◌, ◌≢◌, ℕ, zero, suc, ◌+◌, ◌%◌, ◌^◌, ◌<◌, ◌≤◌, ◌⊎◌, inl, inr, Bool, cond, Option, Some, None, List, [], ◌∷◌, ◌++◌}
+use Rattle.verifier_locals.proofs.Common.{length, refl, arith, ◌∙◌, ap, sym, subst, length-set, length-append, slice_get, slice_set, Contains, IfSome, bit_at}
+use Rattle.verifier_locals.proofs.Common.{cases_eq, eq-eqb, ne_eqb, bit_at-zero, Contains-append_left, Contains-push, Contains-push_cases, same_Some}
+use Rattle.verifier_locals.proofs.Common.{get_set_other, get_set_same, Node, LocalSet, Mark, Has, IsIn, LeadsTo, Carries, Begin, Pass, held, held_at, IsHeld}
+use Rattle.verifier_locals.proofs.Common.{blanks, AreOlder, IsReady, MarksMore, IsMarked, IsPassed, Passes, IsTracing, ReadsUnset, ReadsNone}
 
 empty : (at : ℕ) → Contains {X = ℕ} [] at → ⊥
 empty at h = omega (arith, h.1)

@@ -1,23 +1,11 @@
 -- Own locals, the paths that carry them as unset, and the ways in the graph.
-use Rattle.std.proofs.Common.{◌≡◌, ◌≢◌, ℕ, ◌+◌, ◌-◌, ◌/◌, ◌<◌, ◌⊎◌, inl, inr, Bool, cond, Option, Some, None, List, [], ◌∷◌, ◌++◌, length, refl, arith, ◌∙◌, ap, sym, subst}
-use Rattle.std.specs.Prelude.{slice_get, Contains, ◌==◌, ◌↔◌}
-use Rattle.std.specs.List.Sorted.{IsPermutation}
-use Rattle.std.proofs.lemmas.Bool.{cases_eq, cases_lt, eq-eqb, ne_eqb}
-use Rattle.std.proofs.lemmas.Option.{slice_get_within, slice_get-get_or, none-some, same_Some}
-use Rattle.std.proofs.lemmas.List.Elements.{Contains-append_left, Contains-push, Contains-push_cases}
+use Rattle.verifier_locals.proofs.Common.{◌≡◌, ◌≢◌, ℕ, ◌+◌, ◌-◌, ◌/◌, ◌<◌, ◌⊎◌, inl, inr, Bool, cond, Option, Some, None, List, [], ◌∷◌, ◌++◌, length, refl}
+use Rattle.verifier_locals.proofs.Common.{arith, ◌∙◌, ap, sym, subst, slice_get, Contains, ◌==◌, ◌↔◌, IsPermutation, cases_eq, cases_lt, eq-eqb, ne_eqb}
+use Rattle.verifier_locals.proofs.Common.{slice_get_within, slice_get-get_or, none-some, same_Some, Contains-append_left, Contains-push, Contains-push_cases}
+use Rattle.verifier_locals.proofs.Common.{Row, size_of, ImageView, UnsetLocal, Kept, Node, LocalSet, Mark, Wanted, Arrival, arrival, HasRow, GoesOn, left_unset}
+use Rattle.verifier_locals.proofs.Common.{IsOwn, MayCarry, Reached, Start, Then, On, Into, IsReachedMethod, IsTrueOf, kept_at, kept_of, IsClosed, LeadsTo}
+use Rattle.verifier_locals.proofs.Common.{IsNodeOf, IsGraph, IsInside, Carries, Begin, Pass, IsIn, IsReady, ReadsUnset, ReadsNone, AreSet, Wants, AreWanted}
 use Rattle.std.proofs.lemmas.List.Sorted.{Contains-permutation, IsPermutation-sym}
-use Rattle.ijvm_instr.specs.declared.row.Row.{Row}
-use Rattle.ijvm_instr.specs.Prelude.{size_of}
-use Rattle.ijvm_image.specs.Prelude.{ImageView}
-use Rattle.verifier_facts.specs.declared.error.VerifyError.TheVariants.{UnsetLocal}
-use Rattle.verifier_reach.specs.declared.kept.Kept.{Kept}
-use Rattle.verifier_locals.specs.declared.graph.Node.{Node}
-use Rattle.verifier_locals.specs.declared.local_set.LocalSet.{LocalSet}
-use Rattle.verifier_locals.specs.declared.trace.Mark.{Mark}
-use Rattle.verifier_locals.specs.declared.unset.Wanted.{Wanted}
-use Rattle.verifier_facts.specs.Prelude.{Arrival, arrival, HasRow, GoesOn, left_unset, IsOwn, MayCarry, Reached, Start, Then, On, Into, IsReachedMethod, IsTrueOf}
-use Rattle.verifier_reach.specs.Prelude.{kept_at, kept_of, IsClosed}
-use Rattle.verifier_locals.specs.Prelude.{LeadsTo, IsNodeOf, IsGraph, IsInside, Carries, Begin, Pass, IsIn, IsReady, ReadsUnset, ReadsNone, AreSet, Wants, AreWanted}
 use Rattle.verifier_locals.proofs.Graphs.{way_inside}
 
 -- what is carried after an instruction was carried before, and is not stored

@@ -1,8 +1,5 @@
 -- What the tests at one address show.
-use Rattle.std.proofs.Common.{◌≡◌, ℕ, ◌<◌, Some, arith, ap}
-use Rattle.ijvm_instr.specs.declared.row.Row.{Row}
-use Rattle.ijvm_image.specs.Prelude.{ImageView}
-use Rattle.verifier_facts.specs.Prelude.{IsNoCall, need_by, need_of}
+use Rattle.verifier_reach.proofs.Common.{◌≡◌, ℕ, ◌<◌, Some, arith, ap, Row, ImageView, IsNoCall, need_by, need_of}
 
 -- what is no call needs the operands of its row
 pub underflow : (image : ImageView) (r : Row) (need depth : ℕ) → IsNoCall r.flow → need_of image r.needs r.flow ≡ Some need → depth < need → depth < r.needs

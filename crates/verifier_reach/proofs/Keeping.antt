@@ -1,23 +1,14 @@
 -- What the search for reached addresses keeps, and what follows when it is over.
-use Rattle.std.proofs.Common.{◌≡◌, ◌≢◌, ℕ, zero, suc, ◌+◌, ◌-◌, ◌*◌, ◌<◌, ◌≤◌, inl, inr, Bool, true, false, cond, Option, Some, None, List, [], ◌∷◌, ◌++◌, length, refl, arith, ◌∙◌, ap, sym, subst, length-set, length-append, replicate}
-use Rattle.std.specs.Prelude.{slice_get, slice_set, Contains, not, nat_lt}
-use Rattle.std.specs.Option.{option_eq, option_map}
-use lib.Dec.{eqb}
-use Rattle.std.proofs.lemmas.Bool.{cases_eq, le-ltb, eq-eqb, ltb-true}
-use Rattle.std.proofs.lemmas.Option.{slice_get_within, slice_get-get_or, same_Some}
+use Rattle.verifier_reach.proofs.Common.{◌≡◌, ◌≢◌, ℕ, zero, suc, ◌+◌, ◌-◌, ◌*◌, ◌<◌, ◌≤◌, inl, inr, Bool, true, false, cond, Option, Some, None, List, [], ◌∷◌}
+use Rattle.verifier_reach.proofs.Common.{◌++◌, length, refl, arith, ◌∙◌, ap, sym, subst, length-set, length-append, replicate, slice_get, slice_set, Contains}
+use Rattle.verifier_reach.proofs.Common.{not, nat_lt, option_eq, option_map, eqb, cases_eq, le-ltb, eq-eqb, ltb-true, slice_get_within, slice_get-get_or}
+use Rattle.verifier_reach.proofs.Common.{same_Some, Instr, Row, Flow, Call, Return, row_of, size_of, of_bytes, instr_at, target, ImageView, method_at, params}
+use Rattle.verifier_reach.proofs.Common.{others, Kept, VerifyError, Arrival, arrival, HasRow, HasConstant, callee, need_by, need_of, GoesOn, left_unset, On}
+use Rattle.verifier_reach.proofs.Common.{Into, Reached, Start, Then, HasNext, HasJump, Names, IsWrongAt, IsTrueOf, Code, kept_at, kept_of, IsChecked, empties}
+use Rattle.verifier_reach.proofs.Common.{IsKept, IsDone, IsSearch, Grows, IsRunning, IsClosed, IsDecided, get_set_other, get_set_same}
 use Rattle.std.proofs.lemmas.List.Elements.{Contains-append_left, Contains-push, Contains-push_cases}
-use Rattle.ijvm_instr.specs.declared.instr.Instr.{Instr}
-use Rattle.ijvm_instr.specs.declared.row.Row.{Row}
-use Rattle.ijvm_instr.specs.declared.row.Flow.{Flow}
-use Rattle.ijvm_instr.specs.declared.row.Flow.TheVariants.{Call, Return}
-use Rattle.ijvm_instr.specs.Prelude.{row_of, size_of, of_bytes, instr_at, target}
 use Rattle.ijvm_image.specs.declared.method.Method.{Method}
-use Rattle.ijvm_image.specs.Prelude.{ImageView, method_at, params, others}
-use Rattle.verifier_reach.specs.declared.kept.Kept.{Kept}
-use Rattle.verifier_facts.specs.declared.error.VerifyError.{VerifyError}
 use Rattle.verifier_facts.specs.declared.error.VerifyError.TheVariants.{BadCode, FallsOff, BadTarget, Overlap, BadConstant, BadEntry, BadHeader, LinkSlot, BadLocal, UnsetLocal, TooFewArguments, Underflow, DepthDiffers, ReturnInMain, MainFrame, OutOfMemory}
-use Rattle.verifier_facts.specs.Prelude.{Arrival, arrival, HasRow, HasConstant, callee, need_by, need_of, GoesOn, left_unset, On, Into, Reached, Start, Then, HasNext, HasJump, Names, IsWrongAt, IsTrueOf, Code}
-use Rattle.verifier_reach.specs.Prelude.{kept_at, kept_of, IsChecked, empties, IsKept, IsDone, IsSearch, Grows, IsRunning, IsClosed, IsDecided, get_set_other, get_set_same}
 
 empties_set : (xs : List (Option Kept)) (i : ℕ) (k : Kept) → slice_get xs i ≡ Some None → empties (slice_set xs i (Some k)) + 1 ≡ empties xs
 empties_set [] i k is = cc

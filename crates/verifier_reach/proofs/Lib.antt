@@ -1,2 +1,3 @@
+pub mod Common
 pub mod Checking
 pub mod Keeping

@@ -1,11 +1,5 @@
-use Rattle.std.proofs.Common.{◌≡◌, ◌∙◌, ap, refl, rules}
-use Rattle.mem_cache.specs.declared.counts.CacheCounts.{CacheCounts}
-use Rattle.mic_clock.specs.declared.counts.Counts.{Counts}
-use Rattle.mic_clock.specs.declared.registers.Registers.{Registers}
-use Rattle.mic_watched.specs.Prelude.{kept_of}
-use Rattle.cli_run_texts.specs.Report.{report as report_of}
-use Rattle.cli_watchers.specs.Prelude.{CacheKept, SaysNothing, cache_line, kept_after}
-use Rattle.cli_boards.specs.Prelude.{report_on}
+use Rattle.cli_boards.proofs.Common.{◌≡◌, ◌∙◌, ap, refl, rules, CacheCounts, Counts, Registers, kept_of, report as report_of, CacheKept, SaysNothing}
+use Rattle.cli_boards.proofs.Common.{cache_line, kept_after, report_on}
 use Rattle.cli_boards.proofs.Caching.{cached, says_code}
 use Rattle.cli_boards.proofs.Watching.{can_run, cause_of, flushed_of}
 use Rattle.cli_boards.proofs.cache.cache_program.Goals as goal

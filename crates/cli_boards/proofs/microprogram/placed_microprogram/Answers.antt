@@ -1,6 +1,4 @@
-use Rattle.std.proofs.Common.{◌∙◌, ap, refl}
-use Rattle.cli_outside.specs.Prelude.{refusal_by}
-use Rattle.cli_micro.specs.Prelude.{NoPlacement, names_inside, no_program}
+use Rattle.cli_boards.proofs.Common.{◌∙◌, ap, refl, refusal_by, NoPlacement, names_inside, no_program}
 use Rattle.cli_boards.proofs.microprogram.placed_microprogram.Goals as goal
 
 pub returns-in-Err-clause-err : goal.returns-in-Err-clause-err

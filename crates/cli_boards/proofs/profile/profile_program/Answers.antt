@@ -1,9 +1,5 @@
-use Rattle.std.proofs.Common.{◌≡◌, ◌∙◌, Option, ap, refl, rules}
-use Rattle.std.specs.Prelude.{unwrap_or}
-use Rattle.mic_clock.specs.declared.end.End.{End}
-use Rattle.cli_watchers.specs.Prelude.{Profile, profile_of_cycles, profile_text, start_profile, Silent, profile_after}
-use Rattle.mic_watched.specs.Prelude.{kept_of}
-use Rattle.cli_boards.specs.Profiled.{Stopped, Whole}
+use Rattle.cli_boards.proofs.Common.{◌≡◌, ◌∙◌, Option, ap, refl, rules, unwrap_or, End, Profile, profile_of_cycles, profile_text, start_profile, Silent}
+use Rattle.cli_boards.proofs.Common.{profile_after, kept_of, Stopped, Whole}
 use Rattle.cli_boards.proofs.Micros.{nothing_put, nothing_put_of, silent_says}
 use Rattle.cli_boards.proofs.Watching.{can_run, cause_of, flushed_of}
 use Rattle.cli_boards.proofs.profile.profile_program.Goals as goal

@@ -1,5 +1,4 @@
-use Rattle.std.proofs.Common.{◌≡◌, rules}
-use Rattle.cli_boards.specs.Prelude.{report_on}
+use Rattle.cli_boards.proofs.Common.{◌≡◌, rules, report_on}
 use Rattle.cli_boards.proofs.report.report_after.Goals as goal
 
 pub returns : goal.returns

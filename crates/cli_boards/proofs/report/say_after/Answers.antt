@@ -1,5 +1,4 @@
-use Rattle.std.proofs.Common.{refl}
-use Rattle.cli_outside.specs.Prelude.{SinkState, sink_of}
+use Rattle.cli_boards.proofs.Common.{refl, SinkState, sink_of}
 use Rattle.cli_boards.proofs.Reporting.{says-after, unsaid-after}
 use Rattle.cli_boards.proofs.report.say_after.Goals as goal
 

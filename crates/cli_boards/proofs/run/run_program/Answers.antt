@@ -1,10 +1,5 @@
-use Rattle.std.proofs.Common.{◌≡◌, ◌∙◌, ap, rules}
-use Rattle.mic_clock.specs.declared.counts.Counts.{Counts}
-use Rattle.mic_clock.specs.declared.end.End.{End}
-use Rattle.mic_clock.specs.declared.registers.Registers.{Registers}
-use Rattle.cli_run_texts.specs.Report.{report as report_of}
+use Rattle.cli_boards.proofs.Common.{◌≡◌, ◌∙◌, ap, rules, Counts, End, Registers, report as report_of, report_on}
 use Rattle.cli_boards.specs.OwnRun.{Ran}
-use Rattle.cli_boards.specs.Prelude.{report_on}
 use Rattle.cli_boards.proofs.Watching.{flushed_of}
 use Rattle.cli_boards.proofs.run.run_program.Goals as goal
 

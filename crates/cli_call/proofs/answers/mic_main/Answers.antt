@@ -1,7 +1,5 @@
-use Rattle.std.proofs.Common.{◌≡◌, ◌∙◌, ap, map, rules}
-use Rattle.std.specs.Prelude.{string_bytes}
-use Rattle.cli_words.specs.Prelude.{request_of}
-use Rattle.cli_outside.specs.Prelude.{FilesState, OutsideView, SinkState, SourceState, files_of, outside_view, sink_of, source_of, given_back}
+use Rattle.cli_call.proofs.Common.{◌≡◌, ◌∙◌, ap, map, rules, string_bytes, request_of, FilesState, OutsideView, SinkState, SourceState, files_of, outside_view}
+use Rattle.cli_call.proofs.Common.{sink_of, source_of, given_back}
 use Rattle.cli_call.specs.Prelude.{CallEnds}
 use Rattle.cli_call.proofs.answers.mic_main.Goals as goal
 

@@ -1,17 +1,6 @@
-use Rattle.std.proofs.Common.{◌≡◌, ℕ, List, Some, None, subst}
-use Rattle.mic_base.specs.Prelude.{Contents}
-use Rattle.mic_words.specs.declared.machine.Machine.TheVariants.{Mic1}
-use Rattle.console_port.specs.declared.map.MemoryMap.{MemoryMap}
-use Rattle.mic_clock.specs.Prelude.{HasOneEnd}
-use Rattle.mic1_datapath.specs.Prelude.{mic1_meaning, micro_of}
-use Rattle.mal_parser.specs.Prelude.{MalView}
-use Rattle.mal_shipped.specs.declared.loaded.Loaded.{Loaded}
-use Rattle.mal_shipped.specs.Prelude.{listed_program, IsLoadedFor, HasShipped}
-use Rattle.verifier_facts.specs.Prelude.{VerifiedView}
-use Rattle.cli_outside.specs.Prelude.{OutsideView, Did, Ends, NotHad}
-use Rattle.cli_words.specs.Prelude.{Cache, Run}
-use Rattle.cli_programs.specs.Prelude.{IsAcceptedProgram, IsRefusedProgram}
-use Rattle.cli_boards.specs.Prelude.{IsCached, EndsCache, Unprepared, Clocked, NoProgram, NoMicroprogram}
+use Rattle.cli_call.proofs.Common.{◌≡◌, ℕ, List, Some, None, subst, Contents, Mic1, MemoryMap, HasOneEnd, mic1_meaning, micro_of, MalView, Loaded}
+use Rattle.cli_call.proofs.Common.{listed_program, IsLoadedFor, HasShipped, VerifiedView, OutsideView, Did, Ends, NotHad, Cache, Run, IsAcceptedProgram}
+use Rattle.cli_call.proofs.Common.{IsRefusedProgram, IsCached, EndsCache, Unprepared, Clocked, NoProgram, NoMicroprogram}
 use Rattle.cli_call.specs.Prelude.{CallsAgree, CountsTheRun, IsQuiet, CallEnds}
 use Rattle.cli_call.specs.CallEnds.{Done, NoRoom}
 use Rattle.cli_call.proofs.Agreeing.{said}

@@ -1,19 +1,6 @@
-use Rattle.std.proofs.Common.{◌≡◌, ℕ, List, Some}
-use Rattle.mic_base.specs.Prelude.{Contents}
-use Rattle.mic_words.specs.declared.machine.Machine.{Machine}
-use Rattle.mic_words.specs.declared.machine.Machine.TheVariants.{Mic1, Mic2}
-use Rattle.console_port.specs.declared.map.MemoryMap.{MemoryMap}
-use Rattle.mic1_datapath.specs.Mic1.{IsReady as IsReady1}
-use Rattle.mic1_datapath.specs.Prelude.{mic1_meaning}
-use Rattle.mic1_datapath.specs.View.{micro_of as micro_of1}
-use Rattle.mic2_datapath.specs.Mic2.{IsReady as IsReady2}
-use Rattle.mic2_datapath.specs.Prelude.{mic2_meaning}
-use Rattle.mic2_datapath.specs.View.{micro_of as micro_of2}
-use Rattle.mal_shipped.specs.Prelude.{HasShipped}
-use Rattle.verifier_facts.specs.Prelude.{VerifiedView}
-use Rattle.cli_outside.specs.Prelude.{OutsideView}
-use Rattle.cli_words.specs.Prelude.{Reference, Run}
-use Rattle.cli_programs.specs.Prelude.{IsAcceptedProgram, IsRefusedProgram}
+use Rattle.cli_call.proofs.Common.{◌≡◌, ℕ, List, Some, Contents, Machine, Mic1, Mic2, MemoryMap, IsReady as IsReady1, mic1_meaning, micro_of as micro_of1}
+use Rattle.cli_call.proofs.Common.{mic2_meaning, HasShipped, VerifiedView, OutsideView, Reference, Run, IsAcceptedProgram, IsRefusedProgram}
+use Rattle.mic2_datapath.specs.Prelude.{IsReady as IsReady2, micro_of as micro_of2}
 use Rattle.cli_call.specs.Prelude.{Agrees, CallsAgree, IsQuiet, CallEnds, EndsAs}
 use Rattle.cli_call.specs.CallEnds.{Done, NoRoom}
 use Rattle.cli_call.proofs.Agreeing.{OneEnd, agree, said}

@@ -1,6 +1,4 @@
-use Rattle.std.proofs.Common.{ap}
-use Rattle.cli_boards.specs.Prelude.{job_in}
-use Rattle.cli_outside.specs.Prelude.{name_in}
+use Rattle.cli_call.proofs.Common.{ap, job_in, name_in}
 use Rattle.cli_call.proofs.Asking.{ran_own, ran_shipped}
 use Rattle.cli_call.proofs.run.run_asked.Goals as goal
 

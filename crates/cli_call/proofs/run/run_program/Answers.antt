@@ -1,11 +1,4 @@
-use Rattle.std.proofs.Common.{◌≡◌, ◌∙◌, rules, sym, ap, Some}
-use Rattle.mic_clock.specs.declared.end.End.{End}
-use Rattle.mic_clock.specs.declared.counts.Counts.{Counts}
-use Rattle.mic_clock.specs.declared.registers.Registers.{Registers}
-use Rattle.cli_outside.specs.Prelude.{sink_of, source_of}
-use Rattle.cli_run_texts.specs.Report.{report as report_of}
-use Rattle.cli_boards.specs.Prelude.{report_on}
-use Rattle.cli_call.specs.ClockedEnd.{NoRoom}
+use Rattle.cli_call.proofs.Common.{◌≡◌, ◌∙◌, rules, sym, ap, Some, End, Counts, Registers, sink_of, source_of, report as report_of, report_on, NoRoom}
 use Rattle.cli_call.proofs.Ending.{ends_by}
 use Rattle.cli_call.proofs.run.run_program.Goals as goal
 

@@ -1,6 +1,4 @@
-use Rattle.std.proofs.Common.{◌∙◌, ap}
-use Rattle.mic_words.specs.declared.machine.Machine.TheVariants.{Mic1, Mic2}
-use Rattle.cli_words.specs.declared.request.Processor.TheVariants.{Datapath}
+use Rattle.cli_call.proofs.Common.{◌∙◌, ap, Mic1, Mic2, Datapath}
 use Rattle.cli_call.proofs.Asking.{on_machine, run_ends}
 use Rattle.cli_call.proofs.top_call.answer_request.Goals as goal
 

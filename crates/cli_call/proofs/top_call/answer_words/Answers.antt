@@ -1,6 +1,4 @@
-use Rattle.std.proofs.Common.{◌≡◌, None, map, rules}
-use Rattle.std.specs.Prelude.{string_bytes}
-use Rattle.cli_words.specs.Prelude.{request_of}
+use Rattle.cli_call.proofs.Common.{◌≡◌, None, map, rules, string_bytes, request_of}
 use Rattle.cli_call.proofs.Asking.{call_ends}
 use Rattle.cli_call.proofs.top_call.answer_words.Goals as goal
 

@@ -1,9 +1,5 @@
-use Rattle.std.proofs.Common.{◌≡◌, ◌∙◌, ap, map, rules}
-use Rattle.std.specs.Prelude.{string_bytes}
-use Rattle.cli_outside.specs.Outside.{FilesState, OutsideView, SinkState, SourceState, files_of, outside_view, sink_of, source_of}
-use Rattle.cli_outside.specs.Given.{given_back}
-use Rattle.cli_check.specs.CheckEnds.{CheckEnds}
-use Rattle.cli_check.specs.Words.{asked_in}
+use Rattle.cli_check.proofs.Common.{◌≡◌, ◌∙◌, ap, map, rules, string_bytes, FilesState, OutsideView, SinkState, SourceState, files_of, outside_view, sink_of}
+use Rattle.cli_check.proofs.Common.{source_of, given_back, CheckEnds, asked_in}
 use Rattle.cli_check.proofs.answers.check_main.Goals as goal
 
 -- an outside is what its parts are

@@ -1,4 +1,4 @@
-use Rattle.cli_outside.specs.Ways.{did, not_had, refused, unread}
+use Rattle.cli_outside.specs.Prelude.{did, not_had, refused, unread}
 use Rattle.cli_check.proofs.judging.judge_file.Goals as goal
 
 pub returns-in-Err : goal.returns-in-Err

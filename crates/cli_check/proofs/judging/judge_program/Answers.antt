@@ -1,6 +1,4 @@
-use Rattle.std.proofs.Common.{◌∙◌, ap, Ok}
-use Rattle.cli_check.specs.CheckEnds.{NotShown, Proved}
-use Rattle.cli_check.specs.Table.{proved_text}
+use Rattle.cli_check.proofs.Common.{◌∙◌, ap, Ok, NotShown, Proved, proved_text}
 use Rattle.cli_check.proofs.judging.judge_program.Goals as goal
 
 pub returns-in-Ok : goal.returns-in-Ok

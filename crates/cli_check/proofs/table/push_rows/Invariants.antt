@@ -1,5 +1,4 @@
-use Rattle.std.proofs.Common.{◌≡◌, ◌++◌, drop}
-use Rattle.cli_check.specs.Table.{rows_text}
+use Rattle.cli_check.proofs.Common.{◌≡◌, ◌++◌, drop, rows_text}
 use Rattle.cli_check.proofs.table.push_rows.Given as goal
 
 abbrev pub invariant-loop-instr : goal.invariant-loop-instr

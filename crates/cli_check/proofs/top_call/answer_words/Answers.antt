@@ -1,6 +1,4 @@
-use Rattle.std.proofs.Common.{rules, sym}
-use Rattle.cli_check.specs.declared.words.MachineName.TheVariants.{Mic1, Mic2, Mic3}
-use Rattle.cli_check.specs.Words.{asked}
+use Rattle.cli_check.proofs.Common.{rules, sym, Mic1, Mic2, Mic3, asked}
 use Rattle.cli_check.proofs.Asking.{call_ends, ends_for}
 use Rattle.cli_check.proofs.top_call.answer_words.Goals as goal
 

@@ -1,6 +1,4 @@
-use Rattle.std.proofs.Common.{refl}
-use Rattle.mic_base.specs.Prelude.{plain_left}
-use Rattle.cli_outside.specs.Prelude.{files_of, outside_view, OutsideView, sink_of, source_of}
+use Rattle.cli_debug.proofs.Common.{refl, plain_left, files_of, outside_view, OutsideView, sink_of, source_of}
 use Rattle.cli_debug.proofs.Breaking.{cut_by}
 use Rattle.cli_debug.proofs.Standing.{done_by, quits_by}
 use Rattle.cli_debug.proofs.debugging.answer_line.Given.{Over}

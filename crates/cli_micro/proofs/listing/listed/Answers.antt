@@ -1,7 +1,5 @@
-use Rattle.std.proofs.Common.{◌∙◌, ap, sym, subst}
+use Rattle.cli_micro.proofs.Common.{◌∙◌, ap, sym, subst, refusal_by, OfStoreFile, listing}
 use Rattle.micro_word.specs.Prelude.{ControlStore, IsStore}
-use Rattle.cli_outside.specs.Prelude.{refusal_by}
-use Rattle.cli_micro.specs.Prelude.{OfStoreFile, listing}
 use Rattle.cli_micro.proofs.Answering.{no_store}
 use Rattle.cli_micro.proofs.listing.listed.Goals as goal
 

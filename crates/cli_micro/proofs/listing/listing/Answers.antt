@@ -1,5 +1,4 @@
-use Rattle.std.proofs.Common.{◌∙◌, sym}
-use Rattle.cli_micro.specs.Prelude.{store_line}
+use Rattle.cli_micro.proofs.Common.{◌∙◌, sym, store_line}
 use Rattle.cli_micro.proofs.Lined.{line_added, lined_none}
 use Rattle.cli_micro.proofs.listing.listing.Goals as goal
 

@@ -1,8 +1,4 @@
-use Rattle.std.proofs.Common.{◌≡◌}
-use Rattle.std.specs.Prelude.{map}
-use Rattle.mal_parser.specs.Prelude.{text_of}
-use Rattle.store_placement.specs.Prelude.{below}
-use Rattle.cli_micro.specs.Prelude.{store_line}
+use Rattle.cli_micro.proofs.Common.{◌≡◌, map, text_of, below, store_line}
 use Rattle.cli_micro.proofs.listing.listing.Given as goal
 
 abbrev pub invariant-loop-address : goal.invariant-loop-address

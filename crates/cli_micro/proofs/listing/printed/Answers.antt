@@ -1,6 +1,4 @@
-use Rattle.std.proofs.Common.{◌∙◌, ap}
-use Rattle.cli_outside.specs.Prelude.{refusal_by}
-use Rattle.cli_micro.specs.Prelude.{OfText}
+use Rattle.cli_micro.proofs.Common.{◌∙◌, ap, refusal_by, OfText}
 use Rattle.cli_micro.proofs.Answering.{no_text}
 use Rattle.cli_micro.proofs.listing.printed.Goals as goal
 

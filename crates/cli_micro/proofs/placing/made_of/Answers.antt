@@ -1,6 +1,4 @@
-use Rattle.std.proofs.Common.{◌∙◌, ap, refl}
-use Rattle.cli_outside.specs.Prelude.{refusal_by}
-use Rattle.cli_micro.specs.Prelude.{NoPlacement, names_inside, no_program}
+use Rattle.cli_micro.proofs.Common.{◌∙◌, ap, refl, refusal_by, NoPlacement, names_inside, no_program}
 use Rattle.cli_micro.proofs.Answering.{chosen_by, refused_by}
 use Rattle.cli_micro.proofs.placing.made_of.Goals as goal
 

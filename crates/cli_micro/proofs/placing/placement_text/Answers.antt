@@ -1,6 +1,4 @@
-use Rattle.std.proofs.Common.{length, map}
-use Rattle.store_placement.specs.Prelude.{below}
-use Rattle.cli_micro.specs.Prelude.{counts_line, statement_line}
+use Rattle.cli_micro.proofs.Common.{length, map, below, counts_line, statement_line}
 use Rattle.cli_micro.proofs.Lined.{last_added}
 use Rattle.cli_micro.proofs.placing.placement_text.Goals as goal
 

@@ -1,5 +1,4 @@
-use Rattle.std.proofs.Common.{arith}
-use Rattle.cli_micro.specs.Prelude.{length_fixed}
+use Rattle.cli_micro.proofs.Common.{arith, length_fixed}
 use Rattle.cli_micro.proofs.placing.statement_line.Goals as goal
 
 pub address-requires : goal.address-requires

@@ -1,6 +1,4 @@
-use Rattle.std.proofs.Common.{rules, ◌∙◌, ap}
-use Rattle.cli_outside.specs.Prelude.{IsRefusal, refusal_by}
-use Rattle.cli_programs.specs.Prelude.{IsRefusedProgram}
+use Rattle.cli_programs.proofs.Common.{rules, ◌∙◌, ap, IsRefusal, refusal_by, IsRefusedProgram}
 use Rattle.cli_programs.proofs.Reasons.{not_accepted}
 use Rattle.cli_programs.proofs.program.accepted_program.Goals as goal
 

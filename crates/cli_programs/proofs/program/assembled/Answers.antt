@@ -1,5 +1,4 @@
-use Rattle.std.proofs.Common.{◌∙◌, ap}
-use Rattle.cli_outside.specs.Prelude.{refusal_by}
+use Rattle.cli_programs.proofs.Common.{◌∙◌, ap, refusal_by}
 use Rattle.cli_programs.proofs.Reasons.{no_source, not_linked}
 use Rattle.cli_programs.proofs.program.assembled.Goals as goal
 

@@ -1,5 +1,4 @@
-use Rattle.std.proofs.lemmas.Result.{err_from_is_err_and}
-use Rattle.cli_outside.specs.Prelude.{refused, unread}
+use Rattle.cli_programs.proofs.Common.{err_from_is_err_and, refused, unread}
 use Rattle.cli_programs.proofs.program.program_in_file.Goals as goal
 
 pub returns-in_err-bytes-clause-not_had : goal.returns-in_err-bytes-clause-not_had

@@ -1,5 +1,4 @@
-use Rattle.std.proofs.Common.{rules}
-use Rattle.cli_programs.specs.Prelude.{Reported, Short}
+use Rattle.cli_programs.proofs.Common.{rules, Reported, Short}
 use Rattle.cli_programs.proofs.Running.{reported}
 use Rattle.cli_programs.proofs.reference.run_program.Goals as goal
 

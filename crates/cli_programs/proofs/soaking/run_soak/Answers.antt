@@ -1,8 +1,4 @@
-use Rattle.std.proofs.Common.{◌≡◌, ◌∙◌, ℕ, List, Some, length, sym, ap}
-use Rattle.mic_clock.specs.declared.end.End.{End}
-use Rattle.mic_clock.specs.declared.counts.Counts.{Counts}
-use Rattle.mic_clock.specs.declared.registers.Registers.{Registers}
-use Rattle.cli_programs.specs.Prelude.{soak_summary, NoRoom}
+use Rattle.cli_programs.proofs.Common.{◌≡◌, ◌∙◌, ℕ, List, Some, length, sym, ap, End, Counts, Registers, soak_summary, NoRoom}
 use Rattle.cli_programs.proofs.SoakEnding.{ends_by}
 use Rattle.cli_programs.proofs.soaking.run_soak.Goals as goal
 

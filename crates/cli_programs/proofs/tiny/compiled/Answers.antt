@@ -1,5 +1,4 @@
-use Rattle.std.proofs.Common.{◌∙◌, ap}
-use Rattle.cli_outside.specs.Prelude.{refusal_by}
+use Rattle.cli_programs.proofs.Common.{◌∙◌, ap, refusal_by}
 use Rattle.cli_programs.proofs.TinyReasons.{no_code}
 use Rattle.cli_programs.proofs.tiny.compiled.Goals as goal
 

@@ -1,5 +1,4 @@
-use Rattle.std.proofs.lemmas.Result.{err_from_is_err_and}
-use Rattle.cli_outside.specs.Prelude.{refused, unread}
+use Rattle.cli_programs.proofs.Common.{err_from_is_err_and, refused, unread}
 use Rattle.cli_programs.proofs.tiny.program_in_tiny.Goals as goal
 
 pub returns-in_err-text-clause-not_had : goal.returns-in_err-text-clause-not_had

@@ -1,8 +1,4 @@
-use Rattle.std.proofs.Common.{◌≡◌, ◌≤◌, ◌<◌, inl, inr, ℕ, refl, sym, subst, ◌∙◌, arith}
-use Rattle.std.proofs.lemmas.Bool.{le-leb}
-use Rattle.std.proofs.lemmas.Bool.Decides.{leb_tells}
-use Rattle.mic_rewind.specs.Prelude.{RewindView}
-use Rattle.cli_rewind.specs.Prelude.{Stand, StandsAt, back, kept}
+use Rattle.cli_rewind.proofs.Common.{◌≡◌, ◌≤◌, ◌<◌, inl, inr, ℕ, refl, sym, subst, ◌∙◌, arith, le-leb, leb_tells, RewindView, Stand, StandsAt, back, kept}
 use Rattle.cli_rewind.proofs.Returning.{back_all, back_ended, back_goes, back_more, back_none, back_step, none_kept}
 use Rattle.cli_rewind.proofs.moves.go_back.Goals as goal
 

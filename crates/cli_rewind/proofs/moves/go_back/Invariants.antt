@@ -1,5 +1,4 @@
-use Rattle.std.proofs.Common.{◌≡◌, ◌≤◌, ℕ, List, Option}
-use Rattle.cli_rewind.specs.Prelude.{Stand, StandsAt, back, kept}
+use Rattle.cli_rewind.proofs.Common.{◌≡◌, ◌≤◌, ℕ, List, Option, Stand, StandsAt, back, kept}
 use Rattle.cli_rewind.proofs.moves.go_back.Given as goal
 
 -- this many cycles were gone back over

@@ -1,9 +1,4 @@
-use Rattle.std.proofs.Common.{◌≡◌, ℕ, None, refl, sym, subst, ◌∙◌, arith}
-use Rattle.mic_base.specs.Prelude.{plain_left}
-use Rattle.cli_outside.specs.Prelude.{sink_of, SinkState}
-use Rattle.cli_rewind.specs.Prelude.{GoesForward, scene}
-use Rattle.cli_rewind.specs.Moves.{Went}
-use Rattle.cli_session.specs.Prelude.{on_err_of}
+use Rattle.cli_rewind.proofs.Common.{◌≡◌, ℕ, None, refl, sym, subst, ◌∙◌, arith, plain_left, sink_of, SinkState, GoesForward, scene, Went, on_err_of}
 use Rattle.cli_rewind.proofs.Composing.{goes_cut, goes_end, goes_next, none_by, went_still}
 use Rattle.cli_rewind.proofs.Stepping.{goes_nowhere}
 use Rattle.cli_rewind.proofs.moves.go_forward.Given.{Over}

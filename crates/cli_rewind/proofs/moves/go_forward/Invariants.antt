@@ -1,8 +1,4 @@
-use Rattle.std.proofs.Common.{None}
-use Rattle.mic_base.specs.Prelude.{plain_left}
-use Rattle.cli_outside.specs.Prelude.{sink_of}
-use Rattle.cli_rewind.specs.Prelude.{GoesForward, scene}
-use Rattle.cli_rewind.specs.Moves.{Went}
+use Rattle.cli_rewind.proofs.Common.{None, plain_left, sink_of, GoesForward, scene, Went}
 use Rattle.cli_rewind.proofs.moves.go_forward.Given as goal
 
 -- this many cycles were made, and none was an end

@@ -1,7 +1,5 @@
-use Rattle.std.proofs.Common.{◌≡◌, ◌≢◌, [], Some, None, ap}
-use Rattle.mic_base.specs.Prelude.{no_rise, plain_left}
+use Rattle.cli_rewind.proofs.Common.{◌≡◌, ◌≢◌, [], Some, None, ap, no_rise, plain_left, GoesBack, Keeps}
 use Rattle.mic_clock.specs.declared.end.End.TheVariants as ends
-use Rattle.mic_rewind.specs.Prelude.{GoesBack, Keeps}
 use Rattle.cli_rewind.proofs.Stepping.{step_cuts, step_faulted, step_leads, step_moved}
 use Rattle.cli_rewind.proofs.moves.step.Goals as goal
 

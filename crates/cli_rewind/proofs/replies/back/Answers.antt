@@ -1,7 +1,4 @@
-use Rattle.std.proofs.Common.{Bool, ◌∙◌, refl, ap}
-use Rattle.std.specs.Prelude.{nat_le}
-use Rattle.mic_rewind.specs.Prelude.{Snapshot}
-use Rattle.cli_rewind.specs.Prelude.{back_text, back, kept}
+use Rattle.cli_rewind.proofs.Common.{Bool, ◌∙◌, refl, ap, nat_le, Snapshot, back_text, back, kept}
 use Rattle.cli_rewind.proofs.Composing.{said_here, same_board_words}
 use Rattle.cli_rewind.proofs.replies.back.Goals as goal
 

@@ -1,7 +1,4 @@
-use Rattle.std.proofs.Common.{◌≤◌, ◌^◌, Some, arith}
-use Rattle.mic_base.specs.Prelude.{plain_left}
-use Rattle.mic_rewind.specs.Prelude.{Snapshot}
-use Rattle.cli_rewind.specs.Prelude.{forward_text}
+use Rattle.cli_rewind.proofs.Common.{◌≤◌, ◌^◌, Some, arith, plain_left, Snapshot, forward_text}
 use Rattle.cli_rewind.proofs.Composing.{said_here, same_words, went_as}
 use Rattle.cli_rewind.proofs.replies.micro.Goals as goal
 

@@ -1,8 +1,4 @@
-use Rattle.std.proofs.Common.{◌^◌, Some, refl}
-use Rattle.mic_base.specs.Prelude.{plain_left}
-use Rattle.mic_rewind.specs.Prelude.{Snapshot}
-use Rattle.cli_outside.specs.Prelude.{sink_of, SinkState}
-use Rattle.cli_session.specs.Prelude.{state_text, word_line}
+use Rattle.cli_rewind.proofs.Common.{◌^◌, Some, refl, plain_left, Snapshot, sink_of, SinkState, state_text, word_line}
 use Rattle.cli_rewind.proofs.Composing.{said_here, went_still}
 use Rattle.cli_rewind.proofs.replies.obey.Given.{Over}
 use Rattle.cli_rewind.proofs.replies.obey.Goals as goal

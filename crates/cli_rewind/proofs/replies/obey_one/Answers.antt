@@ -1,6 +1,4 @@
-use Rattle.std.proofs.Common.{◌^◌, refl}
-use Rattle.mic_base.specs.Prelude.{plain_left}
-use Rattle.cli_outside.specs.Prelude.{sink_of}
+use Rattle.cli_rewind.proofs.Common.{◌^◌, refl, plain_left, sink_of}
 use Rattle.cli_rewind.proofs.Composing.{went_still}
 use Rattle.cli_rewind.proofs.replies.obey_one.Goals as goal
 

@@ -1,11 +1,5 @@
-use Rattle.std.proofs.Common.{◌≡◌, ℕ, Bool, false, List, [], Option, Some, None, refl, sym, ap, subst}
-use Rattle.std.proofs.lemmas.List.{append-nil}
-use Rattle.std.specs.Prelude.{unwrap_or}
-use Rattle.console_port.specs.Prelude.{Shows, Given, Untaken, BusView, World}
-use Rattle.console_port.specs.declared.map.MemoryMap.{MemoryMap}
-use Rattle.mic_clock.specs.Prelude.{BoardView}
-use Rattle.mic_image_board.specs.Prelude.{reset_run}
-use Rattle.mic_rewind.specs.Prelude.{HistoryView}
+use Rattle.cli_rewind.proofs.Common.{◌≡◌, ℕ, Bool, false, List, [], Option, Some, None, refl, sym, ap, subst, append-nil, unwrap_or, Shows, Given, Untaken}
+use Rattle.cli_rewind.proofs.Common.{BusView, World, MemoryMap, BoardView, reset_run, HistoryView}
 use Rattle.cli_rewind.proofs.Answering.{starts}
 use Rattle.cli_rewind.proofs.rewind.begun.Goals as goal
 

@@ -1,9 +1,6 @@
-use Rattle.std.proofs.Common.{◌≡◌, ◌∙◌, Some, None, sym, ap, arith}
-use Rattle.mic_base.specs.Prelude.{plain_left}
-use Rattle.mic_clock.specs.declared.counts.Counts.{Counts}
-use Rattle.mic_clock.specs.declared.end.End.TheVariants as ends
-use Rattle.cli_rewind.specs.Prelude.{rewinding_view}
+use Rattle.cli_rewind.proofs.Common.{◌≡◌, ◌∙◌, Some, None, sym, ap, arith, plain_left, Counts, rewinding_view}
 use Rattle.cli_rewind.specs.Rewound.{Went}
+use Rattle.mic_clock.specs.declared.end.End.TheVariants as ends
 use Rattle.cli_rewind.proofs.rewind.rewind_program.Goals as goal
 
 pub do_lines-requires : goal.do_lines-requires

@@ -1,8 +1,5 @@
-use Rattle.std.proofs.Common.{[], ◌∷◌}
-use Rattle.mic_base.specs.Prelude.{plain_left}
-use Rattle.cli_outside.specs.Prelude.{files_of, FilesState, outside_view, OutsideView, sink_of, source_of, SourceState}
-use Rattle.cli_session.specs.Prelude.{Gone, IsCutShort, Place, place}
-use Rattle.cli_rewind.specs.Prelude.{RewindingView, rewinding, rewinding_view}
+use Rattle.cli_rewind.proofs.Common.{[], ◌∷◌, plain_left, files_of, FilesState, outside_view, OutsideView, sink_of, source_of, SourceState, Gone, IsCutShort}
+use Rattle.cli_rewind.proofs.Common.{Place, place, RewindingView, rewinding, rewinding_view}
 use Rattle.cli_rewind.proofs.Answering.{on_err_at, on_ok_at}
 use Rattle.cli_rewind.proofs.rewinding.answer_line.Given.{Over}
 use Rattle.cli_rewind.proofs.rewinding.answer_line.Goals as goal

@@ -1,7 +1,4 @@
-use Rattle.std.proofs.Common.{None}
-use Rattle.mic_base.specs.Prelude.{plain_left}
-use Rattle.cli_outside.specs.Prelude.{files_state, sink_of, SinkState, source_state}
-use Rattle.cli_session.specs.Prelude.{on_err_of}
+use Rattle.cli_rewind.proofs.Common.{None, plain_left, files_state, sink_of, SinkState, source_state, on_err_of}
 use Rattle.cli_rewind.proofs.Answering.{cut_short, gone, lasts, told_short}
 use Rattle.cli_rewind.proofs.rewinding.do_line.Given.{Over}
 use Rattle.cli_rewind.proofs.rewinding.do_line.Goals as goal

@@ -1,5 +1,4 @@
-use Rattle.std.proofs.Common.{ap}
-use Rattle.mic_rewind.specs.Prelude.{RewindView}
+use Rattle.cli_rewind.proofs.Common.{ap, RewindView}
 use Rattle.cli_rewind.proofs.Answering.{lost_at, passes}
 use Rattle.cli_rewind.proofs.telling.pass_on.Goals as goal
 

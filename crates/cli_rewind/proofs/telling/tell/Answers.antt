@@ -1,6 +1,4 @@
-use Rattle.std.proofs.Common.{inl, inr}
-use Rattle.cli_outside.specs.Prelude.{sink_of, SinkState}
-use Rattle.cli_session.specs.Prelude.{in_part, on_err_of}
+use Rattle.cli_rewind.proofs.Common.{inl, inr, sink_of, SinkState, in_part, on_err_of}
 use Rattle.cli_rewind.proofs.Answering.{front_at, told_part, told_whole}
 use Rattle.cli_rewind.proofs.telling.tell.Given.{Over}
 use Rattle.cli_rewind.proofs.telling.tell.Goals as goal

@@ -1,5 +1,4 @@
-use Rattle.std.proofs.Common.{◌≡◌, map, take}
-use Rattle.cli_watchers.specs.Prelude.{access_in}
+use Rattle.cli_watchers.proofs.Common.{◌≡◌, map, take, access_in}
 use Rattle.cli_watchers.proofs.cache.accesses_in.Given as goal
 
 abbrev pub invariant-loop-address : goal.invariant-loop-address

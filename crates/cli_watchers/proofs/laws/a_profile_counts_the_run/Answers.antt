@@ -1,7 +1,4 @@
-use Rattle.std.proofs.Common.{length, arith}
-use Rattle.std.specs.Prelude.{replicate}
-use Rattle.mic_clock.specs.Prelude.{completes}
-use Rattle.cli_watchers.specs.Prelude.{no_tally}
+use Rattle.cli_watchers.proofs.Common.{length, arith, replicate, completes, no_tally}
 use Rattle.cli_watchers.proofs.Counting.{all_in, boot_in, row_counted}
 use Rattle.cli_watchers.proofs.laws.a_profile_counts_the_run.Goals as goal
 

@@ -1,6 +1,4 @@
-use Rattle.std.proofs.Common.{codes, refl, arith}
-use Rattle.mal_parser.specs.Prelude.{parts_text}
-use Rattle.cli_watchers.specs.Prelude.{Placed, Unused, default_text, label_text}
+use Rattle.cli_watchers.proofs.Common.{codes, refl, arith, parts_text, Placed, Unused, default_text, label_text}
 use Rattle.cli_watchers.proofs.Placed.{placed_count}
 use Rattle.cli_watchers.proofs.names.print_word.Goals as goal
 

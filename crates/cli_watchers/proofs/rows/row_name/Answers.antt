@@ -1,6 +1,4 @@
-use Rattle.std.proofs.Common.{codes, ap, ◌∙◌, List, ℕ}
-use Rattle.std.specs.Prelude.{Option, unwrap_or, option_map}
-use Rattle.ijvm_instr.specs.Prelude.{mnemonic_of}
+use Rattle.cli_watchers.proofs.Common.{codes, ap, ◌∙◌, List, ℕ, Option, unwrap_or, option_map, mnemonic_of}
 use Rattle.cli_watchers.proofs.Ordered.{name_at}
 use Rattle.cli_watchers.proofs.rows.row_name.Goals as goal
 

@@ -1,6 +1,4 @@
-use Rattle.std.proofs.Common.{◌≡◌, ◌∙◌, ◌+◌, [], ℕ, List, length, ap, sym, subst, arith}
-use Rattle.ijvm_image.specs.Prelude.{ImageView}
-use Rattle.cli_watchers.specs.Prelude.{AreRowsUpTo}
+use Rattle.cli_watchers.proofs.Common.{◌≡◌, ◌∙◌, ◌+◌, [], ℕ, List, length, ap, sym, subst, arith, ImageView, AreRowsUpTo}
 use Rattle.cli_watchers.proofs.Listed.{more_rows, no_rows}
 use Rattle.cli_watchers.proofs.rows.rows_of.Goals as goal
 

@@ -1,6 +1,4 @@
-use Rattle.std.proofs.Common.{◌++◌, ◌∙◌, [], refl, append_assoc, arith}
-use Rattle.std.proofs.lemmas.List.{append-nil}
-use Rattle.cli_watchers.specs.Prelude.{no_tally}
+use Rattle.cli_watchers.proofs.Common.{◌++◌, ◌∙◌, [], refl, append_assoc, arith, append-nil, no_tally}
 use Rattle.cli_watchers.proofs.Printed.{rows_end, rows_step}
 use Rattle.cli_watchers.proofs.text.put_rows.Goals as goal
 

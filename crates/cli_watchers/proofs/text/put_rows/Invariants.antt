@@ -1,6 +1,4 @@
-use Rattle.std.proofs.Common.{◌≡◌, ◌++◌, ℕ, List, Option, drop}
-use Rattle.mic_base.specs.Prelude.{HasCause, Puts}
-use Rattle.cli_watchers.specs.Prelude.{rows_text}
+use Rattle.cli_watchers.proofs.Common.{◌≡◌, ◌++◌, ℕ, List, Option, drop, HasCause, Puts, rows_text}
 use Rattle.cli_watchers.proofs.text.put_rows.Given as goal
 
 -- the lines of the rows so far were put

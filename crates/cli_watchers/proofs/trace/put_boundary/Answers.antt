@@ -1,6 +1,4 @@
-use Rattle.std.proofs.Common.{◌≡◌, ◌++◌, [], codes, refl, append_assoc}
-use Rattle.std.proofs.lemmas.List.{append-nil}
-use Rattle.mic_base.specs.Prelude.{hex_text}
+use Rattle.cli_watchers.proofs.Common.{◌≡◌, ◌++◌, [], codes, refl, append_assoc, append-nil, hex_text}
 use Rattle.cli_watchers.proofs.trace.put_boundary.Goals as goal
 
 pub returns-in-None-clause-puts : goal.returns-in-None-clause-puts

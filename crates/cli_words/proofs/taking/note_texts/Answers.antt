@@ -1,9 +1,5 @@
-use Rattle.std.proofs.Common.{◌≡◌, ◌<◌, ◌+◌, ℕ, List, length, IsUtf8, subst, inl, inr, arith}
-use Rattle.std.specs.Prelude.{String, string_bytes}
-use Rattle.std.specs.declared.alloc.Global.{Global}
-use Rattle.std.specs.List.{slice_index_or}
-use Rattle.std.proofs.lemmas.Bool.{cases_lt}
-use Rattle.std.proofs.lemmas.List.{get_or_default}
+use Rattle.cli_words.proofs.Common.{◌≡◌, ◌<◌, ◌+◌, ℕ, List, length, IsUtf8, subst, inl, inr, arith, String, string_bytes, Global, slice_index_or, cases_lt}
+use Rattle.cli_words.proofs.Common.{get_or_default}
 use Rattle.cli_words.proofs.taking.note_texts.Goals as goal
 
 -- what holds of each place below i, and of the place i at one default, holds of each below i + 1

@@ -1,7 +1,4 @@
-use Rattle.std.proofs.Common.{ℕ, ◌<◌, IsUtf8}
-use Rattle.std.specs.Prelude.{String, string_bytes}
-use Rattle.std.specs.declared.alloc.Global.{Global}
-use Rattle.std.specs.List.{slice_index_or}
+use Rattle.cli_words.proofs.Common.{ℕ, ◌<◌, IsUtf8, String, string_bytes, Global, slice_index_or}
 use Rattle.cli_words.proofs.taking.note_texts.Given as goal
 
 abbrev pub invariant-loop-word : goal.invariant-loop-word

@@ -1,14 +1,6 @@
-use Rattle.std.proofs.Common.{◌≡◌, ◌∙◌, sym, refl, arith, ◌<◌, length, List, [], ◌∷◌, None, Some, IsUtf8, inl, inr, Bool, true, false, ◌&&◌, subst}
-use Rattle.std.specs.Prelude.{codes, string_bytes}
-use Rattle.std.specs.List.{All}
-use Rattle.std.proofs.lemmas.List.Elements.{All-map}
-use Rattle.clap.specs.Kinds.{HasKind, IsAmong, Kinds}
-use Rattle.clap.specs.Simple.{App, HasMatchesOf, app_of}
-use Rattle.clap.specs.Values.{kind_of}
+use Rattle.cli_words.proofs.Common.{◌≡◌, ◌∙◌, sym, refl, arith, ◌<◌, length, List, [], ◌∷◌, None, Some, IsUtf8, inl, inr, Bool, true, false, ◌&&◌, subst, codes}
+use Rattle.cli_words.proofs.Common.{string_bytes, All, All-map, HasKind, IsAmong, Kinds, App, HasMatchesOf, app_of, kind_of, Error, OutOfMemory, ArgMatches}
 use Rattle.clap.specs.Faults.{fault_of, is_simple_and_free}
-use Rattle.clap.specs.declared.error.Error.{Error}
-use Rattle.clap.specs.declared.error.kind.ErrorKind.TheVariants.{OutOfMemory}
-use Rattle.clap.specs.declared.parser.matches.ArgMatches.{ArgMatches}
 use Rattle.cli_words.specs.Prelude.{Entry, Form, Text, reads, HoldsGiven, app_for, bytes_of, form_of}
 use Rattle.cli_words.proofs.Rules.{app_is, free_for}
 use Rattle.cli_words.proofs.Ends.{Agrees, agrees_with}

@@ -1,6 +1,4 @@
-use Rattle.std.proofs.Common.{◌≡◌, false, subst}
-use Rattle.std.proofs.lemmas.Result.{err_from_is_err_and}
-use Rattle.source_text.specs.Prelude.{contents, Leads, StopsAt}
+use Rattle.ijvm_asm.proofs.Common.{◌≡◌, false, subst, err_from_is_err_and, contents, Leads, StopsAt}
 use Rattle.ijvm_asm.specs.Prelude.{is_memory, IsRefused, step}
 use Rattle.ijvm_asm.proofs.Outcome.{is_refused, is_spelled}
 use Rattle.ijvm_asm.proofs.parse.parse_source.Goals as goal

@@ -1,8 +1,4 @@
-use Rattle.std.proofs.Common.{◌≡◌, ◌<◌, ◌≤◌, ◌+◌, ◌∷◌, length, Some, sym, ap, ◌∙◌, arith}
-use Rattle.std.specs.Prelude.{slice_get}
-use Rattle.std.proofs.lemmas.Bool.{leb-false, leb-true}
-use Rattle.ijvm_image.specs.declared.method.Method.{Method}
-use Rattle.ijvm_image.specs.Prelude.{method_at}
+use Rattle.ijvm_reference.proofs.Common.{◌≡◌, ◌<◌, ◌≤◌, ◌+◌, ◌∷◌, length, Some, sym, ap, ◌∙◌, arith, slice_get, leb-false, leb-true, Method, method_at}
 use Rattle.ijvm_meaning.specs.Prelude.{base, Goes, called_at}
 use Rattle.ijvm_reference.specs.Prelude.{MachineView, state_of, in_call}
 use Rattle.ijvm_reference.proofs.Calls.{call-went, call-limit}

@@ -1,5 +1,4 @@
-use Rattle.std.proofs.Common.{◌≡◌, ℕ, ◌-◌, List, [], ◌∷◌, ◌++◌, Option, Some, None, length, take, drop, map, replicate, sym, ◌∙◌, ap}
-use Rattle.std.proofs.lemmas.List.{take_rest}
+use Rattle.ijvm_reference.proofs.Common.{◌≡◌, ℕ, ◌-◌, List, [], ◌∷◌, ◌++◌, Option, Some, None, length, take, drop, map, replicate, sym, ◌∙◌, ap, take_rest}
 use Rattle.ijvm_reference.proofs.Stacks.{method_locals as locals_of}
 use Rattle.ijvm_reference.proofs.frame.method_locals.Goals as goal
 

@@ -1,9 +1,4 @@
-use Rattle.std.proofs.Common.{◌≡◌, Some, Option, sym, ap, subst, ◌∙◌}
-use Rattle.std.proofs.lemmas.Result.{err_from_is_err_and}
-use Rattle.ijvm_instr.specs.declared.instr.Instr.{Instr}
-use Rattle.ijvm_instr.specs.declared.instr.Instr.TheVariants.{In, Out}
-use Rattle.ijvm_reference.specs.declared.frames.StepEnd.{StepEnd}
-use Rattle.ijvm_instr.specs.Prelude.{instr_at}
+use Rattle.ijvm_reference.proofs.Common.{◌≡◌, Some, Option, sym, ap, subst, ◌∙◌, err_from_is_err_and, Instr, In, Out, StepEnd, instr_at}
 use Rattle.ijvm_reference.specs.Prelude.{MachineView, Turns}
 use Rattle.ijvm_reference.proofs.Turned.{effect-turns, failed_at, outcome-at}
 use Rattle.ijvm_reference.proofs.frames.turn.Goals as goal

@@ -1,5 +1,4 @@
-use Rattle.std.proofs.Common.{◌≡◌, ◌-◌}
-use Rattle.console_port.specs.Prelude.{SinkGoesOn, SourceGoesOn}
+use Rattle.ijvm_reference.proofs.Common.{◌≡◌, ◌-◌, SinkGoesOn, SourceGoesOn}
 use Rattle.ijvm_reference.proofs.Running.{IsRunning}
 use Rattle.ijvm_reference.proofs.plain.drive.Given as goal
 

@@ -1,6 +1,4 @@
-use Rattle.std.proofs.Common.{Result, refl, sym, subst}
-use Rattle.std.specs.declared.alloc.AllocError.{AllocError}
-use Rattle.ijvm_reference.specs.declared.plain.PlainEnd.{PlainEnd}
+use Rattle.ijvm_reference.proofs.Common.{Result, refl, sym, subst, AllocError, PlainEnd}
 use Rattle.ijvm_reference.specs.Prelude.{program_of, point_at, IsShown, StoppedBy, LedTo}
 use Rattle.ijvm_reference.proofs.Running.{bound_ends, cut_led, step_led, step_further}
 use Rattle.ijvm_reference.proofs.plain.pass.Goals as goal

@@ -1,9 +1,6 @@
-use Rattle.std.proofs.Common.{◌≡◌, ℕ, true, false, List, Some, Result, Ok, Err, OnErr, sym, ap, subst, ◌∙◌, inl, inr, refl}
-use Rattle.std.specs.declared.alloc.AllocError.{AllocError}
-use Rattle.console_port.specs.Prelude.{Given}
-use Rattle.ijvm_reference.specs.declared.plain.PlainEnd.{PlainEnd}
+use Rattle.ijvm_reference.proofs.Common.{◌≡◌, ℕ, true, false, List, Some, Result, Ok, Err, OnErr, sym, ap, subst, ◌∙◌, inl, inr, refl, AllocError, Given}
+use Rattle.ijvm_reference.proofs.Common.{PlainEnd, PlainReport}
 use Rattle.ijvm_reference.specs.declared.plain.PlainEnd.TheVariants as ends
-use Rattle.ijvm_reference.specs.declared.plain.PlainReport.{PlainReport}
 use Rattle.ijvm_reference.specs.Prelude.{program, told_of, IsReportOf}
 use Rattle.ijvm_reference.proofs.Running.{sink_on}
 use Rattle.ijvm_reference.proofs.Told.{Driven, driven, ran, unflushed, cut_by_read, cut_inside, short, short_first, holds_told}

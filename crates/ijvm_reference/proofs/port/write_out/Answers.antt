@@ -1,5 +1,4 @@
-use Rattle.std.proofs.Common.{rules, Some, refl}
-use Rattle.ijvm_instr.specs.declared.instr.Instr.TheVariants.{Out}
+use Rattle.ijvm_reference.proofs.Common.{rules, Some, refl, Out}
 use Rattle.ijvm_reference.specs.Prelude.{IsCutOff, StepFails}
 use Rattle.ijvm_reference.proofs.port.write_out.Goals as goal
 

@@ -1,5 +1,4 @@
-use Rattle.std.proofs.Common.{◌≡◌, ap, sym}
-use Rattle.micro_word.specs.Prelude.{ControlStore}
+use Rattle.ijvm_simulation.proofs.Common.{◌≡◌, ap, sym, ControlStore}
 use Rattle.ijvm_simulation.proofs.Next.{Known}
 use Rattle.ijvm_simulation.proofs.Boards.{has_run, is_cut_by_read, is_cut_by_write}
 use Rattle.ijvm_simulation.proofs.run.run_with.Given.{Over}

@@ -1,6 +1,4 @@
-use Rattle.std.proofs.Common.{◌≡◌, ◌≢◌, ℕ, ◌+◌, arith}
-use Rattle.std.proofs.lemmas.Result.{err_from_is_err_and}
-use Rattle.verifier_facts.specs.declared.error.VerifyError.TheVariants.{MainFrame}
+use Rattle.ijvm_verifier.proofs.Common.{◌≡◌, ◌≢◌, ℕ, ◌+◌, arith, err_from_is_err_and, MainFrame}
 use Rattle.ijvm_verifier.proofs.Counts.{verified, no_frame}
 use Rattle.ijvm_verifier.proofs.accept.verify.Goals as goal
 

@@ -1,7 +1,4 @@
-use Rattle.std.proofs.Common.{◌≡◌, ◌≢◌, ◌∙◌, ℕ, arith, Some, None, Option, ap}
-use Rattle.std.specs.Prelude.{slice_get, slice_index_or}
-use Rattle.std.proofs.lemmas.Option.{slice_get-get_or}
-use Rattle.verifier_locals.specs.declared.graph.Node.{Node}
+use Rattle.ijvm_verifier.proofs.Common.{◌≡◌, ◌≢◌, ◌∙◌, ℕ, arith, Some, None, Option, ap, slice_get, slice_index_or, slice_get-get_or, Node}
 use Rattle.ijvm_verifier.proofs.Swept.{one_unit}
 use Rattle.ijvm_verifier.proofs.Counts.{counted_skip, counted_node}
 use Rattle.ijvm_verifier.proofs.count.count_at.Goals as goal

@@ -1,5 +1,4 @@
-use Rattle.std.proofs.Common.{◌≡◌, ℕ, arith, subst, length}
-use Rattle.ijvm_verifier.specs.Prelude.{IsCounted}
+use Rattle.ijvm_verifier.proofs.Common.{◌≡◌, ℕ, arith, subst, length, IsCounted}
 use Rattle.ijvm_verifier.proofs.Counts.{counted_all}
 use Rattle.ijvm_verifier.proofs.count.count_locals.Goals as goal
 

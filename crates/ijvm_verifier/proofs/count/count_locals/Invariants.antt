@@ -1,5 +1,4 @@
-use Rattle.std.proofs.Common.{◌≤◌}
-use Rattle.ijvm_verifier.specs.Prelude.{IsCounted}
+use Rattle.ijvm_verifier.proofs.Common.{◌≤◌, IsCounted}
 use Rattle.ijvm_verifier.proofs.count.count_locals.Given as goal
 
 abbrev pub invariant-loop-at : goal.invariant-loop-at

@@ -1,5 +1,4 @@
-use Rattle.std.proofs.Common.{◌≡◌, ℕ, arith, subst, length}
-use Rattle.ijvm_verifier.specs.Prelude.{AreMethodsBelow}
+use Rattle.ijvm_verifier.proofs.Common.{◌≡◌, ℕ, arith, subst, length, AreMethodsBelow}
 use Rattle.ijvm_verifier.proofs.Swept.{methods_none, methods_add, methods_skip, methods_all}
 use Rattle.ijvm_verifier.proofs.sweep.count_methods.Goals as goal
 use Rattle.ijvm_verifier.proofs.sweep.count_methods.Goals.{then-is_entry, else-is_entry}

@@ -1,8 +1,5 @@
-use Rattle.std.proofs.Common.{◌≡◌, ◌<◌, ◌+◌, ◌∙◌, ap, sym, arith, length, Some, None, true}
-use Rattle.std.specs.Prelude.{slice_get, ◌==◌}
-use Rattle.std.proofs.lemmas.Bool.{eqb-true, eq-eqb}
-use Rattle.std.proofs.lemmas.Option.{slice_get-get_or, slice_get_within, same_Some}
-use Rattle.verifier_reach.specs.Prelude.{kept_of}
+use Rattle.ijvm_verifier.proofs.Common.{◌≡◌, ◌<◌, ◌+◌, ◌∙◌, ap, sym, arith, length, Some, None, true, slice_get, ◌==◌, eqb-true, eq-eqb, slice_get-get_or}
+use Rattle.ijvm_verifier.proofs.Common.{slice_get_within, same_Some, kept_of}
 use Rattle.ijvm_verifier.proofs.Swept.{entry_kept, kept_entry, one_unit}
 use Rattle.ijvm_verifier.proofs.sweep.is_entry.Goals as goal
 

@@ -1,6 +1,4 @@
-use Rattle.std.proofs.Common.{◌≡◌, ◌∙◌, ap, arith, Some, None}
-use Rattle.std.specs.Prelude.{slice_get}
-use Rattle.std.proofs.lemmas.Option.{slice_get-get_or}
+use Rattle.ijvm_verifier.proofs.Common.{◌≡◌, ◌∙◌, ap, arith, Some, None, slice_get, slice_get-get_or}
 use Rattle.ijvm_verifier.proofs.Swept.{kept_start, swept_inside, swept_free, code_none, header_none}
 use Rattle.ijvm_verifier.proofs.sweep.kind_of.Goals as goal
 

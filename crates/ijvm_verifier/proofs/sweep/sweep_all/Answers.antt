@@ -1,5 +1,4 @@
-use Rattle.std.proofs.Common.{◌≡◌, ◌*◌, ◌++◌, ◌∷◌, [], ◌∙◌, ℕ, arith, ap, subst, length, length-append}
-use Rattle.ijvm_verifier.specs.Prelude.{IsSwept}
+use Rattle.ijvm_verifier.proofs.Common.{◌≡◌, ◌*◌, ◌++◌, ◌∷◌, [], ◌∙◌, ℕ, arith, ap, subst, length, length-append, IsSwept}
 use Rattle.ijvm_verifier.proofs.Swept.{none_overlap, none_behind, kinds_push}
 use Rattle.ijvm_verifier.proofs.sweep.sweep_all.Goals as goal
 

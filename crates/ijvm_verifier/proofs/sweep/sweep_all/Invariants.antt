@@ -1,8 +1,4 @@
-use Rattle.std.proofs.Common.{◌≡◌, ◌*◌, ℕ, Some, length}
-use Rattle.std.specs.Prelude.{slice_get}
-use Rattle.verifier_facts.specs.declared.kind.Kind.{Kind}
-use Rattle.verifier_facts.specs.Prelude.{IsKind}
-use Rattle.ijvm_verifier.specs.Prelude.{IsSwept}
+use Rattle.ijvm_verifier.proofs.Common.{◌≡◌, ◌*◌, ℕ, Some, length, slice_get, Kind, IsKind, IsSwept}
 use Rattle.ijvm_verifier.proofs.sweep.sweep_all.Given as goal
 
 abbrev pub invariant-loop-at : goal.invariant-loop-at

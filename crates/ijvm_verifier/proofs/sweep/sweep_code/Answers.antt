@@ -1,8 +1,5 @@
-use Rattle.std.proofs.Common.{◌≡◌, ◌<◌, ◌+◌, ◌*◌, ◌∙◌, refl, arith, sym, inr, Some, None, ap}
-use Rattle.std.specs.Prelude.{slice_get}
-use Rattle.std.proofs.lemmas.Option.{slice_get-get_or}
-use Rattle.ijvm_instr.specs.Prelude.{row_of, size_of}
-use Rattle.verifier_facts.specs.Prelude.{HasRow, Code}
+use Rattle.ijvm_verifier.proofs.Common.{◌≡◌, ◌<◌, ◌+◌, ◌*◌, ◌∙◌, refl, arith, sym, inr, Some, None, ap, slice_get, slice_get-get_or, row_of, size_of, HasRow}
+use Rattle.ijvm_verifier.proofs.Common.{Code}
 use Rattle.ijvm_verifier.proofs.Swept.{swept_skip, swept_add, swept_clash, code_none, code_only, code_covers}
 use Rattle.ijvm_verifier.proofs.sweep.sweep_code.Goals as goal
 

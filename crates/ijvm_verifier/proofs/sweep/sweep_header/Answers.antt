@@ -1,7 +1,4 @@
-use Rattle.std.proofs.Common.{rules, ◌+◌, ◌*◌, ℕ, refl, arith, subst, inr}
-use Rattle.ijvm_image.specs.Prelude.{ImageView}
-use Rattle.verifier_facts.specs.Prelude.{Header}
-use Rattle.ijvm_verifier.specs.Prelude.{IsSwept}
+use Rattle.ijvm_verifier.proofs.Common.{rules, ◌+◌, ◌*◌, ℕ, refl, arith, subst, inr, ImageView, Header, IsSwept}
 use Rattle.ijvm_verifier.proofs.Swept.{swept_skip, swept_add, swept_clash, header_none, header_only}
 use Rattle.ijvm_verifier.proofs.sweep.sweep_header.Goals as goal
 

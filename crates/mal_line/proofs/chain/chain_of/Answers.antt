@@ -1,6 +1,4 @@
-use Rattle.std.proofs.Common.{◌≡◌, ◌+◌, ◌∷◌, ◌∙◌, Some, None, true, length-drop, drop, sym, ap, arith}
-use Rattle.std.specs.Prelude.{bit_or}
-use Rattle.std.proofs.lemmas.List.{take_rest}
+use Rattle.mal_line.proofs.Common.{◌≡◌, ◌+◌, ◌∷◌, ◌∙◌, Some, None, true, length-drop, drop, sym, ap, arith, bit_or, take_rest}
 use Rattle.mal_line.specs.Prelude.{bit, chain_at, dest_of, last}
 use Rattle.mal_line.proofs.Linking.{chain_step, chain_stop, chain_short, two_at}
 use Rattle.mal_line.proofs.chain.chain_of.Goals as goal

@@ -1,7 +1,4 @@
-use Rattle.std.proofs.Common.{◌≡◌, Ok, Err, sym}
-use Rattle.std.specs.Prelude.{Result, IfOk, IfErr}
-use Rattle.mal_line.specs.declared.content.Content.{Content}
-use Rattle.mal_line.specs.declared.line.LineFault.{LineFault}
+use Rattle.mal_line.proofs.Common.{◌≡◌, Ok, Err, sym, Result, IfOk, IfErr, Content, LineFault}
 use Rattle.mal_line.specs.Prelude.{HasPart, IsRefused, SpellsLine, line_from}
 use Rattle.mal_line.proofs.Lining.{line_refused, line_spells}
 use Rattle.mal_line.proofs.Standing.{stands}

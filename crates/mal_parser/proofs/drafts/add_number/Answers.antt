@@ -1,5 +1,4 @@
-use Rattle.std.proofs.Common.{rules, ap}
-use Rattle.std.specs.Prelude.{is_some}
+use Rattle.std.proofs.Common.{rules, ap, is_some}
 use Rattle.mal_parser.proofs.Numbers.{kept_at}
 use Rattle.mal_parser.proofs.drafts.add_number.Goals as goal
 

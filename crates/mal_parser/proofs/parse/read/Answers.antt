@@ -1,6 +1,4 @@
-use Rattle.std.proofs.Common.{◌≡◌, false, subst}
-use Rattle.std.proofs.lemmas.Result.{err_from_is_err_and}
-use Rattle.source_text.specs.Prelude.{contents, Leads, StopsAt}
+use Rattle.mal_parser.proofs.Common.{◌≡◌, false, subst, err_from_is_err_and, contents, Leads, StopsAt}
 use Rattle.mal_parser.specs.Prelude.{IsRefused, is_memory, step}
 use Rattle.mal_parser.proofs.Outcome.{is_refused, is_spelled, led_sound}
 use Rattle.mal_parser.proofs.parse.read.Goals as goal

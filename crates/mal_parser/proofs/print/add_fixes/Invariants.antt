@@ -1,5 +1,4 @@
-use Rattle.std.proofs.Common.{◌≡◌, ◌++◌, take}
-use Rattle.std.specs.List.{filter_map}
+use Rattle.mal_parser.proofs.Common.{◌≡◌, ◌++◌, take, filter_map}
 use Rattle.mal_parser.specs.Prelude.{fix_line, text_of}
 use Rattle.mal_parser.proofs.print.add_fixes.Given as goal
 

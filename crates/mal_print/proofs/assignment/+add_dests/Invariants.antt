@@ -1,4 +1,4 @@
-use Rattle.std.specs.Prelude.{length}
+use Rattle.std.proofs.Common.{length}
 use Rattle.mal_print.proofs.assignment.+add_dests.Given as goal
 
 abbrev pub decreases-add_dests : goal.decreases-add_dests

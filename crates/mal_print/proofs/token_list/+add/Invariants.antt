@@ -1,4 +1,4 @@
-use Rattle.std.specs.Prelude.{length}
+use Rattle.std.proofs.Common.{length}
 use Rattle.mal_print.proofs.token_list.+add.Given as goal
 
 abbrev pub decreases-add : goal.decreases-add

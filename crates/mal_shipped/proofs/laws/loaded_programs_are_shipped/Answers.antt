@@ -1,10 +1,5 @@
-use Rattle.std.proofs.Common.{◌≡◌, ℕ, List, IsTrue, subst}
-use Rattle.mic_words.specs.declared.machine.Machine.{Machine}
-use Rattle.mic_words.specs.declared.machine.Machine.TheVariants.{Mic1, Mic2}
-use Rattle.micro_word.specs.declared.statement.Placed.{Placed}
-use Rattle.micro_word.specs.Prelude.{is_valid, microword_of, statement_of}
-use Rattle.store_placement.specs.Prelude.{IsFilled}
-use Rattle.mal_shipped.specs.Prelude.{listed_program, addresses_of}
+use Rattle.mal_shipped.proofs.Common.{◌≡◌, ℕ, List, IsTrue, subst, Machine, Mic1, Mic2, Placed, is_valid, microword_of, statement_of, IsFilled, listed_program}
+use Rattle.mal_shipped.proofs.Common.{addresses_of}
 use Rattle.mal_shipped.proofs.Words.{shipped_words, entry_at}
 use Rattle.mal_shipped.proofs.laws.loaded_programs_are_shipped.Goals as goal
 

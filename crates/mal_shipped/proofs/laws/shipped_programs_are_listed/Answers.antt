@@ -1,5 +1,4 @@
-use Rattle.store_placement.specs.Prelude.{demands_of}
-use Rattle.mal_shipped.specs.Prelude.{listed_program, addresses_of}
+use Rattle.mal_shipped.proofs.Common.{demands_of, listed_program, addresses_of}
 use Rattle.mal_shipped.proofs.Placed.{listed, within}
 use Rattle.mal_shipped.proofs.laws.shipped_programs_are_listed.Goals as goal
 

@@ -1,9 +1,5 @@
-use Rattle.std.proofs.Common.{◌≡◌, true, false, refl, sym, ap, ◌∙◌, subst}
-use Rattle.std.specs.Prelude.{slice_index}
-use Rattle.mal_parser.specs.Prelude.{MalView, relined}
-use Rattle.store_placement.specs.Prelude.{IsChosenList, Demands, HasPlacement, demands_of, IsFilled}
-use Rattle.mal_shipped.specs.declared.loaded.Loaded.{Loaded}
-use Rattle.mal_shipped.specs.Prelude.{listed_program, addresses_of}
+use Rattle.mal_shipped.proofs.Common.{◌≡◌, true, false, refl, sym, ap, ◌∙◌, subst, slice_index, MalView, relined, IsChosenList, Demands, HasPlacement}
+use Rattle.mal_shipped.proofs.Common.{demands_of, IsFilled, Loaded, listed_program, addresses_of}
 use Rattle.mal_shipped.proofs.Lines.{machine_of, same_demands, filled_again}
 use Rattle.mal_shipped.proofs.loaded.shipped_store.Goals as goal
 

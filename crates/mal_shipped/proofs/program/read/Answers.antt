@@ -1,5 +1,4 @@
-use Rattle.std.proofs.Common.{◌≡◌, ◌∙◌}
-use Rattle.mal_shipped.specs.Prelude.{text_of}
+use Rattle.mal_shipped.proofs.Common.{◌≡◌, ◌∙◌, text_of}
 use Rattle.mal_shipped.proofs.Lines.{read_as}
 use Rattle.mal_shipped.proofs.program.read.Goals as goal
 

@@ -1,6 +1,4 @@
-use Rattle.std.proofs.Common.{sym, subst}
-use Rattle.mal_parser.specs.Prelude.{IsMalProgram, MalView}
-use Rattle.mal_shipped.specs.Prelude.{unlined}
+use Rattle.mal_shipped.proofs.Common.{sym, subst, IsMalProgram, MalView, unlined}
 use Rattle.mal_shipped.proofs.Lines.{unlined_is_program}
 use Rattle.mal_shipped.proofs.program.shipped_program.Goals as goal
 

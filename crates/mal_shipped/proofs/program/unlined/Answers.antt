@@ -1,6 +1,4 @@
-use Rattle.std.proofs.Common.{◌≡◌, ◌≤◌, length, map, ◌∙◌, ap, arith}
-use Rattle.std.proofs.lemmas.List.{take_all}
-use Rattle.mal_shipped.specs.Prelude.{without_line}
+use Rattle.mal_shipped.proofs.Common.{◌≡◌, ◌≤◌, length, map, ◌∙◌, ap, arith, take_all, without_line}
 use Rattle.mal_shipped.proofs.program.unlined.Goals as goal
 
 pub new-requires : goal.new-requires

@@ -1,5 +1,4 @@
-use Rattle.std.proofs.Common.{◌≡◌, take, map}
-use Rattle.mal_shipped.specs.Prelude.{without_line}
+use Rattle.mal_shipped.proofs.Common.{◌≡◌, take, map, without_line}
 use Rattle.mal_shipped.proofs.program.unlined.Given as goal
 
 abbrev pub invariant-loop-s : goal.invariant-loop-s

@@ -1,6 +1,4 @@
-use Rattle.std.proofs.Common.{◌≡◌, ◌<◌, ◌^◌, map}
-use Rattle.std.specs.List.{range_with_len}
-use Rattle.ijvm_program.specs.Prelude.{line_address}
+use Rattle.method_linker.proofs.Common.{◌≡◌, ◌<◌, ◌^◌, map, range_with_len, line_address}
 use Rattle.method_linker.proofs.code.line_places.Given as goal
 
 abbrev pub invariant-loop-line : goal.invariant-loop-line

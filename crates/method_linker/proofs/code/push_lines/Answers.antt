@@ -1,6 +1,4 @@
-use Rattle.std.proofs.Common.{◌∙◌, SFits, rules}
-use Rattle.std.specs.Int.{w32}
-use Rattle.std.proofs.lemmas.Int.{to_z-of_z}
+use Rattle.method_linker.proofs.Common.{◌∙◌, SFits, rules, w32, to_z-of_z}
 use Rattle.method_linker.proofs.Pushed.{line_more, lines_all}
 use Rattle.method_linker.proofs.code.push_lines.Goals as goal
 

@@ -1,7 +1,4 @@
-use Rattle.std.proofs.Common.{drop}
-use Rattle.std.specs.List.{enumerate_from}
-use Rattle.ijvm_text.specs.declared.text.Text.{Text}
-use Rattle.method_linker.specs.Prelude.{AddsLines}
+use Rattle.method_linker.proofs.Common.{drop, enumerate_from, Text, AddsLines}
 use Rattle.method_linker.proofs.code.push_lines.Given as goal
 
 -- what ends with the lines that are left ends with all of them

@@ -1,5 +1,4 @@
-use Rattle.std.proofs.Common.{arith, get_or}
-use Rattle.std.proofs.lemmas.Int.{ints}
+use Rattle.method_linker.proofs.Common.{arith, get_or, ints}
 use Rattle.method_linker.proofs.Places.{place_in, place_is, place_fits, apart}
 use Rattle.method_linker.proofs.distance.distance.Goals as goal
 

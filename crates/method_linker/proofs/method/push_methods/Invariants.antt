@@ -1,7 +1,4 @@
-use Rattle.std.proofs.Common.{drop, map}
-use Rattle.ijvm_text.specs.declared.units.Units.{Units}
-use Rattle.ijvm_text.specs.Prelude.{AddsParts}
-use Rattle.method_linker.specs.Prelude.{method_part}
+use Rattle.method_linker.proofs.Common.{drop, map, Units, AddsParts, method_part}
 use Rattle.method_linker.proofs.method.push_methods.Given as goal
 
 -- what ends with the methods that are left ends with all of them

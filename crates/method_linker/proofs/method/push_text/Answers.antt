@@ -1,7 +1,4 @@
-use Rattle.std.proofs.Common.{[]}
-use Rattle.std.proofs.lemmas.Result.{on_ok_weaker}
-use Rattle.ijvm_text.specs.Prelude.{then, code_bytes}
-use Rattle.method_linker.specs.Prelude.{header_of, unit_code, unit_jumps}
+use Rattle.method_linker.proofs.Common.{[], on_ok_weaker, then, code_bytes, header_of, unit_code, unit_jumps}
 use Rattle.method_linker.proofs.method.push_text.Goals as goal
 
 pub returns : goal.returns

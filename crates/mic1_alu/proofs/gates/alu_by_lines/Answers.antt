@@ -1,5 +1,4 @@
-use Rattle.std.proofs.Common.{◌≡◌, ◌/◌, ◌%◌, true, ap, sym, ◌∙◌, bit_and, bit_xor}
-use Rattle.std.specs.Prelude.{◌==◌}
+use Rattle.std.proofs.Common.{◌≡◌, ◌/◌, ◌%◌, true, ap, sym, ◌∙◌, bit_and, bit_xor, ◌==◌}
 use Rattle.mic1_alu.specs.Prelude.{enabled, combined}
 use Rattle.mic1_alu.proofs.Lines.{through}
 use Rattle.mic1_alu.proofs.gates.alu_by_lines.Goals as goal

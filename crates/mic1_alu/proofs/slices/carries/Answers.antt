@@ -1,5 +1,4 @@
-use Rattle.std.proofs.Common.{ℕ, suc}
-use Rattle.mic1_alu.specs.Prelude.{carry_to}
+use Rattle.mic1_alu.proofs.Common.{ℕ, suc, carry_to}
 use Rattle.mic1_alu.proofs.Chain.{begun, comes_to}
 use Rattle.mic1_alu.proofs.slices.carries.Goals as goal
 

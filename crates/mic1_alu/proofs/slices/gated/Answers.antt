@@ -1,5 +1,4 @@
-use Rattle.std.proofs.Common.{◌<◌, ◌^◌, ◌∙◌, ℕ, ap, sym, arith}
-use Rattle.mic1_alu.specs.Prelude.{slice_bit, carry_to}
+use Rattle.mic1_alu.proofs.Common.{◌<◌, ◌^◌, ◌∙◌, ℕ, ap, sym, arith, slice_bit, carry_to}
 use Rattle.mic1_alu.proofs.Chain.{all_bits}
 use Rattle.mic1_alu.proofs.Slice.{any_carry}
 use Rattle.mic1_alu.proofs.slices.gated.Goals as goal

@@ -1,8 +1,5 @@
-use Rattle.std.proofs.Common.{ℕ, Ok, subst}
+use Rattle.mic1_checker.proofs.Common.{ℕ, Ok, subst, timing_of, HasShipped, CarriesAll}
 use Rattle.mic_words.specs.declared.machine.Machine.TheVariants.{Mic1}
-use Rattle.ijvm_meaning.specs.Cost.{timing_of}
-use Rattle.mal_shipped.specs.Shipped.{HasShipped}
-use Rattle.mic1_checks.specs.Spent.{CarriesAll}
 use Rattle.mic1_checker.proofs.Promised.{promised}
 use Rattle.mic1_checker.proofs.checked.check.Goals as goal
 

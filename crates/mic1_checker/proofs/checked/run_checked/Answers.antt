@@ -1,7 +1,4 @@
-use Rattle.std.proofs.Common.{◌≡◌, ap, sym}
-use Rattle.micro_word.specs.ControlStore.{ControlStore}
-use Rattle.ijvm_simulation.specs.Promises.{Interprets}
-use Rattle.mic1_checker.specs.Checked.{checked_with, reading}
+use Rattle.mic1_checker.proofs.Common.{◌≡◌, ap, sym, ControlStore, Interprets, checked_with, reading}
 use Rattle.mic1_checker.proofs.Same.{along, runs_along, reads_along, writes_along}
 use Rattle.mic1_checker.proofs.checked.run_checked.Given.{Over}
 use Rattle.mic1_checker.proofs.checked.run_checked.Goals as goal

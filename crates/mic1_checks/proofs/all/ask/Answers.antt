@@ -1,6 +1,4 @@
-use Rattle.std.proofs.Common.{List, sym, subst}
-use Rattle.std.specs.List.{Contains}
-use Rattle.mic1_checks.specs.declared.leaf.Counts.{Counts}
+use Rattle.mic1_checks.proofs.Common.{List, sym, subst, Contains, Counts}
 use Rattle.mic1_checks.proofs.all.ask.Goals as goal
 
 pub returns-clause-kept : goal.returns-clause-kept

@@ -1,8 +1,4 @@
-use Rattle.std.proofs.Common.{ℕ, inl, inr, subst, arith}
-use Rattle.std.specs.Prelude.{slice_index_or}
-use Rattle.std.proofs.lemmas.Bool.{cases_lt}
-use Rattle.mic1_checks.specs.Carried.{CarriesInstruction}
-use Rattle.mic1_checks.specs.Listed.{plain}
+use Rattle.mic1_checks.proofs.Common.{ℕ, inl, inr, subst, arith, slice_index_or, cases_lt, CarriesInstruction, plain}
 use Rattle.mic1_checks.proofs.Instructions.{more}
 use Rattle.mic1_checks.proofs.all.ask_each.Goals as goal
 

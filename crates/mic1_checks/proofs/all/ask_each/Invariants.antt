@@ -1,10 +1,4 @@
-use Rattle.std.proofs.Common.{◌≡◌, ℕ, ◌<◌, None}
-use Rattle.std.specs.Prelude.{slice_index_or}
-use Rattle.std.specs.List.{Contains}
-use Rattle.mic1_checks.specs.declared.leaf.Counts.{Counts}
-use Rattle.mic1_checks.specs.declared.shape.Shape.{Shape}
-use Rattle.mic1_checks.specs.Carried.{CarriesInstruction}
-use Rattle.mic1_checks.specs.Listed.{plain}
+use Rattle.mic1_checks.proofs.Common.{◌≡◌, ℕ, ◌<◌, None, slice_index_or, Contains, Counts, Shape, CarriesInstruction, plain}
 use Rattle.mic1_checks.proofs.all.ask_each.Given as goal
 
 abbrev pub invariant-loop-n : goal.invariant-loop-n

@@ -1,7 +1,4 @@
-use Rattle.std.proofs.Common.{◌≡◌, None, List, ◌∙◌, subst}
-use Rattle.std.proofs.lemmas.Result.{on_ok_weaker}
-use Rattle.mic1_checks.specs.declared.instruction.Instruction.{Instruction}
-use Rattle.mic1_checks.specs.Listed.{CarriesEach}
+use Rattle.mic1_checks.proofs.Common.{◌≡◌, None, List, ◌∙◌, subst, on_ok_weaker, Instruction, CarriesEach}
 use Rattle.mic1_checks.proofs.Instructions.{taken}
 use Rattle.mic1_checks.proofs.all.takes_alike.Goals as goal
 

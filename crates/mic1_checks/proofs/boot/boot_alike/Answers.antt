@@ -1,28 +1,8 @@
-use Rattle.std.proofs.Common.{◌≡◌, ◌<◌, ◌+◌, ℕ, true, false, List, Ok, None, length, sym, ap, ◌∙◌, subst, arith}
-use Rattle.std.specs.Prelude.{slice_index}
-use Rattle.std.proofs.lemmas.List.Elements.{All-same, All-nil}
-use Rattle.console_port.specs.World.{World, byte_in}
-use Rattle.mic1_datapath.specs.Micro.{Micro}
-use Rattle.mic1_datapath.specs.Mic1.{mic1_meaning, IsReady}
+use Rattle.mic1_checks.proofs.Common.{◌≡◌, ◌<◌, ◌+◌, ℕ, true, false, List, Ok, None, length, sym, ap, ◌∙◌, subst, arith, slice_index, All-same, All-nil, World}
+use Rattle.mic1_checks.proofs.Common.{byte_in, Micro, mic1_meaning, IsReady, IsAt, Moment, Moves, reset_moment, Node, Fits, AreOrdered, KnownByte, KnownWord}
+use Rattle.mic1_checks.proofs.Common.{StandsAt, Answer, Symbols, AreAnswered, truth, Unknown, BOOT, IsReset, CarriedBy, CarriesOver, IsReadyOrArriving, IsKnown}
+use Rattle.mic1_checks.proofs.Common.{HasRegisters, start_moment}
 use Rattle.ijvm_simulation.specs.Images as images
-use Rattle.ijvm_simulation.specs.Stands.{IsAt}
-use Rattle.ijvm_simulation.specs.Passes.{Moment}
-use Rattle.ijvm_simulation.specs.Law.{Moves, reset_moment}
-use Rattle.micro_terms.specs.declared.node.Node.{Node}
-use Rattle.micro_terms.specs.Meaning.{Fits}
-use Rattle.micro_terms.specs.Ordered.{AreOrdered}
-use Rattle.mic1_cycles.specs.declared.known.KnownByte.{KnownByte}
-use Rattle.mic1_cycles.specs.declared.known.KnownWord.{KnownWord}
-use Rattle.mic1_cycles.specs.Known.{StandsAt}
-use Rattle.mic1_cycles.specs.declared.question.Answer.{Answer}
-use Rattle.mic1_cycles.specs.declared.symbols.Symbols.{Symbols}
-use Rattle.mic1_cycles.specs.Questions.{AreAnswered, truth}
-use Rattle.mic1_checks.specs.declared.left.Operands.TheVariants.{Unknown}
-use Rattle.mic1_checks.specs.Boot.{BOOT, IsReset}
-use Rattle.mic1_checks.specs.Carried.{CarriedBy, CarriesOver}
-use Rattle.mic1_checks.specs.Ready.{IsReadyOrArriving}
-use Rattle.mic1_checks.specs.Situation.{IsKnown}
-use Rattle.mic1_checks.specs.Start.{HasRegisters, start_moment}
 use Rattle.mic1_checks.proofs.Knowledge.{in_none}
 use Rattle.mic1_checks.proofs.Reset.{first_sp, moves_alike, reset_has_words, reset_signs, stand_reset, with_clocked}
 use Rattle.mic1_checks.proofs.Starts.{Started, started}

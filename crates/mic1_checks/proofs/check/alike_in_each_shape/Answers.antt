@@ -1,8 +1,4 @@
-use Rattle.std.proofs.Common.{ℕ, Ok, inl, inr, subst, arith}
-use Rattle.std.specs.Prelude.{slice_index_or}
-use Rattle.std.proofs.lemmas.Bool.{cases_lt}
-use Rattle.mic1_checks.specs.declared.shape.Shape.{Shape}
-use Rattle.mic1_checks.specs.Carried.{CarriesInstruction}
+use Rattle.mic1_checks.proofs.Common.{ℕ, Ok, inl, inr, subst, arith, slice_index_or, cases_lt, Shape, CarriesInstruction}
 use Rattle.mic1_checks.proofs.Instructions.{more}
 use Rattle.mic1_checks.proofs.Shapes.{SETTLED, any_shape, shapes}
 use Rattle.mic1_checks.proofs.check.alike_in_each_shape.Goals as goal

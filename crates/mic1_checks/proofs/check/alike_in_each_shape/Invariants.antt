@@ -1,8 +1,4 @@
-use Rattle.std.proofs.Common.{ℕ, ◌<◌}
-use Rattle.std.specs.Prelude.{slice_index_or}
-use Rattle.std.specs.List.{Contains}
-use Rattle.mic1_checks.specs.declared.leaf.Counts.{Counts}
-use Rattle.mic1_checks.specs.Carried.{CarriesInstruction}
+use Rattle.mic1_checks.proofs.Common.{ℕ, ◌<◌, slice_index_or, Contains, Counts, CarriesInstruction}
 use Rattle.mic1_checks.proofs.Shapes.{SETTLED, shapes}
 use Rattle.mic1_checks.proofs.check.alike_in_each_shape.Given as goal
 

@@ -1,24 +1,6 @@
-use Rattle.std.proofs.Common.{◌≡◌, List, Ok, None, sym, ap, ◌∙◌, subst}
-use Rattle.std.proofs.lemmas.List.Elements.{All-same, All-nil}
-use Rattle.ijvm_meaning.specs.Cost.{cost}
-use Rattle.mic1_datapath.specs.Micro.{Micro}
-use Rattle.mic1_datapath.specs.Mic1.{mic1_meaning, IsReady}
-use Rattle.ijvm_simulation.specs.Stands.{IsAt}
-use Rattle.ijvm_simulation.specs.Passes.{Moment}
-use Rattle.ijvm_simulation.specs.Law.{Moves, Overruns}
-use Rattle.micro_terms.specs.declared.node.Node.{Node}
-use Rattle.micro_terms.specs.Meaning.{Fits}
-use Rattle.micro_terms.specs.Ordered.{AreOrdered}
-use Rattle.mic1_cycles.specs.declared.question.Answer.{Answer}
-use Rattle.mic1_cycles.specs.declared.symbols.Symbols.{Symbols}
-use Rattle.mic1_cycles.specs.Questions.{AreAnswered, truth}
-use Rattle.mic1_cycles.specs.Symbols.{HasSigns}
-use Rattle.mic1_checks.specs.declared.left.Operands.{Operands}
-use Rattle.mic1_checks.specs.Left.{AreLeft}
-use Rattle.mic1_checks.specs.Ready.{IsReadyOrArriving}
-use Rattle.mic1_checks.specs.Situation.{IsKnown}
-use Rattle.mic1_checks.specs.Start.{HasRegisters, shaped_symbols, start_moment}
-use Rattle.mic1_checks.specs.Carried.{CarriedBy, CarriesOver}
+use Rattle.mic1_checks.proofs.Common.{◌≡◌, List, Ok, None, sym, ap, ◌∙◌, subst, All-same, All-nil, cost, Micro, mic1_meaning, IsReady, IsAt, Moment, Moves}
+use Rattle.mic1_checks.proofs.Common.{Overruns, Node, Fits, AreOrdered, Answer, Symbols, AreAnswered, truth, HasSigns, Operands, AreLeft, IsReadyOrArriving}
+use Rattle.mic1_checks.proofs.Common.{IsKnown, HasRegisters, shaped_symbols, start_moment, CarriedBy, CarriesOver}
 use Rattle.mic1_checks.proofs.Begun.{Begun, begun}
 use Rattle.mic1_checks.proofs.Starts.{twin, twin_stands}
 use Rattle.mic1_checks.proofs.check.instruction_alike.Goals as goal

@@ -1,7 +1,4 @@
-use Rattle.std.proofs.Common.{◌≡◌, Ok}
-use Rattle.mic1_checks.specs.declared.ends.Ended.TheVariants.{After}
-use Rattle.mic1_checks.specs.declared.shape.Shape.{Shape}
-use Rattle.mic1_checks.specs.Ends.{EndsAfter}
+use Rattle.mic1_checks.proofs.Common.{◌≡◌, Ok, After, Shape, EndsAfter}
 use Rattle.mic1_checks.proofs.Shapes.{any_shape}
 use Rattle.mic1_checks.proofs.ends.end_in_each_shape.Goals as goal
 

@@ -1,21 +1,6 @@
-use Rattle.std.proofs.Common.{◌≡◌, ◌==◌, ℕ, List, Ok, None, refl, sym, ap, ◌∙◌, subst, arith}
-use Rattle.std.proofs.lemmas.List.Elements.{All-same, All-nil}
-use Rattle.mic1_datapath.specs.Micro.{Micro}
-use Rattle.mic1_datapath.specs.Mic1.{mic1_meaning}
-use Rattle.ijvm_simulation.specs.Passes.{Moment, pass}
-use Rattle.micro_terms.specs.declared.node.Node.{Node}
-use Rattle.micro_terms.specs.Ordered.{AreOrdered}
-use Rattle.mic1_cycles.specs.declared.question.Answer.{Answer}
-use Rattle.mic1_cycles.specs.declared.symbols.Symbols.{Symbols}
-use Rattle.mic1_cycles.specs.Paths.{IsPath}
-use Rattle.mic1_cycles.specs.Questions.{AreAnswered, truth}
-use Rattle.mic1_cycles.specs.Symbols.{HasSigns}
-use Rattle.mic1_passes.specs.Moments.{moment}
-use Rattle.mic1_checks.specs.declared.instruction.Instruction.{Instruction}
-use Rattle.mic1_checks.specs.declared.ends.Ended.TheVariants.{After}
-use Rattle.mic1_checks.specs.Ends.{HasEndedAfter}
-use Rattle.mic1_checks.specs.Situation.{IsKnown, Suits}
-use Rattle.mic1_checks.specs.Start.{HasRegisters, shaped_symbols, start_moment}
+use Rattle.mic1_checks.proofs.Common.{◌≡◌, ◌==◌, ℕ, List, Ok, None, refl, sym, ap, ◌∙◌, subst, arith, All-same, All-nil, Micro, mic1_meaning, Moment, pass}
+use Rattle.mic1_checks.proofs.Common.{Node, AreOrdered, Answer, Symbols, IsPath, AreAnswered, truth, HasSigns, moment, Instruction, After, HasEndedAfter}
+use Rattle.mic1_checks.proofs.Common.{IsKnown, Suits, HasRegisters, shaped_symbols, start_moment}
 use Rattle.mic1_checks.proofs.Begun.{Begun, begun}
 use Rattle.mic1_checks.proofs.Ended.{at_end, unchanged}
 use Rattle.mic1_checks.proofs.ends.end_of.Goals as goal

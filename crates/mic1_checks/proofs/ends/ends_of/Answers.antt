@@ -1,6 +1,4 @@
-use Rattle.std.proofs.Common.{refl}
-use Rattle.ijvm_instr.specs.declared.instr.Instr.TheVariants.{Err, Halt}
-use Rattle.mic1_checks.specs.Ready.{shape_of}
+use Rattle.mic1_checks.proofs.Common.{refl, Err, Halt, shape_of}
 use Rattle.mic1_checks.proofs.ends.ends_of.Goals as goal
 
 pub returns-clause-ends : goal.returns-clause-ends

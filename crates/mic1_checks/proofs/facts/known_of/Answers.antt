@@ -1,6 +1,4 @@
-use Rattle.std.proofs.Common.{List, sym, subst}
-use Rattle.micro_terms.specs.declared.range.Range.{Range}
-use Rattle.micro_terms.specs.Ranges.{IsIn}
+use Rattle.mic1_checks.proofs.Common.{List, sym, subst, Range, IsIn}
 use Rattle.mic1_checks.proofs.Knowledge.{bytes, long_enough, ranges, size}
 use Rattle.mic1_checks.proofs.Operands.{operand_at_top}
 use Rattle.mic1_checks.proofs.facts.known_of.Goals as goal

@@ -1,10 +1,4 @@
-use Rattle.std.proofs.Common.{◌≡◌, None, List, Ok, sym, ◌∙◌, subst}
-use Rattle.std.specs.List.{Contains}
-use Rattle.mic1_checks.specs.declared.leaf.Counts.{Counts}
-use Rattle.mic1_checks.specs.Boot.{BOOT, CarriesBoot}
-use Rattle.mic1_checks.specs.Ends.{TakesEnds}
-use Rattle.mic1_checks.specs.Listed.{CarriesTakes}
-use Rattle.mic1_checks.specs.Spent.{DecideSeconds}
+use Rattle.mic1_checks.proofs.Common.{◌≡◌, None, List, Ok, sym, ◌∙◌, subst, Contains, Counts, BOOT, CarriesBoot, TakesEnds, CarriesTakes, DecideSeconds}
 use Rattle.mic1_checks.proofs.Shown.{shown}
 use Rattle.mic1_checks.proofs.Timed.{goes_on, moves_on}
 use Rattle.mic1_checks.proofs.judged.judge.Goals as goal

@@ -1,11 +1,5 @@
-use Rattle.std.proofs.Common.{refl, Result, Ok, sym, ap, ◌∙◌, subst}
-use Rattle.std.specs.declared.alloc.AllocError.{AllocError}
-use Rattle.micro_terms.specs.Meaning.{Fits}
+use Rattle.mic1_checks.proofs.Common.{refl, Result, Ok, sym, ap, ◌∙◌, subst, AllocError, Fits, IsNoEnd, Tried, Stopped, AreAtBoundary, AreAtLimit}
 use Rattle.mic1_passes.specs.declared.run.Followed.TheVariants as followed
-use Rattle.mic1_checks.specs.Transfer.{IsNoEnd}
-use Rattle.mic1_checks.specs.declared.leaf.Tried.{Tried}
-use Rattle.mic1_checks.specs.declared.leaf.Tried.TheVariants.{Stopped}
-use Rattle.mic1_checks.specs.Carried.{AreAtBoundary, AreAtLimit}
 use Rattle.mic1_checks.proofs.KeptWords.{has_words}
 use Rattle.mic1_checks.proofs.Leaves.{alike, limited, refused}
 use Rattle.mic1_checks.proofs.leaf.attempt.Goals as goal

@@ -1,5 +1,4 @@
-use Rattle.std.proofs.Common.{ℕ, sym, ap, ◌∙◌}
-use Rattle.mic_words.specs.Arithmetic.{plus}
+use Rattle.mic1_checks.proofs.Common.{ℕ, sym, ap, ◌∙◌, plus}
 use Rattle.mic1_checks.proofs.Leaving.{after_call, after_istore, after_wide_istore}
 use Rattle.mic1_checks.proofs.left.operands_after.Goals as goal
 

@@ -1,9 +1,4 @@
-use Rattle.std.proofs.Common.{Ok, List, [], ◌∷◌, ◌++◌, sym, ◌∙◌, subst, arith}
-use Rattle.std.specs.List.{Contains}
-use Rattle.std.proofs.lemmas.List.Elements.{Contains-append_right}
-use Rattle.micro_terms.specs.Meaning.{Fits}
-use Rattle.mic1_checks.specs.declared.leaf.Counts.{Counts}
-use Rattle.mic1_checks.specs.Carried.{CarriesOver}
+use Rattle.mic1_checks.proofs.Common.{Ok, List, [], ◌∷◌, ◌++◌, sym, ◌∙◌, subst, arith, Contains, Contains-append_right, Fits, Counts, CarriesOver}
 use Rattle.mic1_checks.proofs.Leaves.{either, more}
 use Rattle.mic1_checks.proofs.tree.+explore.Goals as goal
 

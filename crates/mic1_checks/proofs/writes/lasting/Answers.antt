@@ -1,8 +1,5 @@
-use Rattle.std.proofs.Common.{◌≡◌, ◌<◌, ◌+◌, [], ◌∷◌, ℕ, List, Vec, Global, length, drop, get_or, refl, sym, ap, ◌∙◌, subst, arith}
-use Rattle.std.specs.List.{Any}
-use Rattle.std.proofs.lemmas.List.{drop_more, take_rest}
-use Rattle.mic1_cycles.specs.declared.symbols.Write.{Write}
-use Rattle.mic1_cycles.specs.Trail.{written_by}
+use Rattle.mic1_checks.proofs.Common.{◌≡◌, ◌<◌, ◌+◌, [], ◌∷◌, ℕ, List, Vec, Global, length, drop, get_or, refl, sym, ap, ◌∙◌, subst, arith, Any, drop_more}
+use Rattle.mic1_checks.proofs.Common.{take_rest, Write, written_by}
 use Rattle.mic1_checks.proofs.Orders.{without, written_append}
 use Rattle.mic1_checks.proofs.writes.lasting.Goals as goal
 use Rattle.mic1_checks.proofs.writes.lasting.Goals.{then-not-have_one_at+in_ok-push, else-not-have_one_at}

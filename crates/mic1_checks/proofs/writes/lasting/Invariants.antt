@@ -1,6 +1,4 @@
-use Rattle.std.proofs.Common.{◌≡◌, ℕ, List, drop}
-use Rattle.micro_terms.specs.Environment.{Environment}
-use Rattle.mic1_cycles.specs.Trail.{written_by}
+use Rattle.mic1_checks.proofs.Common.{◌≡◌, ℕ, List, drop, Environment, written_by}
 use Rattle.mic1_checks.proofs.writes.lasting.Given as goal
 
 abbrev pub invariant-loop-place : goal.invariant-loop-place

@@ -1,11 +1,5 @@
-use Rattle.std.proofs.Common.{◌<◌, ◌+◌, ◌∷◌, ℕ, List, Option, length, take, get_or, sym, ap, ◌∙◌, subst, arith}
-use Rattle.std.specs.Prelude.{IfSome}
-use Rattle.std.specs.List.{remove}
-use Rattle.micro_terms.specs.Meaning.{Holds}
-use Rattle.mic1_cycles.specs.declared.symbols.Write.{Write}
-use Rattle.mic1_cycles.specs.Known.{Knows}
-use Rattle.mic1_cycles.specs.Trail.{written_by}
-use Rattle.mic1_checks.specs.Transfer.{LeaveAlike}
+use Rattle.mic1_checks.proofs.Common.{◌<◌, ◌+◌, ◌∷◌, ℕ, List, Option, length, take, get_or, sym, ap, ◌∙◌, subst, arith, IfSome, remove, Holds, Write, Knows}
+use Rattle.mic1_checks.proofs.Common.{written_by, LeaveAlike}
 use Rattle.mic1_checks.proofs.Orders.{one_more}
 use Rattle.mic1_checks.proofs.writes.order_unlike.Goals as goal
 

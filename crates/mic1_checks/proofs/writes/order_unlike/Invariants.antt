@@ -1,7 +1,4 @@
-use Rattle.std.proofs.Common.{◌≡◌, ℕ, List, take}
-use Rattle.micro_terms.specs.Meaning.{Holds}
-use Rattle.mic1_cycles.specs.Known.{Knows}
-use Rattle.mic1_cycles.specs.Trail.{written_by}
+use Rattle.mic1_checks.proofs.Common.{◌≡◌, ℕ, List, take, Holds, Knows, written_by}
 use Rattle.mic1_checks.proofs.writes.order_unlike.Given as goal
 
 abbrev pub invariant-loop-place : goal.invariant-loop-place

@@ -1,5 +1,4 @@
-use Rattle.std.proofs.Common.{◌≡◌, ◌<◌, length, get_or, sym, ◌∙◌, arith}
-use Rattle.mic1_cycles.specs.declared.symbols.Write.{Write}
+use Rattle.mic1_checks.proofs.Common.{◌≡◌, ◌<◌, length, get_or, sym, ◌∙◌, arith, Write}
 use Rattle.mic1_checks.proofs.Alike.{write_decides}
 use Rattle.mic1_checks.proofs.Orders.{taken_out}
 use Rattle.mic1_checks.proofs.writes.place_of.Goals as goal

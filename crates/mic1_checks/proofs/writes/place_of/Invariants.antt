@@ -1,7 +1,4 @@
-use Rattle.std.proofs.Common.{take}
-use Rattle.std.specs.List.{All}
-use Rattle.micro_terms.specs.Meaning.{Holds}
-use Rattle.mic1_cycles.specs.Known.{Knows}
+use Rattle.mic1_checks.proofs.Common.{take, All, Holds, Knows}
 use Rattle.mic1_checks.proofs.Orders.{IsApart}
 use Rattle.mic1_checks.proofs.writes.place_of.Given as goal
 

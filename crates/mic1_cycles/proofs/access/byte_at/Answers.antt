@@ -1,6 +1,4 @@
-use Rattle.std.proofs.Common.{◌≡◌, ◌/◌, ℕ, List, ap, ◌∙◌, arith}
-use Rattle.std.specs.Prelude.{slice_index}
-use Rattle.mic1_cycles.specs.Trail.{written_by}
+use Rattle.mic1_cycles.proofs.Common.{◌≡◌, ◌/◌, ℕ, List, ap, ◌∙◌, arith, slice_index, written_by}
 use Rattle.mic1_cycles.proofs.access.byte_at.Goals as goal
 
 pub returns-clause-value : goal.returns-clause-value

@@ -1,7 +1,4 @@
-use Rattle.std.proofs.Common.{◌<◌, ◌≤◌, refl, sym, ◌∙◌}
-use Rattle.std.specs.List.{All}
-use Rattle.micro_terms.specs.Meaning.{Fits}
-use Rattle.mic1_cycles.specs.Sites.{IsByteIn}
+use Rattle.mic1_cycles.proofs.Common.{◌<◌, ◌≤◌, refl, sym, ◌∙◌, All, Fits, IsByteIn}
 use Rattle.mic1_cycles.proofs.Trails.{byte_below}
 use Rattle.mic1_cycles.proofs.access.unwritten_byte.Goals as goal
 

@@ -1,8 +1,4 @@
-use Rattle.std.proofs.Common.{ℕ, ◌<◌, List, length, take, sym, ap, ◌∙◌, arith}
-use Rattle.std.specs.Prelude.{slice_index}
-use Rattle.micro_terms.specs.Meaning.{Fits}
-use Rattle.mic1_cycles.specs.declared.symbols.Write.{Write}
-use Rattle.mic1_cycles.specs.Trail.{written_by}
+use Rattle.mic1_cycles.proofs.Common.{ℕ, ◌<◌, List, length, take, sym, ap, ◌∙◌, arith, slice_index, Fits, Write, written_by}
 use Rattle.mic1_cycles.proofs.Trails.{one_more, size_kept}
 use Rattle.mic1_cycles.proofs.access.word_at.Goals as goal
 

@@ -1,8 +1,4 @@
-use Rattle.std.proofs.Common.{◌≡◌, ◌<◌, length, take}
-use Rattle.std.specs.Prelude.{slice_index}
-use Rattle.micro_terms.specs.Meaning.{Holds, Grows}
-use Rattle.mic1_cycles.specs.Trail.{written_by}
-use Rattle.mic1_cycles.specs.Known.{Knows}
+use Rattle.mic1_cycles.proofs.Common.{◌≡◌, ◌<◌, length, take, slice_index, Holds, Grows, written_by, Knows}
 use Rattle.mic1_cycles.proofs.access.word_at.Given as goal
 
 abbrev pub invariant-loop-write : goal.invariant-loop-write

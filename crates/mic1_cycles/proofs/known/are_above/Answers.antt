@@ -1,7 +1,4 @@
-use Rattle.std.proofs.Common.{◌≤◌, ◌<◌, List, length, refl, take_all, subst, arith}
-use Rattle.std.specs.List.{All}
-use Rattle.std.proofs.lemmas.List.Elements.{All-more}
-use Rattle.mic1_cycles.specs.declared.symbols.Write.{Write}
+use Rattle.mic1_cycles.proofs.Common.{◌≤◌, ◌<◌, List, length, refl, take_all, subst, arith, All, All-more, Write}
 use Rattle.mic1_cycles.proofs.known.are_above.Goals as goal
 
 pub loop-write-preserved : goal.loop-write-preserved

@@ -1,7 +1,4 @@
-use Rattle.std.proofs.Common.{◌≤◌, take}
-use Rattle.std.specs.List.{All}
-use Rattle.micro_terms.specs.Meaning.{Holds}
-use Rattle.mic1_cycles.specs.Known.{Knows}
+use Rattle.mic1_cycles.proofs.Common.{◌≤◌, take, All, Holds, Knows}
 use Rattle.mic1_cycles.proofs.known.are_above.Given as goal
 
 abbrev pub invariant-loop-write : goal.invariant-loop-write

@@ -1,5 +1,4 @@
-use Rattle.std.proofs.Common.{◌≡◌, ◌<◌, ◌∙◌, ℕ, ap, sym, arith}
-use Rattle.mic_words.specs.Arithmetic.{half, is_negative}
+use Rattle.mic1_cycles.proofs.Common.{◌≡◌, ◌<◌, ◌∙◌, ℕ, ap, sym, arith, half, is_negative}
 use Rattle.mic1_cycles.proofs.next.with_its_sign.Goals as goal
 
 half_sign : (x : ℕ) → x < 4294967296 → is_negative x ≡ is_negative (half x)

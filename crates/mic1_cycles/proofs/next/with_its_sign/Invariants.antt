@@ -1,7 +1,5 @@
-use Rattle.std.proofs.Common.{◌≡◌}
+use Rattle.mic1_cycles.proofs.Common.{◌≡◌, flag, Holds}
 use Rattle.micro_word.specs.declared.statement.Test.TheVariants as tests
-use Rattle.mic_datapath.specs.Next.{flag}
-use Rattle.micro_terms.specs.Meaning.{Holds}
 use Rattle.mic1_cycles.proofs.next.with_its_sign.Given as goal
 
 abbrev pub invariant-loop : goal.invariant-loop

@@ -1,10 +1,5 @@
-use Rattle.std.proofs.Common.{◌≡◌, ◌/◌, Some, None, length, ap, ◌∙◌}
-use Rattle.mic_datapath.specs.Memory.{byte_refusal, first_refusal, memory_refusal}
+use Rattle.mic1_cycles.proofs.Common.{◌≡◌, ◌/◌, Some, None, length, ap, ◌∙◌, byte_refusal, first_refusal, memory_refusal, Refused, Stop, OutOfMap, refusal_of}
 use Rattle.mic1_cycles.specs.declared.refusal.Forecast.{Forecast}
-use Rattle.mic1_cycles.specs.declared.refusal.Forecast.TheVariants.{Refused}
-use Rattle.mic1_cycles.specs.declared.refusal.Stop.{Stop}
-use Rattle.mic1_cycles.specs.declared.refusal.Stop.TheVariants.{OutOfMap}
-use Rattle.mic1_cycles.specs.Paths.{refusal_of}
 use Rattle.mic1_cycles.proofs.refusal.refusal_in.Goals as goal
 
 stop_in : Forecast → Stop

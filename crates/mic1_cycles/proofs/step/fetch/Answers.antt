@@ -1,10 +1,5 @@
-use Rattle.std.proofs.Common.{◌≡◌, ◌<◌, ◌/◌, nat_lt, ℕ, Bool, true, Some, List, length, sym, ◌∙◌, subst, arith}
-use Rattle.console_port.specs.World.{byte_in}
-use Rattle.mic_datapath.specs.Memory.{ports_with}
-use Rattle.mic1_cycles.specs.declared.symbols.Write.{Write}
-use Rattle.mic1_cycles.specs.Access.{IsFetched}
-use Rattle.mic1_cycles.specs.Trail.{written_by}
-use Rattle.mic1_cycles.specs.Sites.{IsByteIn}
+use Rattle.mic1_cycles.proofs.Common.{◌≡◌, ◌<◌, ◌/◌, nat_lt, ℕ, Bool, true, Some, List, length, sym, ◌∙◌, subst, arith, byte_in, ports_with, Write, IsFetched}
+use Rattle.mic1_cycles.proofs.Common.{written_by, IsByteIn}
 use Rattle.mic1_cycles.proofs.step.fetch.Goals as goal
 
 is_below : (a b : ℕ) → nat_lt a b ≡ true → a < b

@@ -1,11 +1,6 @@
-use Rattle.std.proofs.Common.{◌≡◌, ℕ, ◌/◌, ◌%◌, ◌==◌, Option, sym, ap, ◌∙◌}
-use Rattle.micro_word.specs.Prelude.{may_be_b, statement_of, alu, shifted}
-use Rattle.mic_words.specs.Prelude.{is_negative}
-use Rattle.micro_word.specs.declared.layout.Fields.{Fields}
-use Rattle.micro_word.specs.declared.statement.BusSource.{BusSource}
+use Rattle.mic1_datapath.proofs.Common.{◌≡◌, ℕ, ◌/◌, ◌%◌, ◌==◌, Option, sym, ap, ◌∙◌, may_be_b, statement_of, alu, shifted, is_negative, Fields, BusSource}
+use Rattle.mic1_datapath.proofs.Common.{enabled, source, result_of, computed, micro_in}
 use Rattle.mic_words.specs.declared.machine.Machine.TheVariants as machines
-use Rattle.mic1_alu.specs.Prelude.{enabled}
-use Rattle.mic1_datapath.specs.Prelude.{source, result_of, computed, micro_in}
 use Rattle.mic1_datapath.proofs.buses.computed_by.Goals as goal
 
 pub operate-value-requires-clause-b : goal.operate-value-requires-clause-b

@@ -1,10 +1,5 @@
-use Rattle.std.proofs.Common.{◌≡◌, ℕ, ◌==◌, ap, ◌∙◌, arith}
-use Rattle.mic_words.specs.Prelude.{is_negative}
+use Rattle.mic1_datapath.proofs.Common.{◌≡◌, ℕ, ◌==◌, ap, ◌∙◌, arith, is_negative, statement_of, alu, shifted, Fields, gates, controls_of, Controls}
 use Rattle.mic_words.specs.declared.machine.Machine.TheVariants as machines
-use Rattle.micro_word.specs.Prelude.{statement_of, alu, shifted}
-use Rattle.micro_word.specs.declared.layout.Fields.{Fields}
-use Rattle.mic1_alu.specs.Prelude.{gates, controls_of}
-use Rattle.mic1_alu.specs.declared.controls.Controls.{Controls}
 use Rattle.mic1_datapath.proofs.buses.computed_of.Goals as goal
 
 pub returns : goal.returns

@@ -1,7 +1,5 @@
-use Rattle.std.proofs.Common.{◌≡◌, ℕ, false, slice_index, ap, ◌∙◌}
-use Rattle.micro_word.specs.Prelude.{statement_of}
+use Rattle.mic1_datapath.proofs.Common.{◌≡◌, ℕ, false, slice_index, ap, ◌∙◌, statement_of, source, driven, micro_in}
 use Rattle.mic_words.specs.declared.machine.Machine.TheVariants as machines
-use Rattle.mic1_datapath.specs.Prelude.{source, driven, micro_in}
 use Rattle.mic1_datapath.proofs.Sources.{at_place}
 use Rattle.mic1_datapath.proofs.buses.driven_by.Goals as goal
 

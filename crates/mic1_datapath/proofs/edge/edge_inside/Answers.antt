@@ -1,8 +1,4 @@
-use Rattle.std.proofs.Common.{true, ◌∙◌, ap, subst, sym}
-use Rattle.console_port.specs.Prelude.{BusView, ConsoleView}
-use Rattle.micro_word.specs.Prelude.{mem_of}
-use Rattle.mic1_datapath.specs.Prelude.{IsAtEdge, IsTried, is_done}
-use Rattle.mic1_datapath.specs.declared.latches.Latches.{Latches}
+use Rattle.mic1_datapath.proofs.Common.{true, ◌∙◌, ap, subst, sym, BusView, ConsoleView, mem_of, IsAtEdge, IsTried, is_done, Latches}
 use Rattle.mic1_datapath.proofs.Inside.{led_inside}
 use Rattle.mic1_datapath.proofs.Tried.{tried}
 use Rattle.mic1_datapath.proofs.edge.edge_inside.Goals as goal

@@ -1,9 +1,5 @@
-use Rattle.std.proofs.Common.{ℕ, true, false, None, refl, sym, ap, ◌∙◌, subst}
-use Rattle.console_port.specs.Prelude.{ChangesOnly}
+use Rattle.mic1_datapath.proofs.Common.{ℕ, true, false, None, refl, sym, ap, ◌∙◌, subst, ChangesOnly, mem_of, led_same, ports_at, access_by, micro_in}
 use Rattle.micro_word.specs.declared.statement.Mem.TheVariants as mems
-use Rattle.micro_word.specs.Prelude.{mem_of}
-use Rattle.mic_datapath.specs.Prelude.{led_same}
-use Rattle.mic1_datapath.specs.Prelude.{ports_at, access_by, micro_in}
 use Rattle.mic1_datapath.proofs.Tried.{tried}
 use Rattle.mic1_datapath.proofs.edge.edge_of_one.Goals as goal
 

@@ -1,9 +1,5 @@
-use Rattle.std.proofs.Common.{◌≡◌, ◌≢◌, ◌%◌, ◌==◌, ℕ, ap, sym, ◌∙◌}
-use Rattle.micro_word.specs.Prelude.{mem_bits, statement_of}
-use Rattle.micro_word.specs.declared.layout.Fields.{Fields}
-use Rattle.micro_word.specs.declared.statement.Mem.{Mem}
+use Rattle.mic1_datapath.proofs.Common.{◌≡◌, ◌≢◌, ◌%◌, ◌==◌, ℕ, ap, sym, ◌∙◌, mem_bits, statement_of, Fields, Mem, access_by}
 use Rattle.micro_word.specs.declared.statement.Mem.TheVariants as mems
-use Rattle.mic1_datapath.specs.Prelude.{access_by}
 use Rattle.mic1_datapath.proofs.latches.is_read.Goals as goal
 
 -- the bits of an access are 0, 1 for a read and 2 for a write

@@ -1,6 +1,4 @@
-use Rattle.std.proofs.Common.{ap}
-use Rattle.micro_word.specs.declared.statement.Placed.{Placed}
-use Rattle.mic1_datapath.specs.Prelude.{step_of_word, microstep}
+use Rattle.mic1_datapath.proofs.Common.{ap, Placed, step_of_word, microstep}
 use Rattle.mic1_datapath.proofs.laws.step_law.Goals as goal
 
 pub returns : goal.returns

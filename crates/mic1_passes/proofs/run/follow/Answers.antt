@@ -1,17 +1,5 @@
-use Rattle.std.proofs.Common.{◌≡◌, ◌+◌, ℕ, suc, Result, Ok, Err, ap, ◌∙◌, subst, arith}
-use Rattle.std.specs.Prelude.{slice_index}
-use Rattle.std.specs.declared.alloc.AllocError.{AllocError}
-use Rattle.mic_words.specs.declared.machine.Machine.TheVariants.{Mic1}
-use Rattle.micro_word.specs.Coding.{microword_of}
-use Rattle.mic1_datapath.specs.Mic1.{mic1_meaning}
-use Rattle.ijvm_simulation.specs.Passes.{pass}
-use Rattle.micro_terms.specs.Meaning.{Fits}
-use Rattle.mic1_cycles.specs.Paths.{LeadsOn, MeetsRefusal}
-use Rattle.mic1_cycles.specs.declared.refusal.Stop.{Stop}
-use Rattle.mic1_cycles.specs.declared.refusal.Stop.TheVariants.{Limit, OutOfMap as Nowhere}
-use Rattle.mic1_passes.specs.Moments.{moment}
-use Rattle.mic1_passes.specs.declared.run.Followed.{Followed}
-use Rattle.mic1_passes.specs.declared.run.Followed.TheVariants.{Boundary, End, Unknown}
+use Rattle.mic1_passes.proofs.Common.{◌≡◌, ◌+◌, ℕ, suc, Result, Ok, Err, ap, ◌∙◌, subst, arith, slice_index, AllocError, Mic1, microword_of, mic1_meaning, pass}
+use Rattle.mic1_passes.proofs.Common.{Fits, LeadsOn, MeetsRefusal, Stop, Limit, OutOfMap as Nowhere, moment, Followed, Boundary, End, Unknown}
 use Rattle.mic1_passes.proofs.Walks.{Came, arrives, came_to_stop, goes_on, is_within, is_off}
 use Rattle.mic1_passes.proofs.run.follow.Goals as goal
 

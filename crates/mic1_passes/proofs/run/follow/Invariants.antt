@@ -1,10 +1,4 @@
-use Rattle.std.proofs.Common.{◌≡◌, ◌+◌, ℕ}
-use Rattle.mic1_datapath.specs.Mic1.{mic1_meaning}
-use Rattle.ijvm_simulation.specs.Passes.{pass}
-use Rattle.micro_terms.specs.Meaning.{Holds, Grows}
-use Rattle.mic1_cycles.specs.Known.{Knows}
-use Rattle.mic1_cycles.specs.Paths.{IsPath}
-use Rattle.mic1_passes.specs.Moments.{moment}
+use Rattle.mic1_passes.proofs.Common.{◌≡◌, ◌+◌, ℕ, mic1_meaning, pass, Holds, Grows, Knows, IsPath, moment}
 use Rattle.mic1_passes.proofs.Walks.{Came}
 use Rattle.mic1_passes.proofs.run.follow.Given as goal
 

@@ -1,10 +1,5 @@
-use Rattle.std.proofs.Common.{ℕ, ap, ◌∙◌, arith}
+use Rattle.mic2_datapath.proofs.Common.{ℕ, ap, ◌∙◌, arith, statement_of, Fields, controls_of, gates, Controls, flagged, value_of}
 use Rattle.mic_words.specs.declared.machine.Machine.TheVariants as machines
-use Rattle.micro_word.specs.Prelude.{statement_of}
-use Rattle.micro_word.specs.declared.layout.Fields.{Fields}
-use Rattle.mic1_alu.specs.Prelude.{controls_of, gates}
-use Rattle.mic1_alu.specs.declared.controls.Controls.{Controls}
-use Rattle.mic2_datapath.specs.Prelude.{flagged, value_of}
 use Rattle.mic2_datapath.proofs.control.computed_of.Goals as goal
 
 pub returns : goal.returns

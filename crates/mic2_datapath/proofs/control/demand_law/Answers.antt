@@ -1,7 +1,5 @@
-use Rattle.std.proofs.Common.{ap, ◌∙◌}
+use Rattle.mic2_datapath.proofs.Common.{ap, ◌∙◌, statement_of, Fields}
 use Rattle.mic_words.specs.declared.machine.Machine.TheVariants as machines
-use Rattle.micro_word.specs.Prelude.{statement_of}
-use Rattle.micro_word.specs.declared.layout.Fields.{Fields}
 use Rattle.mic2_datapath.proofs.Demands.{takes_are}
 use Rattle.mic2_datapath.proofs.control.demand_law.Goals as goal
 

@@ -1,8 +1,5 @@
-use Rattle.std.proofs.Common.{ℕ, ◌/◌, ◌%◌, ◌==◌, sym, ap, ◌∙◌}
+use Rattle.mic2_datapath.proofs.Common.{ℕ, ◌/◌, ◌%◌, ◌==◌, sym, ap, ◌∙◌, may_be_b, statement_of, Fields, enabled}
 use Rattle.mic_words.specs.declared.machine.Machine.TheVariants as machines
-use Rattle.micro_word.specs.Prelude.{may_be_b, statement_of}
-use Rattle.micro_word.specs.declared.layout.Fields.{Fields}
-use Rattle.mic1_alu.specs.Prelude.{enabled}
 use Rattle.mic2_datapath.proofs.control.operate_for.Goals as goal
 
 pub operate-requires-clause-b : goal.operate-requires-clause-b

@@ -1,6 +1,4 @@
-use Rattle.std.proofs.Common.{◌%◌, ◌==◌, ap}
-use Rattle.micro_word.specs.Prelude.{statement_of}
-use Rattle.micro_word.specs.declared.layout.Fields.{Fields}
+use Rattle.mic2_datapath.proofs.Common.{◌%◌, ◌==◌, ap, statement_of, Fields}
 use Rattle.mic2_datapath.proofs.Demands.{reads_or_writes}
 use Rattle.mic2_datapath.proofs.control.reads.Goals as goal
 

@@ -1,7 +1,5 @@
-use Rattle.std.proofs.Common.{None, length, refl, subst, sym}
-use Rattle.micro_word.specs.declared.statement.Mem.{Mem}
+use Rattle.mic3_datapath.proofs.Common.{None, length, refl, subst, sym, Mem, IsTransfer, LeadsInside}
 use Rattle.micro_word.specs.declared.statement.Mem.TheVariants as mems
-use Rattle.mic_datapath.specs.Prelude.{IsTransfer, LeadsInside}
 use Rattle.mic3_datapath.proofs.Transfers.{led_alone}
 use Rattle.mic3_datapath.proofs.accesses.access_inside.Goals as goal
 

@@ -1,6 +1,5 @@
-use Rattle.std.proofs.Common.{ℕ, ap, ◌∙◌}
+use Rattle.mic3_datapath.proofs.Common.{ℕ, ap, ◌∙◌, statement_of, names}
 use Rattle.mic_words.specs.declared.machine.Machine.TheVariants as machines
-use Rattle.micro_word.specs.Prelude.{statement_of, names}
 use Rattle.mic3_datapath.proofs.Bits.{side_named}
 use Rattle.mic3_datapath.proofs.hazards.is_on_a.Goals as goal
 

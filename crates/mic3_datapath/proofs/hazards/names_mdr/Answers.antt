@@ -1,6 +1,5 @@
-use Rattle.std.proofs.Common.{◌||◌, ◌∙◌}
+use Rattle.mic3_datapath.proofs.Common.{◌||◌, ◌∙◌, statement_of}
 use Rattle.mic_words.specs.declared.machine.Machine.TheVariants as machines
-use Rattle.micro_word.specs.Prelude.{statement_of}
 use Rattle.mic3_datapath.proofs.Bits.{only_mdr}
 use Rattle.mic3_datapath.proofs.hazards.names_mdr.Goals as goal
 

@@ -1,7 +1,5 @@
-use Rattle.std.proofs.Common.{sym, ◌∙◌}
+use Rattle.mic3_datapath.proofs.Common.{sym, ◌∙◌, statement_of, byte_at, operand_bytes}
 use Rattle.mic_words.specs.declared.machine.Machine.TheVariants as machines
-use Rattle.micro_word.specs.Prelude.{statement_of}
-use Rattle.mic2_datapath.specs.Prelude.{byte_at, operand_bytes}
 use Rattle.mic3_datapath.proofs.Bits.{dispatch_takes, dispatched_last, last_there, not_dispatched}
 use Rattle.mic3_datapath.proofs.pipeline.dispatched.Goals as goal
 

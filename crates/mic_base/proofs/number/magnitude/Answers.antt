@@ -1,7 +1,4 @@
-use Rattle.std.proofs.Common.{take, arith, slice_index}
-use Rattle.std.specs.Char.{digit_value}
-use Rattle.std.proofs.lemmas.List.{take_more}
-use Rattle.mic_base.specs.Prelude.{value_of}
+use Rattle.mic_base.proofs.Common.{take, arith, slice_index, digit_value, take_more, value_of}
 use Rattle.mic_base.proofs.DigitLemmas.{value_of-push, min-capped}
 use Rattle.mic_base.proofs.number.magnitude.Goals as goal
 

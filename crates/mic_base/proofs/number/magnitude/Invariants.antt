@@ -1,5 +1,4 @@
-use Rattle.std.proofs.Common.{◌≡◌, min, take}
-use Rattle.mic_base.specs.Prelude.{value_of}
+use Rattle.mic_base.proofs.Common.{◌≡◌, min, take, value_of}
 use Rattle.mic_base.proofs.number.magnitude.Given as goal
 
 abbrev pub invariant-loop-byte : goal.invariant-loop-byte

@@ -1,5 +1,4 @@
-use Rattle.std.proofs.Common.{sym}
-use Rattle.std.specs.Char.{is_digit}
+use Rattle.mic_base.proofs.Common.{sym, is_digit}
 use Rattle.mic_base.proofs.DigitLemmas.{list_all-position}
 use Rattle.mic_base.proofs.number.read_digits.Goals as goal
 

@@ -1,6 +1,5 @@
-use Rattle.std.proofs.Common.{ℕ, ap, ◌∙◌}
+use Rattle.mic_clock.proofs.Common.{ℕ, ap, ◌∙◌, Drive}
 use Rattle.mic_clock.specs.Prelude.{buses_in}
-use Rattle.mic_clock.specs.declared.buses.Drive.{Drive}
 use Rattle.mic_clock.proofs.Whole.{at_edge, decoded_there, drove_there, over_failed, over_told, word_there}
 use Rattle.mic_clock.proofs.cycle.clock.Goals as goal
 

@@ -1,6 +1,5 @@
-use Rattle.std.proofs.Common.{ℕ, ap, subst, ◌∙◌}
+use Rattle.mic_clock.proofs.Common.{ℕ, ap, subst, ◌∙◌, Drive}
 use Rattle.mic_clock.specs.Prelude.{IsEdgeInside, buses_in}
-use Rattle.mic_clock.specs.declared.buses.Drive.{Drive}
 use Rattle.mic_clock.proofs.Whole.{at_edge, decoded_there, drove_there, word_there}
 use Rattle.mic_clock.proofs.cycle.clock_inside.Goals as goal
 

@@ -1,5 +1,4 @@
-use Rattle.std.proofs.Common.{ℕ, subst, sym}
-use Rattle.micro_word.specs.Prelude.{AreLines, fields_of}
+use Rattle.mic_clock.proofs.Common.{ℕ, subst, sym, AreLines, fields_of}
 use Rattle.mic_clock.proofs.cycle.decoded_at.Goals as goal
 
 pub returns-clause-decoded : goal.returns-clause-decoded

@@ -1,5 +1,4 @@
-use Rattle.std.proofs.Common.{inl, refl, subst, sym}
-use Rattle.console_port.specs.Prelude.{BusView}
+use Rattle.mic_clock.proofs.Common.{inl, refl, subst, sym, BusView}
 use Rattle.mic_clock.specs.Prelude.{IsAtEdge, IsEdgeOver}
 use Rattle.mic_clock.proofs.cycle.edge.Goals as goal
 

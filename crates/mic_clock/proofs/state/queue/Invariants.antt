@@ -1,6 +1,4 @@
-use Rattle.std.proofs.Common.{◌≡◌, ◌+◌, ◌*◌, ◌++◌, length, take}
-use Rattle.std.specs.List.{flat_map}
-use Rattle.mic_base.specs.Prelude.{hex_text}
+use Rattle.mic_clock.proofs.Common.{◌≡◌, ◌+◌, ◌*◌, ◌++◌, length, take, flat_map, hex_text}
 use Rattle.mic_clock.proofs.state.queue.Given as goal
 
 -- the digits of the bytes so far

@@ -1,6 +1,4 @@
-use Rattle.std.proofs.Common.{◌≡◌, Bool, None, Some, Option, sym, ap, ◌∙◌, subst, rules}
-use Rattle.console_port.specs.Prelude.{World, Shows}
-use Rattle.mic_clock.specs.declared.end.End.{End}
+use Rattle.mic_clock.proofs.Common.{◌≡◌, Bool, None, Some, Option, sym, ap, ◌∙◌, subst, rules, World, Shows, End}
 use Rattle.mic_clock.specs.Prelude.{refusal_in, end_before, counts_after, word_at, EndsBefore, NoFault, tick_of, board_of, counts_of}
 use Rattle.mic_clock.proofs.Rules.{ends_as_ruled, ended_as_ruled, counted_as_ruled, tick_counted}
 use Rattle.mic_clock.proofs.Turns.{led-refused, led-done, no_fault}

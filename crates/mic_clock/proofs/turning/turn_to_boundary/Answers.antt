@@ -1,8 +1,6 @@
-use Rattle.std.proofs.Common.{◌≡◌, ◌≤◌, ◌+◌, ℕ, suc, Option, None, false, inl, refl, sym, ◌∙◌, ap, subst, rules, arith}
+use Rattle.mic_clock.proofs.Common.{◌≡◌, ◌≤◌, ◌+◌, ℕ, suc, Option, None, false, inl, refl, sym, ◌∙◌, ap, subst, rules, arith, ControlStore, Running}
 use Rattle.console_port.specs.declared.fault.BusFault.TheVariants as faults
-use Rattle.micro_word.specs.Prelude.{ControlStore}
 use Rattle.mic_clock.specs.Prelude.{MicroRun, IsLeg, word_at, last_cycles, BoardView, NoFault, IsTurned, IsCutByFault, GoesOn, InTime, board_of, ChangesByTurn, IsLedTo-map, goes-then}
-use Rattle.mic_clock.specs.declared.running.Running.{Running}
 use Rattle.mic_clock.proofs.InTime.{InTime-step, InLeg-step}
 use Rattle.mic_clock.proofs.Legs.{leg-start, leg-inside}
 use Rattle.mic_clock.proofs.Reach.{Leads-turn, Leads-read, Leads-write}

@@ -1,5 +1,4 @@
-use Rattle.std.proofs.Common.{◌≡◌, ◌<◌, None, refl, sym, ◌∙◌, subst, rules, arith}
-use Rattle.mic_clock.specs.declared.running.Running.{Running}
+use Rattle.mic_clock.proofs.Common.{◌≡◌, ◌<◌, None, refl, sym, ◌∙◌, subst, rules, arith, Running}
 use Rattle.mic_clock.specs.Prelude.{BoardView, IsRunInside, AreParts, board_of}
 use Rattle.mic_clock.proofs.Inside.{IsRunInside-start, IsRunInside-step, fewer_left, turned_later}
 use Rattle.mic_clock.proofs.turning.turns_inside.Goals as goal

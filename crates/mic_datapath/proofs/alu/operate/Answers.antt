@@ -1,5 +1,4 @@
-use Rattle.std.proofs.Common.{ℕ, sym, ap, ◌∙◌, arith}
-use Rattle.mic1_alu.specs.Prelude.{gates, controls_of}
+use Rattle.mic_datapath.proofs.Common.{ℕ, sym, ap, ◌∙◌, arith, gates, controls_of}
 use Rattle.mic_datapath.proofs.alu.operate.Goals as goal
 
 pub returns : goal.returns

@@ -1,5 +1,4 @@
-use Rattle.std.proofs.Common.{◌≡◌, ℕ, ◌<◌, ◌≤◌, if◌then◌else◌, slice_index}
-use Rattle.micro_word.specs.Prelude.{names}
+use Rattle.mic_datapath.proofs.Common.{◌≡◌, ℕ, ◌<◌, ◌≤◌, if◌then◌else◌, slice_index, names}
 use Rattle.mic_datapath.proofs.c_bus.load_further.Given as goal
 
 abbrev pub invariant-places : goal.invariant-places

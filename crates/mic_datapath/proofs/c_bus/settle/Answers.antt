@@ -1,5 +1,4 @@
-use Rattle.std.proofs.Common.{ℕ, ap, ◌∙◌, arith}
-use Rattle.mic_datapath.specs.Prelude.{arrived}
+use Rattle.mic_datapath.proofs.Common.{ℕ, ap, ◌∙◌, arith, arrived}
 use Rattle.mic_datapath.proofs.c_bus.settle.Goals as goal
 
 pub returns-clause-registers : goal.returns-clause-registers

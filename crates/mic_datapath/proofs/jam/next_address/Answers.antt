@@ -1,6 +1,4 @@
-use Rattle.std.proofs.Common.{◌==◌, ◌∙◌}
-use Rattle.mic_words.specs.Prelude.{is_negative}
-use Rattle.mic_datapath.specs.Prelude.{jammed}
+use Rattle.mic_datapath.proofs.Common.{◌==◌, ◌∙◌, is_negative, jammed}
 use Rattle.mic_datapath.proofs.Jams.{by_address}
 use Rattle.mic_datapath.proofs.jam.next_address.Goals as goal
 

@@ -1,5 +1,4 @@
-use Rattle.std.proofs.Common.{Bool, length, refl, subst, sym}
-use Rattle.console_port.specs.Prelude.{Untaken, after_write}
+use Rattle.mic_datapath.proofs.Common.{Bool, length, refl, subst, sym, Untaken, after_write}
 use Rattle.mic_datapath.proofs.memory.write_alone.Goals as goal
 
 pub returns-clause-access : goal.returns-clause-access

@@ -1,5 +1,4 @@
-use Rattle.std.proofs.Common.{rules}
-use Rattle.arrayvec.proofs.ArrayVecLemmas.{filter-from_retain}
+use Rattle.mic_debugger.proofs.Common.{rules, filter-from_retain}
 use Rattle.mic_debugger.proofs.breakpoints.remove.Goals as goal
 
 pub returns : goal.returns

@@ -1,5 +1,4 @@
-use Rattle.std.proofs.Common.{◌≡◌}
-use Rattle.mic_base.specs.Prelude.{HasCause, KeepsFront, Puts}
+use Rattle.mic_debugger.proofs.Common.{◌≡◌, HasCause, KeepsFront, Puts}
 use Rattle.mic_debugger.specs.Prelude.{word_lines}
 use Rattle.mic_debugger.proofs.pieces.put_words.Given as goal
 

@@ -1,10 +1,7 @@
-use Rattle.std.proofs.Common.{◌≡◌, ◌∙◌, [], Option, None, Some, ap, refl, sym, subst, rules}
-use Rattle.std.proofs.lemmas.Result.{err_from_is_err_and}
+use Rattle.mic_watched.proofs.Common.{◌≡◌, ◌∙◌, [], Option, None, Some, ap, refl, sym, subst, rules, err_from_is_err_and, End, ShowsCycles}
 use Rattle.console_port.specs.declared.fault.BusFault.TheVariants as faults
-use Rattle.mic_clock.specs.declared.end.End.{End}
 use Rattle.mic_clock.specs.declared.end.End.TheVariants as ends
 use Rattle.mic_clock.specs.Prelude.{BoardView, GoesOn, NoFault, cause-flushed, cause-lost, goes-flushed, no_fault}
-use Rattle.mic_watched.specs.Prelude.{ShowsCycles}
 use Rattle.mic_watched.proofs.Shown.{flush-done, flush-lost}
 use Rattle.mic_watched.proofs.run.run_watched.Goals as goal
 

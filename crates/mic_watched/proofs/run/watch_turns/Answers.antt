@@ -1,9 +1,6 @@
-use Rattle.std.proofs.Common.{◌≡◌, ◌++◌, ℕ, max, List, [], None, Ok, inl, refl, ap, rules, arith}
-use Rattle.std.proofs.lemmas.Result.{err_from_is_err_and}
+use Rattle.mic_watched.proofs.Common.{◌≡◌, ◌++◌, ℕ, max, List, [], None, Ok, inl, refl, ap, rules, arith, err_from_is_err_and, Cycle, shown_on, ShowsCycles}
 use Rattle.micro_word.specs.Prelude.{ControlStore}
 use Rattle.mic_clock.specs.Prelude.{goes-nowhere, goes-then, last_cycles}
-use Rattle.mic_watched.specs.declared.cycle.Cycle.{Cycle}
-use Rattle.mic_watched.specs.Prelude.{shown_on, ShowsCycles}
 use Rattle.mic_watched.proofs.Shown.{over-start, one-turn, shows-then}
 use Rattle.mic_watched.proofs.Saying.{saw-nothing, saw-then, cause-then}
 use Rattle.mic_watched.proofs.run.watch_turns.Given.{Over}

@@ -1,8 +1,5 @@
-use Rattle.std.proofs.Common.{◌+◌, ◌-◌, max, is_some, if◌then◌else◌, Ok}
-use Rattle.mic_base.specs.Prelude.{HasCause}
-use Rattle.mic_base.specs.declared.sink.SinkFailed.{SinkFailed}
+use Rattle.mic_watched.proofs.Common.{◌+◌, ◌-◌, max, is_some, if◌then◌else◌, Ok, HasCause, SinkFailed, IsWatched}
 use Rattle.mic_clock.specs.Prelude.{last_cycles, GoesOn, InTime}
-use Rattle.mic_watched.specs.Prelude.{IsWatched}
 use Rattle.mic_watched.proofs.run.watch_turns.Given as goal
 
 -- the cycles so far were seen, and the cycles stay within 1,024 of the last boundary

@@ -1,8 +1,4 @@
-use Rattle.std.proofs.Common.{ℕ, ◌+◌, ◌∙◌, ap, sym}
-use Rattle.mic_words.specs.Arithmetic.{wrap}
-use Rattle.micro_terms.specs.Value.{value}
-use Rattle.micro_word.specs.Operation.{alu}
-use Rattle.micro_word.specs.declared.statement.AluOp.{AluOp}
+use Rattle.micro_terms.proofs.Common.{ℕ, ◌+◌, ◌∙◌, ap, sym, wrap, value, alu, AluOp}
 use Rattle.micro_terms.proofs.Modular.{sum_inc}
 use Rattle.micro_terms.proofs.alu.linear.Goals as goal
 

@@ -1,6 +1,4 @@
-use Rattle.std.proofs.Common.{◌∙◌, sym, ap, refl}
-use Rattle.std.specs.Prelude.{bit_and}
-use Rattle.micro_terms.specs.Value.{value}
+use Rattle.micro_terms.proofs.Common.{◌∙◌, sym, ap, refl, bit_and, value}
 use Rattle.micro_terms.proofs.Bits.{and_inverted}
 use Rattle.micro_terms.proofs.Weights.{value_lt}
 use Rattle.micro_terms.proofs.conjunction.and_inverse.Goals as goal

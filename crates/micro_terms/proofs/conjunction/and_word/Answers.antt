@@ -1,6 +1,4 @@
-use Rattle.std.proofs.Common.{◌∙◌, sym, ap}
-use Rattle.std.specs.Prelude.{bit_and}
-use Rattle.micro_terms.specs.Value.{value}
+use Rattle.micro_terms.proofs.Common.{◌∙◌, sym, ap, bit_and, value}
 use Rattle.micro_terms.proofs.Bits.{and_all}
 use Rattle.micro_terms.proofs.Weights.{value_lt}
 use Rattle.micro_terms.proofs.conjunction.and_word.Goals as goal

@@ -1,7 +1,4 @@
-use Rattle.std.proofs.Common.{◌≡◌, ◌<◌, ℕ, Some}
-use Rattle.std.specs.Prelude.{slice_get}
-use Rattle.micro_terms.specs.declared.node.Node.{Node}
-use Rattle.micro_terms.specs.Ordered.{NamesBelow}
+use Rattle.micro_terms.proofs.Common.{◌≡◌, ◌<◌, ℕ, Some, slice_get, Node, NamesBelow}
 use Rattle.micro_terms.proofs.order.is_ordered.Given as goal
 
 abbrev pub invariant-loop-i : goal.invariant-loop-i

@@ -1,5 +1,4 @@
-use Rattle.std.proofs.Common.{◌≡◌, ◌+◌, true, false, arith}
-use Rattle.micro_terms.specs.Ranges.{limit_of, side}
+use Rattle.micro_terms.proofs.Common.{◌≡◌, ◌+◌, true, false, arith, limit_of, side}
 use Rattle.micro_terms.proofs.Readings.{within}
 use Rattle.micro_terms.proofs.range.bounds_with.Goals as goal
 

@@ -1,7 +1,6 @@
-use Rattle.std.proofs.Common.{◌≡◌, ◌<◌, ◌∙◌, ℕ, IsTrue, nat_lt, arith}
+use Rattle.micro_terms.proofs.Common.{◌≡◌, ◌<◌, ◌∙◌, ℕ, IsTrue, nat_lt, arith, value}
 use Rattle.micro_terms.proofs.Modular.{no_difference}
 use Rattle.micro_terms.proofs.Weights.{value_lt}
-use Rattle.micro_terms.specs.Value.{value}
 use Rattle.micro_terms.proofs.range.differ.Goals as goal
 
 is_below : (a b : ℕ) → IsTrue (nat_lt a b) → a < b

@@ -1,7 +1,4 @@
-use Rattle.std.proofs.Common.{ℕ, ◌+◌, ◌∙◌, ap, List, take_all}
-use Rattle.std.specs.List.{sum_by}
-use Rattle.micro_terms.specs.Ranges.{share, limit_of, side}
-use Rattle.micro_terms.specs.declared.part.Part.{Part}
+use Rattle.micro_terms.proofs.Common.{ℕ, ◌+◌, ◌∙◌, ap, List, take_all, sum_by, share, limit_of, side, Part}
 use Rattle.micro_terms.proofs.Readings.{share_weight}
 use Rattle.micro_terms.proofs.range.side_of.Goals as goal
 

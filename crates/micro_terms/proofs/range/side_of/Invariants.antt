@@ -1,6 +1,4 @@
-use Rattle.std.proofs.Common.{◌≡◌, ◌+◌, ◌*◌, ◌≤◌, ◌^◌, take}
-use Rattle.std.specs.List.{sum_by}
-use Rattle.micro_terms.specs.Ranges.{share, limit_of}
+use Rattle.micro_terms.proofs.Common.{◌≡◌, ◌+◌, ◌*◌, ◌≤◌, ◌^◌, take, sum_by, share, limit_of}
 use Rattle.micro_terms.proofs.Readings.{share_weight}
 use Rattle.micro_terms.proofs.range.side_of.Given as goal
 

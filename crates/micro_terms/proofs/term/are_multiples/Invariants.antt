@@ -1,5 +1,4 @@
-use Rattle.std.proofs.Common.{◌≡◌, ◌%◌, ℕ, take}
-use Rattle.micro_terms.specs.Value.{weight}
+use Rattle.micro_terms.proofs.Common.{◌≡◌, ◌%◌, ℕ, take, weight}
 use Rattle.micro_terms.proofs.term.are_multiples.Given as goal
 
 abbrev pub invariant-loop-part : goal.invariant-loop-part

@@ -1,8 +1,4 @@
-use Rattle.std.proofs.Common.{◌≡◌, ℕ, ◌+◌, ◌*◌, ◌<◌, List, [], ◌∷◌, length, ◌∙◌, arith}
-use Rattle.std.specs.Prelude.{slice_index_or}
-use Rattle.mic_words.specs.Arithmetic.{wrap}
-use Rattle.micro_terms.specs.Value.{weight}
-use Rattle.micro_terms.specs.declared.part.Part.{Part}
+use Rattle.micro_terms.proofs.Common.{◌≡◌, ℕ, ◌+◌, ◌*◌, ◌<◌, List, [], ◌∷◌, length, ◌∙◌, arith, slice_index_or, wrap, weight, Part}
 use Rattle.micro_terms.proofs.Modular.{wrap_once}
 use Rattle.micro_terms.proofs.term.single_of.Goals as goal
 

@@ -1,6 +1,4 @@
-use Rattle.std.proofs.Common.{◌≡◌, IsTrue, Option, IfSome, sym, subst, ◌∙◌}
-use Rattle.mic_words.specs.declared.machine.Machine.TheVariants.{Mic1}
-use Rattle.micro_word.specs.declared.statement.Placed.{Placed}
+use Rattle.micro_word.proofs.Common.{◌≡◌, IsTrue, Option, IfSome, sym, subst, ◌∙◌, Mic1, Placed}
 use Rattle.micro_word.specs.Prelude.{microword_of, is_valid}
 use Rattle.micro_word.proofs.Coding.{known, back, none}
 use Rattle.micro_word.proofs.word.decode1.Goals as goal

@@ -1,5 +1,4 @@
-use Rattle.std.proofs.Common.{ℕ, IsTrue, subst, sym}
-use Rattle.mic_words.specs.declared.machine.Machine.TheVariants.{Mic2}
+use Rattle.micro_word.proofs.Common.{ℕ, IsTrue, subst, sym, Mic2}
 use Rattle.micro_word.specs.Prelude.{is_canonical}
 use Rattle.micro_word.proofs.Coding.{canonical-word}
 use Rattle.micro_word.proofs.word.encode2.Goals as goal

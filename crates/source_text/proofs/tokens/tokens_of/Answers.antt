@@ -1,5 +1,4 @@
-use Rattle.std.proofs.Common.{◌≡◌, ◌∙◌, sym, Some, None, true, false}
-use Rattle.source_text.specs.Prelude.{is_blank, token_of, lex}
+use Rattle.source_text.proofs.Common.{◌≡◌, ◌∙◌, sym, Some, None, true, false, is_blank, token_of, lex}
 use Rattle.source_text.proofs.Lexing.{goes_blank, is_done, is_read, spelled, steps_on}
 use Rattle.source_text.proofs.tokens.tokens_of.Goals as goal
 

@@ -1,5 +1,4 @@
-use Rattle.std.proofs.Common.{◌≡◌, length}
-use Rattle.source_text.specs.Prelude.{lex}
+use Rattle.source_text.proofs.Common.{◌≡◌, length, lex}
 use Rattle.source_text.proofs.Lexing.{onto}
 use Rattle.source_text.proofs.tokens.tokens_of.Given as goal
 

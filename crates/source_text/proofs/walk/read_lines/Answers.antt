@@ -1,8 +1,5 @@
-use Rattle.std.proofs.Common.{◌≡◌, ◌∷◌, List, ℕ, [], true, refl, ap, ◌∙◌, sym, subst, arith, rules, length, map}
-use Rattle.std.specs.Prelude.{◌==◌}
-use Rattle.std.specs.Str.Lines.{lines}
-use Rattle.std.proofs.lemmas.Bool.Decides.{nat_tests}
-use Rattle.source_text.specs.Prelude.{contents, without_comment, StopsAt, StopsBy}
+use Rattle.source_text.proofs.Common.{◌≡◌, ◌∷◌, List, ℕ, [], true, refl, ap, ◌∙◌, sym, subst, arith, rules, length, map, ◌==◌, lines, nat_tests, contents}
+use Rattle.source_text.proofs.Common.{without_comment, StopsAt, StopsBy}
 use Rattle.source_text.proofs.Walking.{before_all, before_more, before_none, before_stop}
 use Rattle.source_text.proofs.walk.read_lines.Goals as goal
 

@@ -1,5 +1,4 @@
-use Rattle.std.proofs.Common.{◌+◌, ◌≤◌, length}
-use Rattle.source_text.specs.Prelude.{contents}
+use Rattle.source_text.proofs.Common.{◌+◌, ◌≤◌, length, contents}
 use Rattle.source_text.proofs.Walking.{AreBefore}
 use Rattle.source_text.proofs.walk.read_lines.Given as goal
 

@@ -1,8 +1,5 @@
-use Rattle.std.proofs.Common.{◌≡◌, ℕ, Option, Err, List, slice_index, subst, ap, ◌∙◌}
-use Rattle.std.proofs.lemmas.Result.{err_from_is_err_and}
-use Rattle.store_placement.specs.declared.pair.Pair.{Pair}
-use Rattle.store_placement.specs.declared.refusal.PlaceError.{PlaceError}
-use Rattle.store_placement.specs.Prelude.{IsChosenList, AreWithin, Demands, demands, Refuses}
+use Rattle.store_placement.proofs.Common.{◌≡◌, ℕ, Option, Err, List, slice_index, subst, ap, ◌∙◌, err_from_is_err_and, Pair, PlaceError, IsChosenList}
+use Rattle.store_placement.proofs.Common.{AreWithin, Demands, demands, Refuses}
 use Rattle.store_placement.proofs.NoPlacement.{refused}
 use Rattle.store_placement.proofs.OneRefusal.{one_refusal}
 use Rattle.store_placement.proofs.chosen.place.Goals as goal

@@ -1,5 +1,4 @@
-use Rattle.std.proofs.Common.{ℕ, ◌<◌, length}
-use Rattle.store_placement.specs.Prelude.{NeverWith, collide}
+use Rattle.store_placement.proofs.Common.{ℕ, ◌<◌, length, NeverWith, collide}
 use Rattle.store_placement.proofs.collision.first_collision.Given as goal
 
 abbrev pub invariant-loop-s : goal.invariant-loop-s

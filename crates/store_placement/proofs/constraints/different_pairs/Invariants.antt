@@ -1,6 +1,4 @@
-use Rattle.std.proofs.Common.{◌≡◌, ◌+◌, ◌≤◌, drop}
-use Rattle.std.specs.Set.{distinct_count}
-use Rattle.store_placement.specs.Prelude.{same_pair}
+use Rattle.store_placement.proofs.Common.{◌≡◌, ◌+◌, ◌≤◌, drop, distinct_count, same_pair}
 use Rattle.store_placement.proofs.constraints.different_pairs.Given as goal
 
 abbrev pub invariant-loop-k : goal.invariant-loop-k

@@ -1,5 +1,4 @@
-use Rattle.std.proofs.Common.{length, ap, arith}
-use Rattle.store_placement.specs.Prelude.{statement_pair}
+use Rattle.store_placement.proofs.Common.{length, ap, arith, statement_pair}
 use Rattle.store_placement.proofs.ProgramLemmas.{targets_inside, filter_map_next}
 use Rattle.store_placement.proofs.demands.add_pairs.Goals as goal
 

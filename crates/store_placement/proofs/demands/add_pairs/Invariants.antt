@@ -1,6 +1,4 @@
-use Rattle.std.proofs.Common.{◌≡◌, ◌≤◌, length, take}
-use Rattle.std.specs.List.{filter_map}
-use Rattle.store_placement.specs.Prelude.{statement_pair}
+use Rattle.store_placement.proofs.Common.{◌≡◌, ◌≤◌, length, take, filter_map, statement_pair}
 use Rattle.store_placement.proofs.demands.add_pairs.Given as goal
 
 abbrev pub invariant-loop-s : goal.invariant-loop-s

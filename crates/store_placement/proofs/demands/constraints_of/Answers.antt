@@ -1,5 +1,4 @@
-use Rattle.std.proofs.Common.{◌≡◌, Some, length, ap, ◌∙◌, arith}
-use Rattle.std.proofs.lemmas.List.{length-map}
+use Rattle.store_placement.proofs.Common.{◌≡◌, Some, length, ap, ◌∙◌, arith, length-map}
 use Rattle.store_placement.proofs.ProgramLemmas.{fallback_inside}
 use Rattle.store_placement.proofs.demands.constraints_of.Goals as goal
 

@@ -1,9 +1,5 @@
-use Rattle.std.proofs.Common.{◌≡◌, ◌∙◌, ◌+◌, ℕ, List, length, set, ap, subst, sym, refl, slice_index, arith}
-use Rattle.std.specs.Prelude.{IsTrue}
-use Rattle.mic_words.specs.declared.machine.Machine.{Machine}
-use Rattle.micro_word.specs.declared.statement.Placed.{Placed}
-use Rattle.micro_word.specs.Prelude.{microword_of, is_valid}
-use Rattle.store_placement.specs.Prelude.{placed_statement}
+use Rattle.store_placement.proofs.Common.{◌≡◌, ◌∙◌, ◌+◌, ℕ, List, length, set, ap, subst, sym, refl, slice_index, arith, IsTrue, Machine, Placed, microword_of}
+use Rattle.store_placement.proofs.Common.{is_valid, placed_statement}
 use Rattle.store_placement.proofs.FillingLemmas.{IsFilledUpTo, placed_count, filled_none, filled_more, filled_all, element_at}
 use Rattle.store_placement.proofs.filling.fill.Goals as goal
 

@@ -1,7 +1,4 @@
-use Rattle.std.proofs.Common.{subst, sym}
-use Rattle.std.specs.Prelude.{IsTrue}
-use Rattle.micro_word.specs.declared.statement.PlacedNext.{PlacedNext}
-use Rattle.micro_word.specs.Prelude.{is_valid}
+use Rattle.store_placement.proofs.Common.{subst, sym, IsTrue, PlacedNext, is_valid}
 use Rattle.store_placement.proofs.FillingLemmas.{statement_leads, statement_valid}
 use Rattle.store_placement.proofs.filling.placed_statement.Goals as goal
 

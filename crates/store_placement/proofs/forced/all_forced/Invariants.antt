@@ -1,5 +1,4 @@
-use Rattle.std.proofs.Common.{◌≡◌, map}
-use Rattle.store_placement.specs.Prelude.{below, forced}
+use Rattle.store_placement.proofs.Common.{◌≡◌, map, below, forced}
 use Rattle.store_placement.proofs.forced.all_forced.Given as goal
 
 abbrev pub invariant-loop-s : goal.invariant-loop-s

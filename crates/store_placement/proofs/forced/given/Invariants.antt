@@ -1,5 +1,4 @@
-use Rattle.std.proofs.Common.{◌≡◌, drop}
-use Rattle.store_placement.specs.Prelude.{given}
+use Rattle.store_placement.proofs.Common.{◌≡◌, drop, given}
 use Rattle.store_placement.proofs.forced.given.Given as goal
 
 abbrev pub invariant-loop-pair : goal.invariant-loop-pair

@@ -1,5 +1,4 @@
-use Rattle.std.proofs.Common.{◌≡◌, ◌≤◌, filter, length}
-use Rattle.store_placement.specs.Prelude.{below, is_free}
+use Rattle.store_placement.proofs.Common.{◌≡◌, ◌≤◌, filter, length, below, is_free}
 use Rattle.store_placement.proofs.free.free_addresses.Given as goal
 
 abbrev pub invariant-loop-a : goal.invariant-loop-a

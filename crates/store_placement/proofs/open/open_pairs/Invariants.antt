@@ -1,6 +1,4 @@
-use Rattle.std.proofs.Common.{◌≡◌, ◌≤◌, length}
-use Rattle.std.specs.List.{filter_map}
-use Rattle.store_placement.specs.Prelude.{below, opened_by}
+use Rattle.store_placement.proofs.Common.{◌≡◌, ◌≤◌, length, filter_map, below, opened_by}
 use Rattle.store_placement.proofs.open.open_pairs.Given as goal
 
 abbrev pub invariant-loop-s : goal.invariant-loop-s

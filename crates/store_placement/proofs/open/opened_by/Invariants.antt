@@ -1,5 +1,4 @@
-use Rattle.std.proofs.Common.{◌≡◌, drop}
-use Rattle.store_placement.specs.Prelude.{opened_by}
+use Rattle.store_placement.proofs.Common.{◌≡◌, drop, opened_by}
 use Rattle.store_placement.proofs.open.opened_by.Given as goal
 
 abbrev pub invariant-loop-pair : goal.invariant-loop-pair

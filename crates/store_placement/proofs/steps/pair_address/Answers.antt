@@ -1,8 +1,5 @@
-use Rattle.std.proofs.Common.{◌≡◌, ◌<◌, ℕ, ◌+◌, ◌∙◌, List, length, get_or, drop, false, eqb, refl, sym, arith}
-use Rattle.std.proofs.lemmas.Bool.{ne_eqb}
-use Rattle.std.proofs.lemmas.List.{drop_more}
-use Rattle.store_placement.specs.declared.pair.Pair.{Pair}
-use Rattle.store_placement.specs.Prelude.{pair_address}
+use Rattle.store_placement.proofs.Common.{◌≡◌, ◌<◌, ℕ, ◌+◌, ◌∙◌, List, length, get_or, drop, false, eqb, refl, sym, arith, ne_eqb, drop_more, Pair}
+use Rattle.store_placement.proofs.Common.{pair_address}
 use Rattle.store_placement.proofs.steps.pair_address.Goals as goal
 
 -- a pair that s is no target of is passed

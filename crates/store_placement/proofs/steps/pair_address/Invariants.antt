@@ -1,5 +1,4 @@
-use Rattle.std.proofs.Common.{◌≡◌, drop}
-use Rattle.store_placement.specs.Prelude.{pair_address}
+use Rattle.store_placement.proofs.Common.{◌≡◌, drop, pair_address}
 use Rattle.store_placement.proofs.steps.pair_address.Given as goal
 
 abbrev pub invariant-loop-k : goal.invariant-loop-k

@@ -1,5 +1,4 @@
-use Rattle.std.proofs.Common.{◌≡◌, ◌+◌, ◌≤◌, ◌++◌, drop, length}
-use Rattle.std.specs.Prelude.{count_by, is_none}
+use Rattle.std.proofs.Common.{◌≡◌, ◌+◌, ◌≤◌, ◌++◌, drop, length, count_by, is_none}
 use Rattle.store_placement.specs.Prelude.{with_free}
 use Rattle.store_placement.proofs.steps.with_free.Given as goal
 

@@ -1,6 +1,4 @@
-use Rattle.std.proofs.Common.{◌≡◌, None, map, slice_index_or}
-use Rattle.std.specs.Option.{option_or}
-use Rattle.store_placement.specs.Prelude.{below, pair_address}
+use Rattle.store_placement.proofs.Common.{◌≡◌, None, map, slice_index_or, option_or, below, pair_address}
 use Rattle.store_placement.proofs.steps.with_pairs.Given as goal
 
 abbrev pub invariant-loop-s : goal.invariant-loop-s

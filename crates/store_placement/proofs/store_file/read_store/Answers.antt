@@ -1,5 +1,4 @@
-use Rattle.std.proofs.Common.{◌<◌, ℕ, length, slice_index, sym, ap, ◌∙◌, arith}
-use Rattle.store_placement.specs.Prelude.{machine_of, store_file}
+use Rattle.store_placement.proofs.Common.{◌<◌, ℕ, length, slice_index, sym, ap, ◌∙◌, arith, machine_of, store_file}
 use Rattle.store_placement.proofs.StoreFileLemmas.{machine_of_file, length-file, file_again, no_bad, one_store}
 use Rattle.store_placement.proofs.store_file.read_store.Goals as goal
 

@@ -1,7 +1,4 @@
-use Rattle.std.proofs.Common.{◌≡◌, false, not, refl, sym, ap, ◌∙◌}
-use Rattle.mic_words.specs.declared.machine.Machine.{Machine}
-use Rattle.micro_word.specs.Prelude.{microword_of, is_canonical}
-use Rattle.store_placement.specs.Prelude.{is_bad}
+use Rattle.store_placement.proofs.Common.{◌≡◌, false, not, refl, sym, ap, ◌∙◌, Machine, microword_of, is_canonical, is_bad}
 use Rattle.store_placement.proofs.StoreFileLemmas.{none_read, read_more}
 use Rattle.store_placement.proofs.store_file.read_words.Goals as goal
 

@@ -1,6 +1,4 @@
-use Rattle.std.proofs.Common.{◌≡◌, ◌++◌, take}
-use Rattle.std.specs.List.{flat_map}
-use Rattle.store_placement.specs.Prelude.{magic, word_bytes}
+use Rattle.store_placement.proofs.Common.{◌≡◌, ◌++◌, take, flat_map, magic, word_bytes}
 use Rattle.store_placement.proofs.store_file.store_bytes.Given as goal
 
 abbrev pub invariant-loop-address : goal.invariant-loop-address

@@ -1,5 +1,4 @@
-use Rattle.std.proofs.Common.{take}
-use Rattle.store_placement.specs.Prelude.{NeverTwo, AreTaken, share_address}
+use Rattle.store_placement.proofs.Common.{take, NeverTwo, AreTaken, share_address}
 use Rattle.store_placement.proofs.taken.are_apart.Given as goal
 
 abbrev pub invariant-loop-address : goal.invariant-loop-address

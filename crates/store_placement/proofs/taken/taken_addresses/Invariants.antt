@@ -1,5 +1,4 @@
-use Rattle.std.proofs.Common.{take}
-use Rattle.store_placement.specs.Prelude.{AreTaken}
+use Rattle.store_placement.proofs.Common.{take, AreTaken}
 use Rattle.store_placement.proofs.taken.taken_addresses.Given as goal
 
 abbrev pub invariant-loop-place : goal.invariant-loop-place

@@ -1,6 +1,4 @@
-use Rattle.std.proofs.Common.{ℕ, List, ◌∷◌, ◌++◌, length, ap, ◌∙◌, arith}
-use Rattle.tiny_pool.specs.Prelude.{numbers_in}
-use Rattle.tiny_emit.specs.Prelude.{program_of}
+use Rattle.tiny_compiler.proofs.Common.{ℕ, List, ◌∷◌, ◌++◌, length, ap, ◌∙◌, arith, numbers_in, program_of}
 use Rattle.tiny_compiler.proofs.CodeImages.{pool_is}
 use Rattle.tiny_compiler.proofs.code_image.code_image.Goals as goal
 

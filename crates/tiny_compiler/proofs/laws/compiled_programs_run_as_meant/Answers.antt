@@ -1,5 +1,4 @@
-use Rattle.std.proofs.Common.{◌≡◌, subst}
-use Rattle.ijvm_meaning.specs.Prelude.{timing_of}
+use Rattle.tiny_compiler.proofs.Common.{◌≡◌, subst, timing_of}
 use Rattle.tiny_code.specs.Prelude.{places_of, IsLaidOut, IsCodeOf}
 use Rattle.tiny_tree.specs.Prelude.{IsNamed, Program}
 use Rattle.tiny_compiler.proofs.laws.compiled_programs_run_as_meant.Goals as goal

@@ -1,12 +1,6 @@
-use Rattle.std.proofs.Common.{◌≡◌, rules, subst, sym}
-use Rattle.std.specs.Prelude.{option_map}
-use Rattle.std.proofs.lemmas.Result.{on_ok_weaker}
-use Rattle.tiny_tree.specs.declared.tree.Statement.{the_lemmas}
+use Rattle.tiny_emit.proofs.Common.{◌≡◌, rules, subst, sym, option_map, on_ok_weaker, the_lemmas, else_of, block_tree, cond_tree, statement_tree}
+use Rattle.tiny_emit.proofs.Common.{statement_code, statement_lines, else_lined, statements_lined, AddsCode, places_in}
 use Rattle.tiny_tree.specs.Tree as tree
-use Rattle.tiny_tree.specs.Prelude.{else_of, block_tree, cond_tree, statement_tree}
-use Rattle.tiny_code.specs.Prelude.{statement_code, statement_lines, else_lined, statements_lined}
-use Rattle.ijvm_text.specs.Prelude.{AddsCode}
-use Rattle.tiny_pool.specs.Prelude.{places_in}
 use Rattle.tiny_emit.proofs.Lists.{statement_added, statements_done}
 use Rattle.tiny_emit.proofs.block.+block.Goals as goal
 

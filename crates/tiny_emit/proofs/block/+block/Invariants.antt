@@ -1,6 +1,4 @@
-use Rattle.std.proofs.Common.{drop}
-use Rattle.ijvm_text.specs.declared.text.Text.{Text}
-use Rattle.tiny_emit.specs.Prelude.{AddsStatements}
+use Rattle.tiny_emit.proofs.Common.{drop, Text, AddsStatements}
 use Rattle.tiny_emit.proofs.block.+block.Given as goal
 
 -- what ends with the statements that are left ends with all of them

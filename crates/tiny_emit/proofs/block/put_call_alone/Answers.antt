@@ -1,7 +1,4 @@
-use Rattle.std.proofs.Common.{[], ◌∷◌}
-use Rattle.std.proofs.lemmas.Result.{on_ok_weaker}
-use Rattle.ijvm_instr.specs.declared.instr.Instr.TheVariants.{Pop}
-use Rattle.tiny_emit.specs.Prelude.{code_of_call}
+use Rattle.tiny_emit.proofs.Common.{[], ◌∷◌, on_ok_weaker, Pop, code_of_call}
 use Rattle.tiny_emit.proofs.Bytes.{then_bytes}
 use Rattle.tiny_emit.proofs.block.put_call_alone.Goals as goal
 

@@ -1,8 +1,4 @@
-use Rattle.std.proofs.lemmas.Result.{on_ok_weaker}
-use Rattle.tiny_code.specs.Prelude.{test_code, test_lined}
-use Rattle.tiny_pool.specs.Prelude.{places_in}
-use Rattle.tiny_tree.specs.Prelude.{cond_tree}
-use Rattle.tiny_emit.specs.Prelude.{jump_of}
+use Rattle.tiny_emit.proofs.Common.{on_ok_weaker, test_code, test_lined, places_in, cond_tree, jump_of}
 use Rattle.tiny_emit.proofs.Sides.{choice_added}
 use Rattle.tiny_emit.proofs.choice.add_choice.Goals as goal
 

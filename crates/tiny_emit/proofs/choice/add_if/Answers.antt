@@ -1,9 +1,4 @@
-use Rattle.std.proofs.Common.{ap, List, ℕ}
-use Rattle.std.proofs.lemmas.Result.{on_ok_weaker}
-use Rattle.ijvm_instr.specs.declared.instr.Instr.{Instr}
-use Rattle.tiny_pool.specs.Prelude.{places_in}
-use Rattle.tiny_tree.specs.Prelude.{cond_tree}
-use Rattle.ijvm_text.specs.Prelude.{AddsCode}
+use Rattle.tiny_emit.proofs.Common.{ap, List, ℕ, on_ok_weaker, Instr, places_in, cond_tree, AddsCode}
 use Rattle.tiny_emit.proofs.Sides.{if_different, if_equal, if_less}
 use Rattle.tiny_emit.proofs.choice.add_if.Goals as goal
 

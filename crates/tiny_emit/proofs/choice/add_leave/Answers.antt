@@ -1,6 +1,4 @@
-use Rattle.std.proofs.Common.{ap}
-use Rattle.std.proofs.lemmas.Result.{on_ok_weaker}
-use Rattle.tiny_tree.specs.Prelude.{cond_tree}
+use Rattle.tiny_emit.proofs.Common.{ap, on_ok_weaker, cond_tree}
 use Rattle.tiny_emit.proofs.Sides.{leave_equal, leave_less}
 use Rattle.tiny_emit.proofs.choice.add_leave.Goals as goal
 

@@ -1,7 +1,4 @@
-use Rattle.std.proofs.Common.{◌-◌, arith}
-use Rattle.std.proofs.lemmas.Result.{on_ok_weaker}
-use Rattle.tiny_pool.specs.Prelude.{places_in}
-use Rattle.tiny_tree.specs.Prelude.{cond_tree}
+use Rattle.tiny_emit.proofs.Common.{◌-◌, arith, on_ok_weaker, places_in, cond_tree}
 use Rattle.tiny_emit.proofs.Sides.{gone_back, loop_added}
 use Rattle.tiny_emit.proofs.choice.add_while.Goals as goal
 

@@ -1,8 +1,4 @@
-use Rattle.std.proofs.Common.{◌∷◌, ◌++◌, [], map, ap, ◌∙◌}
-use Rattle.std.proofs.lemmas.Result.{on_ok_weaker}
-use Rattle.tiny_tree.specs.Prelude.{arguments_of, expr_tree}
-use Rattle.ijvm_text.specs.Prelude.{code_bytes}
-use Rattle.tiny_pool.specs.Prelude.{places_in}
+use Rattle.tiny_emit.proofs.Common.{◌∷◌, ◌++◌, [], map, ap, ◌∙◌, on_ok_weaker, arguments_of, expr_tree, code_bytes, places_in}
 use Rattle.tiny_emit.proofs.Bytes.{call_bytes, expr_bytes, steps_done, step_bytes, arguments_done, argument_bytes}
 use Rattle.tiny_emit.proofs.expr.+expr.Goals as goal
 

@@ -1,8 +1,4 @@
-use Rattle.std.proofs.Common.{◌≡◌, ◌++◌, drop, map}
-use Rattle.tiny_tree.specs.Prelude.{arguments_of, steps_of, expr_tree, step_tree}
-use Rattle.ijvm_text.specs.Prelude.{code_bytes}
-use Rattle.tiny_pool.specs.Prelude.{places_in}
-use Rattle.tiny_code.specs.Prelude.{arguments_code, steps_code}
+use Rattle.tiny_emit.proofs.Common.{◌≡◌, ◌++◌, drop, map, arguments_of, steps_of, expr_tree, step_tree, code_bytes, places_in, arguments_code, steps_code}
 use Rattle.tiny_emit.proofs.expr.+expr.Given as goal
 
 abbrev pub invariant-put_arguments-loop-argument : goal.invariant-put_arguments-loop-argument

@@ -1,6 +1,4 @@
-use Rattle.std.proofs.lemmas.Result.{on_ok_weaker}
-use Rattle.tiny_pool.specs.Prelude.{places_in}
-use Rattle.tiny_tree.specs.Prelude.{function_tree}
+use Rattle.tiny_emit.proofs.Common.{on_ok_weaker, places_in, function_tree}
 use Rattle.tiny_emit.proofs.Texts.{main_added}
 use Rattle.tiny_emit.proofs.program.add_main.Goals as goal
 

@@ -1,10 +1,4 @@
-use Rattle.std.proofs.Common.{◌+◌, drop, map, subst, sym}
-use Rattle.ijvm_text.specs.declared.units.Units.{Units}
-use Rattle.ijvm_text.specs.Prelude.{no_parts, part_then}
-use Rattle.tiny_pool.specs.Prelude.{places_in}
-use Rattle.tiny_tree.specs.Prelude.{function_tree}
-use Rattle.tiny_code.specs.Prelude.{method_part}
-use Rattle.tiny_emit.specs.Prelude.{AddsMethods}
+use Rattle.tiny_emit.proofs.Common.{◌+◌, drop, map, subst, sym, Units, no_parts, part_then, places_in, function_tree, method_part, AddsMethods}
 use Rattle.tiny_emit.proofs.Texts.{Others, no_others, skipped, taken}
 use Rattle.tiny_emit.proofs.program.add_methods.Goals as goal
 use Rattle.tiny_emit.proofs.program.add_methods.Goals.{then-position-main+in_ok-add_unit, else-position-main}

@@ -1,8 +1,4 @@
-use Rattle.std.proofs.Common.{drop}
-use Rattle.tiny_pool.specs.Prelude.{places_in}
-use Rattle.tiny_code.specs.Prelude.{methods}
-use Rattle.ijvm_text.specs.declared.units.Units.{Units}
-use Rattle.tiny_emit.specs.Prelude.{AddsMethods, program_of}
+use Rattle.tiny_emit.proofs.Common.{drop, places_in, methods, Units, AddsMethods, program_of}
 use Rattle.tiny_emit.proofs.Texts.{Others}
 use Rattle.tiny_emit.proofs.program.add_methods.Given as goal
 

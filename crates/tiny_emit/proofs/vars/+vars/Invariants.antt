@@ -1,5 +1,4 @@
-use Rattle.std.proofs.Common.{◌≡◌, ◌+◌, drop, map}
-use Rattle.tiny_tree.specs.Prelude.{vars_of, statements_of, statement_tree}
+use Rattle.tiny_emit.proofs.Common.{◌≡◌, ◌+◌, drop, map, vars_of, statements_of, statement_tree}
 use Rattle.tiny_emit.proofs.vars.+vars.Given as goal
 
 abbrev pub invariant-vars_of_all-loop-statement : goal.invariant-vars_of_all-loop-statement

@@ -1,6 +1,4 @@
-use Rattle.std.proofs.Common.{◌+◌, ◌-◌, ◌*◌, ◌<◌, [], ◌∷◌, length, map}
-use Rattle.tiny_draft.specs.Prelude.{statements_of, statement_tree}
-use Rattle.tiny_draft.specs.declared.token.Sign.TheVariants.{Begin, End}
+use Rattle.tiny_grammar.proofs.Common.{◌+◌, ◌-◌, ◌*◌, ◌<◌, [], ◌∷◌, length, map, statements_of, statement_tree, Begin, End}
 use Rattle.tiny_grammar.specs.Prelude.{sign, spell_statements, ABlock, Statements, Want, Moves}
 use Rattle.tiny_grammar.proofs.block.+block.Given as goal
 

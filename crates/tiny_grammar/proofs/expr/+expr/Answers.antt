@@ -1,8 +1,4 @@
-use Rattle.std.proofs.Common.{◌-◌, [], ◌∷◌, ◌++◌, refl, ap, sym, ◌∙◌, arith, Err}
-use Rattle.std.specs.Prelude.{option_map}
-use Rattle.std.proofs.lemmas.List.{append-nil}
-use Rattle.std.proofs.lemmas.Result.{err_from_is_err_and}
-use Rattle.tiny_draft.specs.Prelude.{term_tree}
+use Rattle.tiny_grammar.proofs.Common.{◌-◌, [], ◌∷◌, ◌++◌, refl, ap, sym, ◌∙◌, arith, Err, option_map, append-nil, err_from_is_err_and, term_tree}
 use Rattle.tiny_draft.specs.declared.token.Kind.TheVariants as kinds
 use Rattle.tiny_draft.specs.declared.token.Sign.TheVariants as signs
 use Rattle.tiny_grammar.specs.declared.refusal.Refusal.TheVariants as refusals

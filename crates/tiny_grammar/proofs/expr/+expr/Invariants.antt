@@ -1,5 +1,4 @@
-use Rattle.std.proofs.Common.{◌+◌, ◌*◌, ◌++◌, [], ◌∷◌, length, map}
-use Rattle.tiny_draft.specs.Prelude.{steps_of, expr_tree, step_tree, term_tree}
+use Rattle.tiny_grammar.proofs.Common.{◌+◌, ◌*◌, ◌++◌, [], ◌∷◌, length, map, steps_of, expr_tree, step_tree, term_tree}
 use Rattle.tiny_grammar.specs.Prelude.{spell_steps, spell_term, AnExpr, Arguments, MoreArguments, Steps, Moves}
 use Rattle.tiny_grammar.proofs.Lists.{with_commas}
 use Rattle.tiny_grammar.proofs.expr.+expr.Given as goal

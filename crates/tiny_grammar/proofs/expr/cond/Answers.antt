@@ -1,6 +1,4 @@
-use Rattle.std.proofs.Common.{[], ◌∷◌, refl, ap, sym}
-use Rattle.std.proofs.lemmas.Result.{err_from_is_err_and}
-use Rattle.tiny_draft.specs.Prelude.{cond_tree, expr_tree}
+use Rattle.tiny_grammar.proofs.Common.{[], ◌∷◌, refl, ap, sym, err_from_is_err_and, cond_tree, expr_tree}
 use Rattle.tiny_grammar.specs.Prelude.{spell_cond, AnExpr, Compare}
 use Rattle.tiny_grammar.proofs.Moving.{frame_stops, text_as, then_stops}
 use Rattle.tiny_grammar.proofs.Exprs.{cond_begin, cond_compared, cond_reads, cond_uncompared}

@@ -1,6 +1,4 @@
-use Rattle.std.proofs.Common.{ap, refl, sym}
-use Rattle.std.proofs.lemmas.Result.{err_from_is_err_and}
-use Rattle.tiny_draft.specs.Prelude.{block_tree, function_tree}
+use Rattle.tiny_grammar.proofs.Common.{ap, refl, sym, err_from_is_err_and, block_tree, function_tree}
 use Rattle.tiny_grammar.specs.Prelude.{spell_signature}
 use Rattle.tiny_grammar.proofs.Moving.{text_as}
 use Rattle.tiny_grammar.proofs.Signatures.{body_refused, parameters_refused, signature_reads, unnamed, unopened}

@@ -1,6 +1,4 @@
-use Rattle.std.proofs.Common.{◌≡◌, [], length, refl, ap, sym, ◌∙◌, arith}
-use Rattle.std.specs.Prelude.{Err, false, true, ◌==◌}
-use Rattle.std.proofs.lemmas.Result.{err_from_is_err_and}
+use Rattle.tiny_grammar.proofs.Common.{◌≡◌, [], length, refl, ap, sym, ◌∙◌, arith, Err, false, true, ◌==◌, err_from_is_err_and}
 use Rattle.tiny_grammar.proofs.Laws.{left_over, nothing_left, refused}
 use Rattle.tiny_grammar.proofs.Runs.{walk_shallow}
 use Rattle.tiny_grammar.proofs.Signatures.{function_more, function_stops, no_function}

@@ -1,5 +1,4 @@
-use Rattle.std.proofs.Common.{[], ◌∷◌, length, map}
-use Rattle.tiny_draft.specs.Prelude.{function_tree}
+use Rattle.tiny_grammar.proofs.Common.{[], ◌∷◌, length, map, function_tree}
 use Rattle.tiny_grammar.specs.Prelude.{spell_functions, Functions, Moves}
 use Rattle.tiny_grammar.proofs.whole.parse.Given as goal
 

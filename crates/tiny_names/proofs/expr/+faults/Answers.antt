@@ -1,6 +1,5 @@
-use Rattle.std.proofs.Common.{◌∙◌, ap, sym}
+use Rattle.tiny_names.proofs.Common.{◌∙◌, ap, sym, first, term_faults, lookup}
 use Rattle.tiny_draft.specs.Prelude.{term_tree}
-use Rattle.tiny_names.specs.Prelude.{first, term_faults, lookup}
 use Rattle.tiny_names.proofs.Firsts.{first_none, first_some, steps_at}
 use Rattle.tiny_names.proofs.expr.+faults.Goals as goal
 

@@ -1,6 +1,5 @@
-use Rattle.std.proofs.Common.{◌≡◌, drop, map}
+use Rattle.tiny_names.proofs.Common.{◌≡◌, drop, map, argument_faults, expr_faults, first, step_faults, lookup}
 use Rattle.tiny_draft.specs.Prelude.{arguments_of, steps_of, expr_tree, step_tree, sum_tree}
-use Rattle.tiny_names.specs.Prelude.{argument_faults, expr_faults, first, step_faults, lookup}
 use Rattle.tiny_names.proofs.expr.+faults.Given as goal
 
 abbrev pub invariant-argument_fault-loop-argument : goal.invariant-argument_fault-loop-argument

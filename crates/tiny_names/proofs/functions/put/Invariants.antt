@@ -1,5 +1,4 @@
-use Rattle.std.proofs.Common.{◌≡◌, ℕ, ◌+◌, ◌-◌, length}
-use Rattle.tiny_names.specs.Prelude.{lookup}
+use Rattle.tiny_names.proofs.Common.{◌≡◌, ℕ, ◌+◌, ◌-◌, length, lookup}
 use Rattle.tiny_names.proofs.functions.put.Given as goal
 
 abbrev pub invariant-loop-table : goal.invariant-loop-table

@@ -1,6 +1,5 @@
-use Rattle.std.proofs.Common.{◌≡◌, ◌≤◌, ℕ, drop, length, map}
+use Rattle.tiny_names.proofs.Common.{◌≡◌, ◌≤◌, ℕ, drop, length, map, called_from, lookup}
 use Rattle.tiny_draft.specs.Prelude.{function_tree}
-use Rattle.tiny_names.specs.Prelude.{called_from, lookup}
 use Rattle.tiny_names.proofs.functions.signatures.Given as goal
 
 abbrev pub invariant-loop-left : goal.invariant-loop-left

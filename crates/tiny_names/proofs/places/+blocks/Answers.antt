@@ -1,6 +1,4 @@
-use Rattle.std.proofs.Common.{◌∙◌, map}
-use Rattle.tiny_tree.specs.Prelude.{statement_tree}
-use Rattle.tiny_names.specs.Prelude.{lookup}
+use Rattle.tiny_names.proofs.Common.{◌∙◌, map, statement_tree, lookup}
 use Rattle.tiny_names.proofs.ResolvedLists.{block_resolved}
 use Rattle.tiny_names.proofs.places.+blocks.Goals as goal
 

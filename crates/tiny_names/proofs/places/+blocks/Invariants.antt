@@ -1,7 +1,5 @@
-use Rattle.std.proofs.Common.{◌≡◌, map, take}
+use Rattle.tiny_names.proofs.Common.{◌≡◌, map, take, statement_tree, lookup, statement}
 use Rattle.tiny_draft.specs.View as draft_view
-use Rattle.tiny_tree.specs.Prelude.{statement_tree}
-use Rattle.tiny_names.specs.Prelude.{lookup, statement}
 use Rattle.tiny_names.proofs.places.+blocks.Given as goal
 
 abbrev pub invariant-block-loop-one : goal.invariant-block-loop-one

@@ -1,8 +1,5 @@
-use Rattle.std.proofs.Common.{◌∙◌, ap, sym, map}
-use Rattle.std.proofs.lemmas.List.{take_all}
+use Rattle.tiny_names.proofs.Common.{◌∙◌, ap, sym, map, take_all, arguments_of, steps_of, lookup, expr}
 use Rattle.tiny_draft.specs.View as draft_view
-use Rattle.tiny_tree.specs.Prelude.{arguments_of, steps_of}
-use Rattle.tiny_names.specs.Prelude.{lookup, expr}
 use Rattle.tiny_names.proofs.ResolvedLists.{arguments_of_map, step_of, steps_of_map}
 use Rattle.tiny_names.proofs.places.+places.Goals as goal
 

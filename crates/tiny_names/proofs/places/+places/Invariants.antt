@@ -1,7 +1,5 @@
-use Rattle.std.proofs.Common.{◌≡◌, map, take}
+use Rattle.tiny_names.proofs.Common.{◌≡◌, map, take, expr_tree, step_tree, lookup, expr}
 use Rattle.tiny_draft.specs.View as draft_view
-use Rattle.tiny_tree.specs.Prelude.{expr_tree, step_tree}
-use Rattle.tiny_names.specs.Prelude.{lookup, expr}
 use Rattle.tiny_names.proofs.ResolvedLists.{step_of}
 use Rattle.tiny_names.proofs.places.+places.Given as goal
 

@@ -1,5 +1,4 @@
-use Rattle.std.proofs.Common.{◌≡◌, ◌≤◌, ◌++◌, drop, length, map}
-use Rattle.tiny_names.specs.Prelude.{first, parameter_faults, name_of}
+use Rattle.tiny_names.proofs.Common.{◌≡◌, ◌≤◌, ◌++◌, drop, length, map, first, parameter_faults, name_of}
 use Rattle.tiny_names.proofs.program.declare_all.Given as goal
 
 abbrev pub invariant-loop-parameter : goal.invariant-loop-parameter

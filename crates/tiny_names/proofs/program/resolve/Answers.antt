@@ -1,12 +1,7 @@
-use Rattle.std.proofs.Common.{◌≡◌, ℕ, List, [], ap, sym, subst, map, ◌∙◌}
-use Rattle.std.specs.Prelude.{Option, Some}
-use Rattle.std.proofs.lemmas.Result.{err_from_is_err_and}
-use Rattle.tiny_draft.specs.declared.tree.Function.{Function}
+use Rattle.tiny_names.proofs.Common.{◌≡◌, ℕ, List, [], ap, sym, subst, map, ◌∙◌, Option, Some, err_from_is_err_and, Function, function_tree, Signature}
+use Rattle.tiny_names.proofs.Common.{all_faults, first, function_faults, lookup, resolved, IsFirst}
 use Rattle.tiny_draft.specs.View as draft_view
-use Rattle.tiny_tree.specs.Prelude.{function_tree}
 use Rattle.tiny_names.specs.declared.fault.Fault.TheVariants as faults
-use Rattle.tiny_names.specs.declared.functions.Signature.{Signature}
-use Rattle.tiny_names.specs.Prelude.{all_faults, first, function_faults, lookup, resolved, IsFirst}
 use Rattle.tiny_names.proofs.Wholes.{fault_in, is_resolved, no_fault, no_main}
 use Rattle.tiny_names.proofs.program.resolve.Goals as goal
 

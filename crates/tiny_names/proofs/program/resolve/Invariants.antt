@@ -1,7 +1,5 @@
-use Rattle.std.proofs.Common.{◌≡◌, drop, map, take}
+use Rattle.tiny_names.proofs.Common.{◌≡◌, drop, map, take, function_tree, faults_from, first, lookup, function_of}
 use Rattle.tiny_draft.specs.View as draft_view
-use Rattle.tiny_tree.specs.Prelude.{function_tree}
-use Rattle.tiny_names.specs.Prelude.{faults_from, first, lookup, function_of}
 use Rattle.tiny_names.proofs.program.resolve.Given as goal
 
 abbrev pub invariant-loop-function : goal.invariant-loop-function

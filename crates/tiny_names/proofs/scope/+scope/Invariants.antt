@@ -1,6 +1,5 @@
-use Rattle.std.proofs.Common.{◌≡◌, ◌≤◌, List, ℕ, ◌++◌, drop, length, map}
+use Rattle.tiny_names.proofs.Common.{◌≡◌, ◌≤◌, List, ℕ, ◌++◌, drop, length, map, block_faults, first, all_names, lookup}
 use Rattle.tiny_draft.specs.Prelude.{statements_of, block_tree, statement_tree}
-use Rattle.tiny_names.specs.Prelude.{block_faults, first, all_names, lookup}
 use Rattle.tiny_names.proofs.scope.+scope.Given as goal
 
 abbrev pub invariant-block_fault-loop-statement : goal.invariant-block_fault-loop-statement

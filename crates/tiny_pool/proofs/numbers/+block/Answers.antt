@@ -1,11 +1,6 @@
-use Rattle.std.proofs.Common.{◌≡◌, rules, subst, sym}
-use Rattle.std.specs.Prelude.{option_map}
-use Rattle.std.proofs.lemmas.Result.{on_ok_weaker}
-use Rattle.tiny_tree.specs.declared.tree.Statement.{the_lemmas}
+use Rattle.tiny_pool.proofs.Common.{◌≡◌, rules, subst, sym, option_map, on_ok_weaker, the_lemmas, else_of, block_tree, cond_tree, statement_tree}
+use Rattle.tiny_pool.proofs.Common.{statement_numbers, Adds}
 use Rattle.tiny_tree.specs.Tree as tree
-use Rattle.tiny_tree.specs.Prelude.{else_of, block_tree, cond_tree, statement_tree}
-use Rattle.tiny_code.specs.Prelude.{statement_numbers}
-use Rattle.tiny_pool.specs.Prelude.{Adds}
 use Rattle.tiny_pool.proofs.Walks.{adds_then, goes_on, statement_at}
 use Rattle.tiny_pool.proofs.numbers.+block.Goals as goal
 

@@ -1,6 +1,4 @@
-use Rattle.std.proofs.Common.{drop, map}
-use Rattle.tiny_tree.specs.Prelude.{statements_of, block_tree, statement_tree}
-use Rattle.tiny_code.specs.Prelude.{statements_numbers}
+use Rattle.tiny_pool.proofs.Common.{drop, map, statements_of, block_tree, statement_tree, statements_numbers}
 use Rattle.tiny_pool.proofs.Walks.{IsOnTheWay}
 use Rattle.tiny_pool.proofs.numbers.+block.Given as goal
 

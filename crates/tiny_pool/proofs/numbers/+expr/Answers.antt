@@ -1,11 +1,5 @@
-use Rattle.std.proofs.Common.{List, ℕ, ap, map, subst}
-use Rattle.std.proofs.lemmas.Result.{on_ok_weaker}
-use Rattle.std.proofs.lemmas.List.{drop_all}
-use Rattle.tiny_tree.specs.declared.tree.Expr.{Expr}
-use Rattle.tiny_tree.specs.declared.tree.Step.{Step}
-use Rattle.tiny_tree.specs.Prelude.{arguments_of, steps_of, expr_tree, step_tree}
-use Rattle.tiny_code.specs.Prelude.{arguments_numbers, steps_numbers}
-use Rattle.tiny_pool.specs.Prelude.{Adds}
+use Rattle.tiny_pool.proofs.Common.{List, ℕ, ap, map, subst, on_ok_weaker, drop_all, Expr, Step, arguments_of, steps_of, expr_tree, step_tree}
+use Rattle.tiny_pool.proofs.Common.{arguments_numbers, steps_numbers, Adds}
 use Rattle.tiny_pool.proofs.Walks.{adds_then, argument_at, ends, expr_numbers_are, goes_on, starts, step_at}
 use Rattle.tiny_pool.proofs.numbers.+expr.Goals as goal
 

@@ -1,6 +1,4 @@
-use Rattle.std.proofs.Common.{drop, map}
-use Rattle.tiny_tree.specs.Prelude.{arguments_of, steps_of, expr_tree, step_tree}
-use Rattle.tiny_code.specs.Prelude.{arguments_numbers, steps_numbers}
+use Rattle.tiny_pool.proofs.Common.{drop, map, arguments_of, steps_of, expr_tree, step_tree, arguments_numbers, steps_numbers}
 use Rattle.tiny_pool.proofs.Walks.{IsOnTheWay}
 use Rattle.tiny_pool.proofs.numbers.+expr.Given as goal
 

@@ -1,9 +1,4 @@
-use Rattle.std.proofs.Common.{List, ap, map}
-use Rattle.std.specs.List.{flat_map}
-use Rattle.std.proofs.lemmas.List.{drop_all}
-use Rattle.tiny_tree.specs.declared.tree.Function.{Function}
-use Rattle.tiny_tree.specs.Prelude.{function_tree}
-use Rattle.tiny_code.specs.Prelude.{function_numbers}
+use Rattle.tiny_pool.proofs.Common.{List, ap, map, flat_map, drop_all, Function, function_tree, function_numbers}
 use Rattle.tiny_pool.proofs.Walks.{ends, function_at, goes_on, starts}
 use Rattle.tiny_pool.proofs.numbers.add_functions.Goals as goal
 

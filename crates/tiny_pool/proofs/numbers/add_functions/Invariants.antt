@@ -1,7 +1,4 @@
-use Rattle.std.proofs.Common.{drop, map}
-use Rattle.std.specs.List.{flat_map}
-use Rattle.tiny_tree.specs.Prelude.{function_tree}
-use Rattle.tiny_code.specs.Prelude.{function_numbers}
+use Rattle.tiny_pool.proofs.Common.{drop, map, flat_map, function_tree, function_numbers}
 use Rattle.tiny_pool.proofs.Walks.{IsOnTheWay}
 use Rattle.tiny_pool.proofs.numbers.add_functions.Given as goal
 

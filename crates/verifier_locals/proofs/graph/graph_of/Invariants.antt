@@ -1,7 +1,4 @@
-use Rattle.std.proofs.Common.{◌≡◌, ℕ, Some, vec_len}
-use Rattle.std.specs.Prelude.{slice_get}
-use Rattle.verifier_locals.specs.declared.graph.Node.{Node}
-use Rattle.verifier_locals.specs.Prelude.{IsNodeAt}
+use Rattle.verifier_locals.proofs.Common.{◌≡◌, ℕ, Some, vec_len, slice_get, Node, IsNodeAt}
 use Rattle.verifier_locals.proofs.graph.graph_of.Given as goal
 
 abbrev pub invariant-loop-at : goal.invariant-loop-at

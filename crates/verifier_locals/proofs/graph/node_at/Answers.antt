@@ -1,7 +1,4 @@
-use Rattle.std.proofs.Common.{◌≡◌, ◌∙◌, arith, sym, ap, Some, None}
-use Rattle.std.specs.Prelude.{slice_get}
-use Rattle.std.proofs.lemmas.Option.{slice_get-get_or}
-use Rattle.verifier_facts.specs.Prelude.{HasRow}
+use Rattle.verifier_locals.proofs.Common.{◌≡◌, ◌∙◌, arith, sym, ap, Some, None, slice_get, slice_get-get_or, HasRow}
 use Rattle.verifier_locals.proofs.Graphs.{node_here, node_nowhere}
 use Rattle.verifier_locals.proofs.graph.node_at.Goals as goal
 

@@ -1,7 +1,4 @@
-use Rattle.std.proofs.Common.{rules, arith, ◌≡◌, ◌<◌, length, subst, Option, ℕ, Some, None}
-use Rattle.std.specs.Prelude.{IfSome}
-use Rattle.std.proofs.lemmas.Option.{slice_get-get_or}
-use Rattle.verifier_locals.specs.Prelude.{IsPast}
+use Rattle.verifier_locals.proofs.Common.{rules, arith, ◌≡◌, ◌<◌, length, subst, Option, ℕ, Some, None, IfSome, slice_get-get_or, IsPast}
 use Rattle.verifier_locals.proofs.Shortcuts.{past_plain}
 use Rattle.verifier_locals.proofs.shortcut.past.Goals as goal
 

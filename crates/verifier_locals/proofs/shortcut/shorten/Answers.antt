@@ -1,6 +1,4 @@
-use Rattle.std.proofs.Common.{◌≡◌, Some, length, refl, arith, inl, inr}
-use Rattle.std.specs.Prelude.{slice_get}
-use Rattle.std.proofs.lemmas.Option.{slice_get_read}
+use Rattle.verifier_locals.proofs.Common.{◌≡◌, Some, length, refl, arith, inl, inr, slice_get, slice_get_read}
 use Rattle.verifier_locals.proofs.Shortcuts.{short_ways, short_set}
 use Rattle.verifier_locals.proofs.shortcut.shorten.Goals as goal
 

@@ -1,6 +1,4 @@
-use Rattle.std.proofs.Common.{List, sym, subst}
-use Rattle.verifier_locals.specs.declared.graph.Node.{Node}
-use Rattle.verifier_locals.specs.Prelude.{IsShort}
+use Rattle.verifier_locals.proofs.Common.{List, sym, subst, Node, IsShort}
 use Rattle.verifier_locals.proofs.Shortcuts.{short_same}
 use Rattle.verifier_locals.proofs.shortcut.shortened.Goals as goal
 

@@ -1,8 +1,4 @@
-use Rattle.std.proofs.Common.{◌≡◌, ◌+◌, sym, arith, refl, length, Some, subst}
-use Rattle.std.specs.Prelude.{slice_get}
-use Rattle.std.proofs.lemmas.Option.{slice_get_read}
-use Rattle.verifier_locals.specs.declared.trace.Trace.{Trace}
-use Rattle.verifier_locals.specs.Prelude.{IsReady}
+use Rattle.verifier_locals.proofs.Common.{◌≡◌, ◌+◌, sym, arith, refl, length, Some, subst, slice_get, slice_get_read, Trace, IsReady}
 use Rattle.verifier_locals.proofs.Unsets.{wanted_method, graph_inside, set_next, set_again, set_all, none_unset, ready_later}
 use Rattle.verifier_locals.proofs.Shortcuts.{short_inside}
 use Rattle.verifier_locals.proofs.unset.check_locals.Goals as goal

@@ -1,7 +1,4 @@
-use Rattle.std.proofs.Common.{ℕ, ◌<◌, ◌+◌, ◌≡◌, length, Some}
-use Rattle.std.specs.Prelude.{slice_get}
-use Rattle.verifier_locals.specs.declared.unset.Wanted.{Wanted}
-use Rattle.verifier_locals.specs.Prelude.{IsReady, AreSet}
+use Rattle.verifier_locals.proofs.Common.{ℕ, ◌<◌, ◌+◌, ◌≡◌, length, Some, slice_get, Wanted, IsReady, AreSet}
 use Rattle.verifier_locals.proofs.unset.check_locals.Given as goal
 
 abbrev pub invariant-loop-i : goal.invariant-loop-i

@@ -1,5 +1,4 @@
-use Rattle.std.proofs.Common.{◌+◌, inr, arith}
-use Rattle.verifier_reach.specs.Prelude.{method_inside}
+use Rattle.verifier_locals.proofs.Common.{◌+◌, inr, arith, method_inside}
 use Rattle.verifier_locals.proofs.Unsets.{graph_inside, are_set, reads_holds}
 use Rattle.verifier_locals.proofs.Shortcuts.{short_inside, short_reads, short_reads_none}
 use Rattle.verifier_locals.proofs.unset.check_wanted.Goals as goal

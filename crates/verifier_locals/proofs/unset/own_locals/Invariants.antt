@@ -1,6 +1,4 @@
-use Rattle.std.proofs.Common.{ℕ, ◌<◌, ◌+◌, ◌*◌, ◌↔◌}
-use Rattle.verifier_facts.specs.Prelude.{IsOwn}
-use Rattle.verifier_locals.specs.Prelude.{Has}
+use Rattle.verifier_locals.proofs.Common.{ℕ, ◌<◌, ◌+◌, ◌*◌, ◌↔◌, IsOwn, Has}
 use Rattle.verifier_locals.proofs.unset.own_locals.Given as goal
 
 abbrev pub invariant-loop-place : goal.invariant-loop-place

@@ -1,5 +1,4 @@
-use Rattle.std.proofs.Common.{◌≡◌, ◌∙◌, ◌++◌, ◌∷◌, [], length, length-append, ap, arith, subst, ℕ}
-use Rattle.verifier_locals.specs.Prelude.{AreWanted}
+use Rattle.verifier_locals.proofs.Common.{◌≡◌, ◌∙◌, ◌++◌, ◌∷◌, [], length, length-append, ap, arith, subst, ℕ, AreWanted}
 use Rattle.verifier_locals.proofs.Unsets.{wanted_push, wanted_skip, wanted_sorted}
 use Rattle.verifier_locals.proofs.unset.wanted_of.Goals as goal
 use Rattle.verifier_locals.proofs.unset.wanted_of.Goals.{in-Some+in_ok-push, in_default}

@@ -1,5 +1,4 @@
-use Rattle.std.proofs.Common.{◌≤◌, length}
-use Rattle.verifier_locals.specs.Prelude.{AreWanted}
+use Rattle.verifier_locals.proofs.Common.{◌≤◌, length, AreWanted}
 use Rattle.verifier_locals.proofs.unset.wanted_of.Given as goal
 
 abbrev pub invariant-loop-at : goal.invariant-loop-at

@@ -1,5 +1,4 @@
-use Rattle.std.proofs.Common.{refl, arith, subst, sym}
-use Rattle.verifier_facts.specs.Prelude.{IsNoCall}
+use Rattle.verifier_reach.proofs.Common.{refl, arith, subst, sym, IsNoCall}
 use Rattle.verifier_reach.proofs.Checking.{underflow}
 use Rattle.verifier_reach.proofs.checks.check_depth.Goals as goal
 

@@ -1,9 +1,4 @@
-use Rattle.std.proofs.Common.{◌≡◌, ◌∙◌, ℕ, List, Option, Some, None, refl, sym, ap}
-use Rattle.std.specs.Prelude.{IfSome}
-use Rattle.ijvm_instr.specs.declared.instr.Instr.{Instr}
-use Rattle.ijvm_instr.specs.declared.row.Row.{Row}
-use Rattle.ijvm_instr.specs.Prelude.{row_of, instr_at}
-use Rattle.verifier_facts.specs.Prelude.{HasRow, IsWhole}
+use Rattle.verifier_reach.proofs.Common.{◌≡◌, ◌∙◌, ℕ, List, Option, Some, None, refl, sym, ap, IfSome, Instr, Row, row_of, instr_at, HasRow, IsWhole}
 use Rattle.verifier_reach.proofs.code.decode.Goals as goal
 
 found_whole : (text : List ℕ) (at : ℕ) (found : Option Instr) → ((list : List ℕ) (place : ℕ) (r : Row) → HasRow list place r → IsWhole list place r) → found ≡ instr_at text at → IfSome found (λ i. IsWhole text at (row_of i))

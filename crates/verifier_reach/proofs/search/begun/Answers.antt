@@ -1,7 +1,4 @@
-use Rattle.std.proofs.Common.{length, arith, inl, inr, ap, Option, None}
-use Rattle.std.proofs.lemmas.List.{length-replicate}
-use Rattle.verifier_reach.specs.declared.kept.Kept.{Kept}
-use Rattle.verifier_facts.specs.Prelude.{Start}
+use Rattle.verifier_reach.proofs.Common.{length, arith, inl, inr, ap, Option, None, length-replicate, Kept, Start}
 use Rattle.verifier_reach.proofs.Keeping.{empties_few, none_kept}
 use Rattle.verifier_reach.proofs.search.begun.Goals as goal
 

@@ -1,5 +1,4 @@
-use Rattle.std.proofs.Common.{◌≡◌, ◌≢◌, ◌∙◌, inr, sym, Some}
-use Rattle.ijvm_instr.specs.Prelude.{instr_at}
+use Rattle.verifier_reach.proofs.Common.{◌≡◌, ◌≢◌, ◌∙◌, inr, sym, Some, instr_at}
 use Rattle.verifier_reach.proofs.Keeping.{overlap, units_differ}
 use Rattle.verifier_reach.proofs.search.check_same.Goals as goal
 

@@ -1,5 +1,4 @@
-use Rattle.std.proofs.Common.{◌∙◌, None, inr, refl, sym}
-use Rattle.verifier_facts.specs.Prelude.{Start, arrival}
+use Rattle.verifier_reach.proofs.Common.{◌∙◌, None, inr, refl, sym, Start, arrival}
 use Rattle.verifier_reach.proofs.Keeping.{search_pop, running_on, closed_from, decided, empty_text}
 use Rattle.verifier_reach.proofs.search.search_all.Goals as goal
 

@@ -1,5 +1,4 @@
-use Rattle.std.proofs.Common.{◌+◌, length}
-use Rattle.verifier_reach.specs.Prelude.{IsRunning, empties}
+use Rattle.verifier_reach.proofs.Common.{◌+◌, length, IsRunning, empties}
 use Rattle.verifier_reach.proofs.search.search_all.Given as goal
 
 abbrev pub invariant-loop-here : goal.invariant-loop-here

@@ -1,7 +1,4 @@
-use Rattle.std.proofs.Common.{codes, ap, sym, ◌∙◌}
-use Rattle.std.specs.Prelude.{option_and_then}
-use Rattle.std.specs.Str.{str_eq_ignore_ascii_case}
-use Rattle.ijvm_instr.specs.declared.instr.TheConstants.{INSTRUCTIONS}
+use Rattle.ijvm_line.proofs.Common.{codes, ap, sym, ◌∙◌, option_and_then, str_eq_ignore_ascii_case, INSTRUCTIONS}
 use Rattle.ijvm_line.specs.Prelude.{kind_of, spelled_in}
 use Rattle.ijvm_line.proofs.Naming.{kind_else}
 use Rattle.ijvm_line.proofs.mnemonic.Kind.find.Goals as goal

@@ -1,5 +1,4 @@
-use Rattle.std.proofs.Common.{◌≡◌, ◌≤◌, ◌+◌, ◌-◌, ℕ, List, [], ◌∷◌, ◌++◌, length, take, drop, reverse, sym, ap, subst, ◌∙◌, arith}
-use Rattle.std.proofs.lemmas.List.{reverse-append}
+use Rattle.ijvm_reference.proofs.Common.{◌≡◌, ◌≤◌, ◌+◌, ◌-◌, ℕ, List, [], ◌∷◌, ◌++◌, length, take, drop, reverse, sym, ap, subst, ◌∙◌, arith, reverse-append}
 use Rattle.ijvm_meaning.specs.Prelude.{Frame, base, kept_words, called}
 use Rattle.ijvm_reference.specs.Prelude.{MachineView, ArePlaced}
 use Rattle.ijvm_reference.proofs.Placed.{placed_call}

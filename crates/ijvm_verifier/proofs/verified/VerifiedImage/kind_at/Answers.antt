@@ -1,7 +1,4 @@
-use Rattle.std.proofs.Common.{◌≡◌, ◌≤◌, refl, length, Some, arith, subst}
-use Rattle.std.specs.Prelude.{slice_get}
-use Rattle.std.proofs.lemmas.Option.{slice_get_read}
-use Rattle.verifier_facts.specs.Prelude.{VerifiedView, Piece, Covers, IsKind}
+use Rattle.ijvm_verifier.proofs.Common.{◌≡◌, ◌≤◌, refl, length, Some, arith, subst, slice_get, slice_get_read, VerifiedView, Piece, Covers, IsKind}
 use Rattle.ijvm_verifier.proofs.verified.VerifiedImage.kind_at.Goals as goal
 
 pub returns-then-at-len : goal.returns-then-at-len

@@ -1,6 +1,4 @@
-use Rattle.std.proofs.Common.{◌≡◌, ◌++◌, ◌∷◌, [], ◌∙◌, ap, subst, sym, cond, length, true, false}
-use Rattle.std.specs.Prelude.{is_ok, not}
-use Rattle.mal_parser.specs.declared.source.Draft.{Draft}
+use Rattle.mal_parser.proofs.Common.{◌≡◌, ◌++◌, ◌∷◌, [], ◌∙◌, ap, subst, sym, cond, length, true, false, is_ok, not, Draft}
 use Rattle.mal_parser.specs.Prelude.{AddsNumber, AreNumbers, has_name}
 use Rattle.mal_parser.proofs.Numbers.{named_as, numbers_push}
 use Rattle.mal_parser.proofs.drafts.Drafts.push.Goals as goal

@@ -1,14 +1,6 @@
-use Rattle.std.proofs.Common.{◌≡◌, ◌≤◌, ℕ, List, [], ◌∷◌, ◌++◌, None, length, sym, ap, ◌∙◌, subst, arith}
+use Rattle.mic1_cycles.proofs.Common.{◌≡◌, ◌≤◌, ℕ, List, [], ◌∷◌, ◌++◌, None, length, sym, ap, ◌∙◌, subst, arith, Write, ports_of, IsTransferred, Answer, Site}
+use Rattle.mic1_cycles.proofs.Common.{Memory, Console, trail_of, AreAnswered, IsSite}
 use Rattle.micro_word.specs.declared.statement.Mem.TheVariants as mems
-use Rattle.mic1_cycles.specs.declared.symbols.Write.{Write}
-use Rattle.mic1_cycles.specs.Cycle.{ports_of}
-use Rattle.mic1_cycles.specs.Access.{IsTransferred}
-use Rattle.mic1_cycles.specs.declared.question.Answer.{Answer}
-use Rattle.mic1_cycles.specs.declared.site.Site.{Site}
-use Rattle.mic1_cycles.specs.declared.site.Site.TheVariants.{Memory, Console}
-use Rattle.mic1_cycles.specs.Paths.{trail_of}
-use Rattle.mic1_cycles.specs.Questions.{AreAnswered}
-use Rattle.mic1_cycles.specs.Sites.{IsSite}
 use Rattle.mic1_cycles.proofs.path.Path.put.Goals as goal
 
 pub returns-in_ok-push-in-Memory-clause-value : goal.returns-in_ok-push-in-Memory-clause-value

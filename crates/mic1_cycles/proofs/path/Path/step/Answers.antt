@@ -1,17 +1,6 @@
-use Rattle.std.proofs.Common.{◌≡◌, List, Result, Ok, refl, sym, ap, ◌∙◌, subst}
-use Rattle.mic_datapath.specs.Next.{next_address}
-use Rattle.micro_terms.specs.Meaning.{Fits}
-use Rattle.mic1_cycles.specs.declared.symbols.Symbols.{Symbols}
-use Rattle.mic1_cycles.specs.Symbols.{assigned_symbols, moved_symbols}
-use Rattle.mic1_cycles.specs.Cycle.{IsAccessed, LeadsTo, ports_of}
-use Rattle.mic1_cycles.specs.declared.question.Answer.{Answer}
-use Rattle.std.specs.declared.alloc.AllocError.{AllocError}
-use Rattle.mic1_cycles.specs.declared.refusal.Stop.{Stop}
-use Rattle.mic1_cycles.specs.declared.refusal.Stop.TheVariants.{OutOfMap}
-use Rattle.mic1_cycles.specs.declared.step.Stepped.{Stepped}
+use Rattle.mic1_cycles.proofs.Common.{◌≡◌, List, Result, Ok, refl, sym, ap, ◌∙◌, subst, next_address, Fits, Symbols, assigned_symbols, moved_symbols}
+use Rattle.mic1_cycles.proofs.Common.{IsAccessed, LeadsTo, ports_of, Answer, AllocError, Stop, OutOfMap, Stepped, AreRefused, refusal_of, trail_of, AreAnswered}
 use Rattle.mic1_cycles.specs.declared.step.Stepped.TheVariants.{Refused}
-use Rattle.mic1_cycles.specs.Paths.{AreRefused, refusal_of, trail_of}
-use Rattle.mic1_cycles.specs.Questions.{AreAnswered}
 use Rattle.mic1_cycles.proofs.path.Path.step.Goals as goal
 
 why_of : Result Stepped AllocError → Stop

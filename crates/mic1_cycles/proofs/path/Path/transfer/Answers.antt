@@ -1,12 +1,4 @@
-use Rattle.std.proofs.Common.{List, Ok, Some, None, refl, sym, subst}
-use Rattle.micro_word.specs.declared.statement.Mem.{Mem}
-use Rattle.mic1_cycles.specs.declared.symbols.Write.{Write}
-use Rattle.mic1_cycles.specs.Cycle.{ports_of}
-use Rattle.mic1_cycles.specs.Access.{IsTransferred}
-use Rattle.mic1_cycles.specs.declared.question.Answer.{Answer}
-use Rattle.mic1_cycles.specs.Paths.{trail_of}
-use Rattle.mic1_cycles.specs.Questions.{AreAnswered}
-use Rattle.mic1_cycles.specs.Sites.{Reads}
+use Rattle.mic1_cycles.proofs.Common.{List, Ok, Some, None, refl, sym, subst, Mem, Write, ports_of, IsTransferred, Answer, trail_of, AreAnswered, Reads}
 use Rattle.mic1_cycles.proofs.ReadAccesses.{read_leads}
 use Rattle.mic1_cycles.proofs.path.Path.transfer.Goals as goal
 

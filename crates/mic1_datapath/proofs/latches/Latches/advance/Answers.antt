@@ -1,10 +1,6 @@
-use Rattle.std.proofs.Common.{◌≡◌, ◌≢◌, ℕ, ◌<◌, true, None, subst, sym, ap, ◌∙◌, arith}
-use Rattle.mic_words.specs.Prelude.{signed_byte}
-use Rattle.mic_words.specs.declared.machine.Machine.TheVariants.{Mic1}
-use Rattle.micro_word.specs.Prelude.{statement_of, shifted}
-use Rattle.micro_word.specs.declared.layout.Fields.{Fields}
-use Rattle.mic_datapath.specs.Prelude.{registers_at, NineRegisters, arrived, loaded, next_address}
-use Rattle.mic1_datapath.specs.Prelude.{result_of, registers_in, micro_in, reads, fetches, under_way}
+use Rattle.mic1_datapath.proofs.Common.{◌≡◌, ◌≢◌, ℕ, ◌<◌, true, None, subst, sym, ap, ◌∙◌, arith, signed_byte, Mic1, statement_of, shifted, Fields}
+use Rattle.mic1_datapath.proofs.Common.{registers_at, NineRegisters, arrived, loaded, next_address, result_of, registers_in, micro_in, reads, fetches}
+use Rattle.mic1_datapath.proofs.Common.{under_way}
 use Rattle.mic1_datapath.proofs.UnderWay.{kept_under_way}
 use Rattle.mic1_datapath.proofs.latches.Latches.advance.Goals as goal
 

@@ -1,5 +1,4 @@
-use Rattle.std.proofs.Common.{ℕ, ◌∙◌, ap}
-use Rattle.mic_datapath.specs.Prelude.{place_loaded, arrived}
+use Rattle.mic1_datapath.proofs.Common.{ℕ, ◌∙◌, ap, place_loaded, arrived}
 use Rattle.mic1_datapath.proofs.latches.Latches.mdr_port.Goals as goal
 
 pub returns : goal.returns

@@ -1,8 +1,5 @@
-use Rattle.std.proofs.Common.{ℕ, Err, ◌∙◌, ap, refl}
-use Rattle.micro_word.specs.Prelude.{statement_of, mem_of}
+use Rattle.mic1_datapath.proofs.Common.{ℕ, Err, ◌∙◌, ap, refl, statement_of, mem_of, edge_waits, over_fails, settled, next_micro, micro_in, mic1_meaning}
 use Rattle.mic_words.specs.declared.machine.Machine.TheVariants as machines
-use Rattle.mic_datapath.specs.Prelude.{edge_waits, over_fails}
-use Rattle.mic1_datapath.specs.Prelude.{settled, next_micro, micro_in, mic1_meaning}
 use Rattle.mic1_datapath.proofs.Handed.{has_computed}
 use Rattle.mic1_datapath.proofs.Passed.{streams_passed}
 use Rattle.mic1_datapath.proofs.Seen.{seen_last}

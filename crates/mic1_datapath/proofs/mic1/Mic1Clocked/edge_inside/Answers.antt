@@ -1,7 +1,5 @@
-use Rattle.std.proofs.Common.{true, ap, subst, sym}
+use Rattle.mic1_datapath.proofs.Common.{true, ap, subst, sym, IsLast, micro_in, mic1_meaning, Latches}
 use Rattle.mic_clock.specs.Prelude.{IsTried}
-use Rattle.mic1_datapath.specs.Prelude.{IsLast, micro_in, mic1_meaning}
-use Rattle.mic1_datapath.specs.declared.latches.Latches.{Latches}
 use Rattle.mic1_datapath.proofs.Handed.{has_computed}
 use Rattle.mic1_datapath.proofs.Seen.{seen_last}
 use Rattle.mic1_datapath.proofs.mic1.Mic1Clocked.edge_inside.Goals as goal

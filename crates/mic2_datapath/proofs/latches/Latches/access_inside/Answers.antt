@@ -1,10 +1,6 @@
-use Rattle.std.proofs.Common.{◌≡◌, Bool, true, length, refl, sym, ap, subst, ◌∙◌, arith}
-use Rattle.std.specs.Prelude.{is_some}
-use Rattle.std.proofs.lemmas.Grind.{common_steps}
-use Rattle.console_port.specs.Prelude.{World}
+use Rattle.mic2_datapath.proofs.Common.{◌≡◌, Bool, true, length, refl, sym, ap, subst, ◌∙◌, arith, is_some, common_steps, World, IsTransfer, first_clear}
+use Rattle.mic2_datapath.proofs.Common.{led_same, memory_refusal, ports_with, access_by}
 use Rattle.micro_word.specs.declared.statement.Mem.TheVariants as mems
-use Rattle.mic_datapath.specs.Prelude.{IsTransfer, first_clear, led_same, memory_refusal, ports_with}
-use Rattle.mic2_datapath.specs.Prelude.{access_by}
 use Rattle.mic2_datapath.proofs.latches.Latches.access_inside.Goals as goal
 
 pub returns-then-reads-clause-inside : goal.returns-then-reads-clause-inside

@@ -1,10 +1,6 @@
-use Rattle.std.proofs.Common.{◌≡◌, ℕ, ap, sym, subst, ◌∙◌, ◌≤◌, Option, length}
+use Rattle.mic2_datapath.proofs.Common.{◌≡◌, ℕ, ap, sym, subst, ◌∙◌, ◌≤◌, Option, length, statement_of, shifted, Fields, registers_at, loaded, sample_refusal}
+use Rattle.mic2_datapath.proofs.Common.{advanced, jumps, operand_bytes, registers_in, result_of, settled, micro_in}
 use Rattle.mic_words.specs.declared.machine.Machine.TheVariants as machines
-use Rattle.micro_word.specs.Prelude.{statement_of, shifted}
-use Rattle.micro_word.specs.declared.layout.Fields.{Fields}
-use Rattle.mic_datapath.specs.Prelude.{registers_at, loaded}
-use Rattle.mic2_fetch_unit.specs.Prelude.{sample_refusal}
-use Rattle.mic2_datapath.specs.Prelude.{advanced, jumps, operand_bytes, registers_in, result_of, settled, micro_in}
 use Rattle.mic2_datapath.proofs.Demands.{dispatch_takes, is_dispatch}
 use Rattle.mic2_datapath.proofs.Steps.{sampled_there, unit_there}
 use Rattle.mic2_datapath.proofs.latches.Latches.advance.Goals as goal

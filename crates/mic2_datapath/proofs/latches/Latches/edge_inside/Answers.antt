@@ -1,13 +1,8 @@
-use Rattle.std.proofs.Common.{◌≡◌, length, ℕ, None, Some, Option, refl, sym, ◌∙◌, ap, subst}
-use Rattle.std.specs.Prelude.{is_some, IfErr, OnErr, OnOk}
-use Rattle.console_port.specs.Prelude.{refused_by, ChangesOnly, Refusal}
+use Rattle.mic2_datapath.proofs.Common.{◌≡◌, length, ℕ, None, Some, Option, refl, sym, ◌∙◌, ap, subst, is_some, IfErr, OnErr, OnOk, refused_by, ChangesOnly}
+use Rattle.mic2_datapath.proofs.Common.{Refusal, statement_of, shifted, led_same, memory_refusal, sample_refusal, jumps, moved_on, access_by, micro_in}
 use Rattle.console_port.specs.declared.fault.BusFault.{BusFault}
-use Rattle.micro_word.specs.Prelude.{statement_of, shifted}
 use Rattle.micro_word.specs.declared.statement.Mem.TheVariants as mems
 use Rattle.mic_words.specs.declared.machine.Machine.TheVariants as machines
-use Rattle.mic_datapath.specs.Prelude.{led_same, memory_refusal}
-use Rattle.mic2_fetch_unit.specs.Prelude.{sample_refusal}
-use Rattle.mic2_datapath.specs.Prelude.{jumps, moved_on, access_by, micro_in}
 use Rattle.mic2_datapath.proofs.Steps.{IsAsked, asked_for, edge_either, is_for, it_reads, mar_there, mdr_there, on_each_err, refusal_left, sampled_there}
 use Rattle.mic2_datapath.proofs.Tried.{tried}
 use Rattle.mic2_datapath.proofs.latches.Latches.edge_inside.Goals as goal

@@ -1,5 +1,4 @@
-use Rattle.std.proofs.Common.{sym, ◌∙◌}
-use Rattle.mic2_datapath.specs.Prelude.{byte_at}
+use Rattle.mic2_datapath.proofs.Common.{sym, ◌∙◌, byte_at}
 use Rattle.mic2_datapath.proofs.Demands.{dispatched_last, is_dispatch}
 use Rattle.mic2_datapath.proofs.latches.Latches.goes_on.Goals as goal
 

@@ -1,7 +1,5 @@
-use Rattle.std.proofs.Common.{ℕ, ◌≤◌, slice_index, ap, ◌∙◌}
+use Rattle.mic2_datapath.proofs.Common.{ℕ, ◌≤◌, slice_index, ap, ◌∙◌, is_byte, is_pair, row, statement_of, Micro, operand_bytes, source}
 use Rattle.mic_words.specs.declared.machine.Machine.TheVariants as machines
-use Rattle.micro_word.specs.Prelude.{is_byte, is_pair, row, statement_of}
-use Rattle.mic2_datapath.specs.Prelude.{Micro, operand_bytes, source}
 use Rattle.mic2_datapath.proofs.Demands.{byte_a, byte_b, pair_a, pair_b, within}
 use Rattle.mic2_datapath.proofs.Sources.{at_place}
 use Rattle.mic2_datapath.proofs.latches.Latches.operands.Goals as goal

@@ -1,5 +1,4 @@
-use Rattle.std.proofs.Common.{slice_index, ap, ◌∙◌, arith}
-use Rattle.mic_words.specs.Prelude.{signed_byte}
+use Rattle.mic2_datapath.proofs.Common.{slice_index, ap, ◌∙◌, arith, signed_byte}
 use Rattle.mic2_datapath.proofs.latches.Latches.show_front.Goals as goal
 
 pub returns-then-two-clause-front : goal.returns-then-two-clause-front

@@ -1,4 +1,4 @@
-use Rattle.std.specs.Prelude.{nat_lt}
+use Rattle.std.proofs.Common.{nat_lt}
 use Rattle.mic2_datapath.proofs.latches.Latches.waits.Goals as goal
 
 pub returns-clause-stalled : goal.returns-clause-stalled

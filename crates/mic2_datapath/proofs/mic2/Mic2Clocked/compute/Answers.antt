@@ -1,7 +1,5 @@
-use Rattle.std.proofs.Common.{◌∙◌}
+use Rattle.mic2_datapath.proofs.Common.{◌∙◌, statement_of, micro_in}
 use Rattle.mic_words.specs.declared.machine.Machine.TheVariants as machines
-use Rattle.micro_word.specs.Prelude.{statement_of}
-use Rattle.mic2_datapath.specs.Prelude.{micro_in}
 use Rattle.mic2_datapath.proofs.Buses.{computed_there, flagged_on, nothing_on, nothing_on_b}
 use Rattle.mic2_datapath.proofs.mic2.Mic2Clocked.compute.Goals as goal
 

@@ -1,7 +1,5 @@
-use Rattle.std.proofs.Common.{Bool, false, sym, ap, ◌∙◌}
+use Rattle.mic2_datapath.proofs.Common.{Bool, false, sym, ap, ◌∙◌, statement_of, driven, micro_in}
 use Rattle.mic_words.specs.declared.machine.Machine.TheVariants as machines
-use Rattle.micro_word.specs.Prelude.{statement_of}
-use Rattle.mic2_datapath.specs.Prelude.{driven, micro_in}
 use Rattle.mic2_datapath.proofs.Buses.{drive_if}
 use Rattle.mic2_datapath.proofs.mic2.Mic2Clocked.drive.Goals as goal
 

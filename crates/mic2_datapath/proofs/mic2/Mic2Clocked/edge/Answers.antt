@@ -1,10 +1,6 @@
-use Rattle.std.proofs.Common.{ℕ, Err, inl, refl, sym, ◌∙◌, ap}
-use Rattle.std.specs.Prelude.{⊤}
-use Rattle.micro_word.specs.Prelude.{statement_of}
+use Rattle.mic2_datapath.proofs.Common.{ℕ, Err, inl, refl, sym, ◌∙◌, ap, ⊤, statement_of, edge_passed, edge_waits, over_fails, unrefused, micro_in}
+use Rattle.mic2_datapath.proofs.Common.{mic2_meaning, moved_on}
 use Rattle.mic_words.specs.declared.machine.Machine.TheVariants as machines
-use Rattle.mic_clock.specs.Prelude.{edge_passed}
-use Rattle.mic_datapath.specs.Prelude.{edge_waits, over_fails, unrefused}
-use Rattle.mic2_datapath.specs.Prelude.{micro_in, mic2_meaning, moved_on}
 use Rattle.mic2_datapath.proofs.Buses.{buses_clocked, buses_stalled, has_computed, waits_there}
 use Rattle.mic2_datapath.proofs.Demands.{are_there}
 use Rattle.mic2_datapath.proofs.Steps.{asks, edge_done, is_asked, samples_clear, stall_edge}

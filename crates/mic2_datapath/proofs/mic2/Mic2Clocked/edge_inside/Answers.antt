@@ -1,8 +1,5 @@
-use Rattle.std.proofs.Common.{Bool, sym, subst, ◌∙◌}
+use Rattle.mic2_datapath.proofs.Common.{Bool, sym, subst, ◌∙◌, statement_of, IsTried, HasComputed, micro_in, mic2_meaning}
 use Rattle.mic_words.specs.declared.machine.Machine.TheVariants as machines
-use Rattle.micro_word.specs.Prelude.{statement_of}
-use Rattle.mic_clock.specs.Prelude.{IsTried}
-use Rattle.mic2_datapath.specs.Prelude.{HasComputed, micro_in, mic2_meaning}
 use Rattle.mic2_datapath.proofs.Buses.{buses_clocked, has_computed, waits_there}
 use Rattle.mic2_datapath.proofs.Demands.{are_there}
 use Rattle.mic2_datapath.proofs.mic2.Mic2Clocked.edge_inside.Goals as goal

@@ -1,7 +1,4 @@
-use Rattle.std.proofs.Common.{◌≡◌, ℕ, ◌++◌, Some, None, drop, slice_index, sym, ap, ◌∙◌}
-use Rattle.std.specs.Option.{option_map}
-use Rattle.mic_words.specs.Prelude.{wrap, next}
-use Rattle.mic2_fetch_unit.specs.Prelude.{Prefetch, bytes_of_word}
+use Rattle.mic2_fetch_unit.proofs.Common.{◌≡◌, ℕ, ◌++◌, Some, None, drop, slice_index, sym, ap, ◌∙◌, option_map, wrap, next, Prefetch, bytes_of_word}
 use Rattle.mic2_fetch_unit.proofs.Units.{edge_none, edge_some}
 use Rattle.mic2_fetch_unit.proofs.fetch_unit.FetchUnit.go_on.Goals as goal
 

@@ -1,7 +1,4 @@
-use Rattle.std.proofs.Common.{◌≡◌, ◌-◌, ◌<◌, true, length, ap, subst, ◌∙◌, arith}
-use Rattle.std.specs.Prelude.{nat_lt}
-use Rattle.std.proofs.lemmas.Bool.Decides.{nat_tests}
-use Rattle.mic2_fetch_unit.specs.Prelude.{IsUnit, Prefetch}
+use Rattle.mic2_fetch_unit.proofs.Common.{◌≡◌, ◌-◌, ◌<◌, true, length, ap, subst, ◌∙◌, arith, nat_lt, nat_tests, IsUnit, Prefetch}
 use Rattle.mic2_fetch_unit.proofs.Units.{full_samples}
 use Rattle.mic2_fetch_unit.proofs.fetch_unit.FetchUnit.is_full.Goals as goal
 

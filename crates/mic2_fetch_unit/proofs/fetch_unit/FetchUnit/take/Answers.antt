@@ -1,5 +1,4 @@
-use Rattle.std.proofs.Common.{◌≡◌, None, drop, sym, ap, subst, ◌∙◌, arith}
-use Rattle.mic2_fetch_unit.specs.Prelude.{IsUnit, Prefetch}
+use Rattle.mic2_fetch_unit.proofs.Common.{◌≡◌, None, drop, sym, ap, subst, ◌∙◌, arith, IsUnit, Prefetch}
 use Rattle.mic2_fetch_unit.proofs.Units.{edge_full, full_pending}
 use Rattle.mic2_fetch_unit.proofs.fetch_unit.FetchUnit.take.Goals as goal
 

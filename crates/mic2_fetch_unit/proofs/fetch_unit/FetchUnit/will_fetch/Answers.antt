@@ -1,7 +1,4 @@
-use Rattle.std.proofs.Common.{◌≡◌, ℕ, ◌+◌, ◌-◌, Some, None, length, if◌then◌else◌, sym, ap, subst, ◌∙◌, arith}
-use Rattle.std.specs.Prelude.{nat_le}
-use Rattle.mic_words.specs.Prelude.{wrap, next}
-use Rattle.mic2_fetch_unit.specs.Prelude.{IsUnit, Prefetch}
+use Rattle.mic2_fetch_unit.proofs.Common.{◌≡◌, ℕ, ◌+◌, ◌-◌, Some, None, length, if◌then◌else◌, sym, ap, subst, ◌∙◌, arith, nat_le, wrap, next, IsUnit, Prefetch}
 use Rattle.mic2_fetch_unit.proofs.Units.{full_samples, will_some}
 use Rattle.mic2_fetch_unit.proofs.fetch_unit.FetchUnit.will_fetch.Goals as goal
 

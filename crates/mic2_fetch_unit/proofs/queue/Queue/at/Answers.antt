@@ -1,5 +1,4 @@
-use Rattle.std.proofs.Common.{◌<◌, ◌*◌, ◌/◌, ◌^◌, List, ℕ, length, get_or, ap, sym, ◌∙◌, arith}
-use Rattle.std.proofs.lemmas.Nat.{and_mask}
+use Rattle.mic2_fetch_unit.proofs.Common.{◌<◌, ◌*◌, ◌/◌, ◌^◌, List, ℕ, length, get_or, ap, sym, ◌∙◌, arith, and_mask}
 use Rattle.mic2_fetch_unit.proofs.Packed.{length-bytes_in, byte-bytes_in}
 use Rattle.mic2_fetch_unit.proofs.queue.Queue.at.Goals as goal
 

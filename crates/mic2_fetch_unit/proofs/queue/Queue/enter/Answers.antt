@@ -1,6 +1,5 @@
-use Rattle.std.proofs.Common.{◌≡◌, ◌+◌, ◌-◌, ◌*◌, ◌/◌, ◌%◌, ◌^◌, ◌<◌, ◌++◌, ℕ, length, drop, bit_or, ap, sym, subst, ◌∙◌, arith}
-use Rattle.std.proofs.lemmas.Nat.{shr_below}
-use Rattle.mic2_fetch_unit.specs.Prelude.{bytes_of_word, bytes_in}
+use Rattle.mic2_fetch_unit.proofs.Common.{◌≡◌, ◌+◌, ◌-◌, ◌*◌, ◌/◌, ◌%◌, ◌^◌, ◌<◌, ◌++◌, ℕ, length, drop, bit_or, ap, sym, subst, ◌∙◌, arith, shr_below}
+use Rattle.mic2_fetch_unit.proofs.Common.{bytes_of_word, bytes_in}
 use Rattle.mic2_fetch_unit.proofs.Packed.{length-bytes_in, append-bytes_in, word_without, or_behind, behind-lt}
 use Rattle.mic2_fetch_unit.proofs.queue.Queue.enter.Goals as goal
 

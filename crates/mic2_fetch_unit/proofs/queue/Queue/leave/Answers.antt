@@ -1,5 +1,4 @@
-use Rattle.std.proofs.Common.{◌≡◌, ◌+◌, ◌*◌, ◌^◌, ◌<◌, ℕ, length, drop, ap, sym, subst, ◌∙◌, arith}
-use Rattle.std.proofs.lemmas.Nat.{shr_below}
+use Rattle.mic2_fetch_unit.proofs.Common.{◌≡◌, ◌+◌, ◌*◌, ◌^◌, ◌<◌, ℕ, length, drop, ap, sym, subst, ◌∙◌, arith, shr_below}
 use Rattle.mic2_fetch_unit.proofs.Packed.{length-bytes_in, drop-bytes_in}
 use Rattle.mic2_fetch_unit.proofs.queue.Queue.leave.Goals as goal
 

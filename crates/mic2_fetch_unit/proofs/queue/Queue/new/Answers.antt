@@ -1,5 +1,4 @@
-use Rattle.std.proofs.Common.{refl}
-use Rattle.mic2_fetch_unit.specs.Prelude.{bytes_in}
+use Rattle.mic2_fetch_unit.proofs.Common.{refl, bytes_in}
 use Rattle.mic2_fetch_unit.proofs.queue.Queue.new.Goals as goal
 
 pub returns : goal.returns

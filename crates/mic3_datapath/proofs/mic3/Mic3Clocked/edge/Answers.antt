@@ -1,5 +1,4 @@
-use Rattle.std.proofs.Common.{sym}
-use Rattle.mic_datapath.specs.Prelude.{edge_waits, over_fails, unrefused}
+use Rattle.mic3_datapath.proofs.Common.{sym, edge_waits, over_fails, unrefused}
 use Rattle.mic3_datapath.specs.Prelude.{in_operand, mic3_meaning, pipeline_in}
 use Rattle.mic3_datapath.proofs.Steps.{asks, edge_done, moved, samples_clear, seen_after}
 use Rattle.mic3_datapath.proofs.mic3.Mic3Clocked.edge.Goals as goal

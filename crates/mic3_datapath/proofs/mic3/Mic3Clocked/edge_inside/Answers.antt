@@ -1,5 +1,4 @@
-use Rattle.std.proofs.Common.{sym}
-use Rattle.mic_datapath.specs.Prelude.{unrefused}
+use Rattle.mic3_datapath.proofs.Common.{sym, unrefused}
 use Rattle.mic3_datapath.specs.Prelude.{in_operand, pipeline_in}
 use Rattle.mic3_datapath.proofs.Steps.{edge_done, moved, samples_clear, seen_after}
 use Rattle.mic3_datapath.proofs.mic3.Mic3Clocked.edge_inside.Goals as goal

@@ -1,6 +1,4 @@
-use Rattle.std.proofs.Common.{◌≡◌, ◌∙◌}
-use Rattle.mic_datapath.specs.Prelude.{registers_at}
-use Rattle.mic2_datapath.specs.Prelude.{unit_after}
+use Rattle.mic3_datapath.proofs.Common.{◌≡◌, ◌∙◌, registers_at, unit_after}
 use Rattle.mic3_datapath.specs.Prelude.{computed_in, is_jump_coming, settled, in_operand, in_result, pipeline_in, retired_in}
 use Rattle.mic3_datapath.proofs.pipeline.Pipeline.advance.Goals as goal
 

@@ -1,6 +1,4 @@
-use Rattle.std.proofs.Common.{◌∙◌}
-use Rattle.mic_datapath.specs.Prelude.{ports_given}
-use Rattle.mic2_datapath.specs.Prelude.{unit_refusal, unit_samples}
+use Rattle.mic3_datapath.proofs.Common.{◌∙◌, ports_given, unit_refusal, unit_samples}
 use Rattle.mic3_datapath.specs.Prelude.{retired_in}
 use Rattle.mic3_datapath.proofs.pipeline.Pipeline.asked.Goals as goal
 

@@ -1,6 +1,5 @@
-use Rattle.std.proofs.Common.{◌≤◌, ℕ, Bool, false, length, subst, sym, ap, ◌∙◌}
+use Rattle.mic3_datapath.proofs.Common.{◌≤◌, ℕ, Bool, false, length, subst, sym, ap, ◌∙◌, statement_of}
 use Rattle.mic_words.specs.declared.machine.Machine.TheVariants as machines
-use Rattle.micro_word.specs.Prelude.{statement_of}
 use Rattle.mic3_datapath.specs.Prelude.{driven, driven_by, pipeline_in}
 use Rattle.mic3_datapath.proofs.Steps.{enough, issued_if}
 use Rattle.mic3_datapath.proofs.pipeline.Pipeline.drive.Goals as goal

@@ -1,6 +1,5 @@
-use Rattle.std.proofs.Common.{◌∙◌, sym}
+use Rattle.mic3_datapath.proofs.Common.{◌∙◌, sym, statement_of}
 use Rattle.mic_words.specs.declared.machine.Machine.TheVariants as machines
-use Rattle.micro_word.specs.Prelude.{statement_of}
 use Rattle.mic3_datapath.specs.Prelude.{pipeline_in}
 use Rattle.mic3_datapath.proofs.Steps.{enough, none_issued, nothing_on_b, one_issued, waits_there}
 use Rattle.mic3_datapath.proofs.pipeline.Pipeline.issue.Goals as goal

@@ -1,6 +1,4 @@
-use Rattle.std.proofs.Common.{ℕ, List, Result, Ok, Err, take, refl}
-use Rattle.std.specs.Prelude.{IsUtf8}
-use Rattle.std.specs.Result.{IsOk, MatchResult}
+use Rattle.mic_base.proofs.Common.{ℕ, List, Result, Ok, Err, take, refl, IsUtf8, IsOk, MatchResult}
 use Rattle.mic_base.proofs.NameLemmas.{IsUtf8-name}
 use Rattle.mic_base.proofs.name.Name.text.Goals as goal
 

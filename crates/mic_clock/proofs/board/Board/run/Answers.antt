@@ -1,6 +1,5 @@
-use Rattle.std.proofs.Common.{◌≡◌, ◌≤◌, ℕ, max, [], Option, None, Some, IsSome, inl, inr, refl, sym, ◌∙◌, ap, subst, rules, arith}
+use Rattle.mic_clock.proofs.Common.{◌≡◌, ◌≤◌, ℕ, max, [], Option, None, Some, IsSome, inl, inr, refl, sym, ◌∙◌, ap, subst, rules, arith, ControlStore}
 use Rattle.console_port.specs.declared.fault.BusFault.TheVariants as faults
-use Rattle.micro_word.specs.Prelude.{ControlStore}
 use Rattle.mic_clock.specs.declared.end.End.TheVariants as ends
 use Rattle.mic_clock.specs.Prelude.{BoardView, MicroRun, last_cycles, ShowsRun, NoFault, IsCutByRead, IsCutByWrite, IsLedTo-map, Leads-on, Leads-flushed, IsCutByWrite-lost, goes-then}
 use Rattle.mic_clock.proofs.GoesOn.{GoesOn-finish}

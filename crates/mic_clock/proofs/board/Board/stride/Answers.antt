@@ -1,6 +1,4 @@
-use Rattle.std.proofs.Common.{◌≡◌, ℕ, None, Some, Option, suc, sym, ◌∙◌, ap, subst}
-use Rattle.micro_word.specs.Prelude.{ControlStore}
-use Rattle.mic_clock.specs.declared.end.End.{End}
+use Rattle.mic_clock.proofs.Common.{◌≡◌, ℕ, None, Some, Option, suc, sym, ◌∙◌, ap, subst, ControlStore, End}
 use Rattle.mic_clock.specs.Prelude.{MicroRun, NoFault, IsCutByRead, IsCutByWrite, IsLedTo-map, Leads-on}
 use Rattle.mic_clock.proofs.Reach.{Leads-turn, TurnIsCut-run}
 use Rattle.mic_clock.proofs.board.Board.stride.Given.{Over}

@@ -1,6 +1,5 @@
-use Rattle.std.proofs.Common.{◌≡◌, ℕ, None, Some, IsSome, Option, List, ◌∙◌, ap, sym, subst, refl, rules}
+use Rattle.mic_clock.proofs.Common.{◌≡◌, ℕ, None, Some, IsSome, Option, List, ◌∙◌, ap, sym, subst, refl, rules, End}
 use Rattle.console_port.specs.declared.fault.BusFault.TheVariants as faults
-use Rattle.mic_clock.specs.declared.end.End.{End}
 use Rattle.mic_clock.specs.Prelude.{BoardView, MicroRun, bounded, word_at, ShowsAs, IsTurned, IsCutByFault, NoFault, IsCountedTurn, InTime, IsLedTo-map}
 use Rattle.mic_clock.proofs.InTime.{InTime-step}
 use Rattle.mic_clock.proofs.Reach.{Leads-start, Leads-read, bound-cut, cycle-cut, IsTurned-bounded, unstopped}

@@ -1,9 +1,6 @@
-use Rattle.std.proofs.Common.{◌≡◌, ◌⊎◌, ◌+◌, ◌<◌, ◌++◌, ◌∙◌, ◌^◌, ℕ, [], None, Ok, IsSome, refl, sym, ap, rules}
-use Rattle.micro_word.specs.Prelude.{ControlStore}
+use Rattle.mic_debugger.proofs.Common.{◌≡◌, ◌⊎◌, ◌+◌, ◌<◌, ◌++◌, ◌∙◌, ◌^◌, ℕ, [], None, Ok, IsSome, refl, sym, ap, rules, ControlStore, puts_nothing, puts_then}
+use Rattle.mic_debugger.proofs.Common.{on_err_of, no_fault}
 use Rattle.mic_debugger.specs.Prelude.{session_at, streams, text_between}
-use Rattle.mic_base.specs.Prelude.{puts_nothing, puts_then}
-use Rattle.cli_session.specs.Prelude.{on_err_of}
-use Rattle.mic_clock.specs.Prelude.{no_fault}
 use Rattle.mic_debugger.proofs.Breaking.{broken_more, either_end}
 use Rattle.mic_debugger.proofs.Underway.{underway_start, underway_more, underway_stopped, clocked_of}
 use Rattle.mic_debugger.proofs.Carrying.{clocked_broken, failed_after}

@@ -1,5 +1,4 @@
-use Rattle.std.proofs.Common.{◌≡◌, ℕ, ◌+◌, ◌-◌, ◌^◌, None, is_some, if◌then◌else◌}
-use Rattle.mic_clock.specs.Prelude.{InTime}
+use Rattle.mic_debugger.proofs.Common.{◌≡◌, ℕ, ◌+◌, ◌-◌, ◌^◌, None, is_some, if◌then◌else◌, InTime}
 use Rattle.mic_debugger.specs.declared.plan.Plan.TheVariants as plans
 use Rattle.mic_debugger.specs.Prelude.{StopsTo, session_at, GoesThrough, KeepFronts, streams, HasReadCause, IsUnderway}
 use Rattle.mic_debugger.proofs.clocking.Clocking.clock.Given as goal

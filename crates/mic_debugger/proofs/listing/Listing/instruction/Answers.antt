@@ -1,8 +1,5 @@
-use Rattle.std.proofs.Common.{◌≡◌, ℕ, List, ◌++◌, codes, Some, refl, ◌∙◌, ap, subst, append_assoc, rules}
-use Rattle.mic_base.specs.Prelude.{hex_text}
+use Rattle.mic_debugger.proofs.Common.{◌≡◌, ℕ, List, ◌++◌, codes, Some, refl, ◌∙◌, ap, subst, append_assoc, rules, hex_text, IsKind, Start}
 use Rattle.ijvm_instr.specs.Prelude.{instr_at, instr_text}
-use Rattle.verifier_facts.specs.Prelude.{IsKind}
-use Rattle.verifier_facts.specs.declared.kind.Kind.TheVariants.{Start}
 use Rattle.mic_debugger.specs.Prelude.{ListingView}
 use Rattle.mic_debugger.proofs.listing.Listing.instruction.Goals as goal
 

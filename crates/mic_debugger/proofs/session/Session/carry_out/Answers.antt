@@ -1,7 +1,4 @@
-use Rattle.std.proofs.Common.{subst}
-use Rattle.std.proofs.lemmas.Result.{on_err_weaker, on_ok_weaker}
-use Rattle.cli_outside.specs.Prelude.{sink_of}
-use Rattle.mic_debugger.specs.declared.plan.Plan.{Plan}
+use Rattle.mic_debugger.proofs.Common.{subst, on_err_weaker, on_ok_weaker, sink_of, Plan}
 use Rattle.mic_debugger.specs.declared.plan.Plan.TheVariants as plans
 use Rattle.mic_debugger.specs.Prelude.{IsCarriedOut, IsPlanBroken, Streams, streams, SessionView}
 use Rattle.mic_debugger.proofs.Breaking.{shown_in_part, shown_whole}

@@ -1,11 +1,6 @@
-use Rattle.std.proofs.Common.{◌≡◌, ℕ, List, Option, Result, refl, sym, ◌∙◌, ap, subst}
-use Rattle.mic_clock.specs.Prelude.{BoardView, ShowsAs}
+use Rattle.mic_debugger.proofs.Common.{◌≡◌, ℕ, List, Option, Result, refl, sym, ◌∙◌, ap, subst, BoardView, ShowsAs, CommandError, Plan, Verb, on_err_of}
 use Rattle.cli_session.specs.declared.reading.Command.{Command}
-use Rattle.cli_session.specs.declared.reading.CommandError.{CommandError}
-use Rattle.mic_debugger.specs.declared.plan.Plan.{Plan}
-use Rattle.mic_debugger.specs.declared.table.Verb.{Verb}
 use Rattle.mic_debugger.specs.Prelude.{command_of, IsCarriedOut, IsPlanBroken, plan_in, Streams, streams, breaks_after, plan_of, watched_after, SessionView}
-use Rattle.cli_session.specs.Prelude.{on_err_of}
 use Rattle.mic_debugger.proofs.Breaking.{flush_broken, plan_broken, stands_flushed}
 use Rattle.mic_debugger.proofs.Carrying.{failed_after, through_flushed}
 use Rattle.mic_debugger.proofs.session.Session.command.Given.{Over}

@@ -1,9 +1,6 @@
 use Rattle.std.proofs.Common.{◌≡◌, ◌∙◌, sym, ap, subst, refl, ℕ, ◌<◌, ◌-◌, List, [], ◌∷◌, ◌++◌, length, arith, None}
-use Rattle.circular_buffer.specs.Buffer.{Buffer, buffer}
-use Rattle.mic_clock.specs.Prelude.{tick_of}
-use Rattle.mic_rewind.specs.declared.kept_cycle.KeptCycle.{KeptCycle}
-use Rattle.mic_rewind.specs.declared.moment.Moment.{Moment}
-use Rattle.mic_rewind.specs.Prelude.{Fits, begun, stored, AreKept, HistoryView, appended, begun_at, first_in, kept_in, moment_at, view_from}
+use Rattle.mic_rewind.proofs.Common.{Buffer, buffer, tick_of, KeptCycle, Moment, Fits, begun, stored, AreKept, HistoryView, appended, begun_at, first_in}
+use Rattle.mic_rewind.proofs.Common.{kept_in, moment_at, view_from}
 use Rattle.mic_rewind.proofs.Zipping.{behind-length}
 use Rattle.mic_rewind.proofs.Placed.{placed_ahead, goes_ahead}
 use Rattle.mic_rewind.proofs.Spare.{rolled, rolled_first, rolled_kept}

@@ -1,7 +1,5 @@
 use Rattle.std.proofs.Common.{◌≡◌, ◌∙◌, sym, ap, subst, refl, ℕ, ◌+◌, ◌-◌, ◌<◌, ◌≤◌, List, [], length, arith, Some, Option, option_copied, slice_get, rules}
-use Rattle.std.specs.Option.{IsSome}
-use Rattle.mic_rewind.specs.declared.kept_cycle.KeptCycle.{KeptCycle}
-use Rattle.mic_rewind.specs.Prelude.{AreKept, GoesBack, HistoryView, first_in, kept_in, view_from}
+use Rattle.mic_rewind.proofs.Common.{IsSome, KeptCycle, AreKept, GoesBack, HistoryView, first_in, kept_in, view_from}
 use Rattle.mic_rewind.proofs.Begun.{begun-length}
 use Rattle.mic_rewind.proofs.Zipping.{is_there}
 use Rattle.mic_rewind.proofs.Keeping.{emptied}

@@ -1,8 +1,5 @@
 use Rattle.std.proofs.Common.{◌≡◌, ◌∙◌, sym, ap, subst, ℕ, ◌-◌, ◌<◌, ◌≤◌, List, length, arith, Option, Some, None, option_copied, slice_get, rules}
-use Rattle.std.specs.Option.{IsSome}
-use Rattle.mic_rewind.specs.declared.kept_cycle.KeptCycle.{KeptCycle}
-use Rattle.mic_clock.specs.Prelude.{tick_of}
-use Rattle.mic_rewind.specs.Prelude.{AreKept, GoesBack, HistoryView, begun_at, first_in, kept_in, moment_at, view_from}
+use Rattle.mic_rewind.proofs.Common.{IsSome, KeptCycle, tick_of, AreKept, GoesBack, HistoryView, begun_at, first_in, kept_in, moment_at, view_from}
 use Rattle.mic_rewind.proofs.Begun.{begun-length}
 use Rattle.mic_rewind.proofs.Zipping.{behind-length, is_there}
 use Rattle.mic_rewind.proofs.Placed.{placed_on, goes_on, tick_on}

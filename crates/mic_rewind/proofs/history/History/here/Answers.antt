@@ -1,7 +1,5 @@
 use Rattle.std.proofs.Common.{rules, ◌≡◌, ◌∙◌, sym, ap, subst, ℕ, suc, ◌-◌, ◌<◌, ◌≤◌, length, arith, Option, Some, option_copied, slice_get}
-use Rattle.std.specs.Option.{IsSome}
-use Rattle.mic_rewind.specs.declared.kept_cycle.KeptCycle.{KeptCycle}
-use Rattle.mic_rewind.specs.Prelude.{led_from, HistoryView, first_in, kept_in}
+use Rattle.mic_rewind.proofs.Common.{IsSome, KeptCycle, led_from, HistoryView, first_in, kept_in}
 use Rattle.std.specs.Prelude.{take}
 use Rattle.mic_rewind.proofs.Begun.{begun-length, led-get}
 use Rattle.mic_rewind.proofs.Spare.{kept_in-length, moment_in}

@@ -1,9 +1,6 @@
 use Rattle.std.proofs.Common.{◌≡◌, ◌<◌, ◌∙◌, refl, sym, ap, subst, List, [], length, arith, Option, None, slice_get, rules}
-use Rattle.console_port.specs.Prelude.{BusView}
-use Rattle.mic_clock.specs.Prelude.{goes-nowhere, tick_of}
-use Rattle.mic_clock.specs.declared.end.End.{End}
-use Rattle.mic_rewind.specs.declared.moment.Moment.{Moment}
-use Rattle.mic_rewind.specs.Prelude.{Snapshot, HistoryView, appended, HasAddress, HaveAddresses, moment_of, state_of, newest}
+use Rattle.mic_rewind.proofs.Common.{BusView, goes-nowhere, tick_of, End, Moment, Snapshot, HistoryView, appended, HasAddress, HaveAddresses, moment_of}
+use Rattle.mic_rewind.proofs.Common.{state_of, newest}
 use Rattle.mic_rewind.proofs.Keeping.{addresses_kept, emptied, forth_keeps, grown_by, left_by, live, newest_here}
 use Rattle.mic_rewind.proofs.rewind.Rewind.forward.Given.{Over}
 use Rattle.mic_rewind.proofs.rewind.Rewind.forward.Goals as goal

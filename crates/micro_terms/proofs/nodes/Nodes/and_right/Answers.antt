@@ -1,6 +1,4 @@
-use Rattle.std.proofs.Common.{bit_and, ◌+◌, ◌-◌, ◌∙◌, ap}
-use Rattle.mic_words.specs.Arithmetic.{wrap}
-use Rattle.micro_terms.specs.Value.{value}
+use Rattle.micro_terms.proofs.Common.{bit_and, ◌+◌, ◌-◌, ◌∙◌, ap, wrap, value}
 use Rattle.micro_terms.proofs.Bits.{and_rest_right}
 use Rattle.micro_terms.proofs.Weights.{value_lt}
 use Rattle.micro_terms.proofs.nodes.Nodes.and_right.Goals as goal

@@ -1,6 +1,4 @@
-use Rattle.std.proofs.Common.{List, sym, ◌∙◌, subst}
-use Rattle.micro_terms.specs.Ranges.{IsLimited}
-use Rattle.micro_terms.specs.declared.node.Node.{Node}
+use Rattle.micro_terms.proofs.Common.{List, sym, ◌∙◌, subst, IsLimited, Node}
 use Rattle.micro_terms.proofs.Limits.{limited}
 use Rattle.micro_terms.proofs.nodes.Nodes.are_apart.Goals as goal
 

@@ -1,6 +1,4 @@
-use Rattle.std.proofs.Common.{◌≡◌, Some, length, ap, ◌∙◌, sym, refl, arith}
-use Rattle.std.specs.Prelude.{slice_get}
-use Rattle.std.proofs.lemmas.Option.{slice_get_read}
+use Rattle.micro_terms.proofs.Common.{◌≡◌, Some, length, ap, ◌∙◌, sym, refl, arith, slice_get, slice_get_read}
 use Rattle.micro_terms.proofs.nodes.Nodes.find.Goals as goal
 
 pub returns-then-is_same : goal.returns-then-is_same

@@ -1,6 +1,4 @@
-use Rattle.std.proofs.Common.{◌+◌, ◌-◌, ◌∙◌}
-use Rattle.mic_words.specs.Arithmetic.{wrap}
-use Rattle.micro_terms.specs.Value.{value}
+use Rattle.micro_terms.proofs.Common.{◌+◌, ◌-◌, ◌∙◌, wrap, value}
 use Rattle.micro_terms.proofs.Bits.{or_is}
 use Rattle.micro_terms.proofs.Weights.{value_lt}
 use Rattle.micro_terms.proofs.nodes.Nodes.or.Goals as goal

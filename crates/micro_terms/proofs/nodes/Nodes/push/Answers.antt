@@ -1,6 +1,4 @@
-use Rattle.std.proofs.Common.{◌≡◌, List, [], ◌∷◌, ◌++◌, length, ap, ◌∙◌, arith}
-use Rattle.std.specs.Prelude.{slice_get}
-use Rattle.micro_terms.specs.declared.node.Node.{Node}
+use Rattle.micro_terms.proofs.Common.{◌≡◌, List, [], ◌∷◌, ◌++◌, length, ap, ◌∙◌, arith, slice_get, Node}
 use Rattle.micro_terms.proofs.Tables.{still_there, newest}
 use Rattle.micro_terms.proofs.nodes.Nodes.push.Goals as goal
 

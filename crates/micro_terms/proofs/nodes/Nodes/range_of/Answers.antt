@@ -1,8 +1,4 @@
-use Rattle.std.proofs.Common.{◌≡◌, List, Some, length, ap, ◌∙◌, sym, refl, subst}
-use Rattle.std.specs.Prelude.{slice_get}
-use Rattle.std.proofs.lemmas.Option.{slice_get_read}
-use Rattle.micro_terms.specs.Ranges.{IsLimited}
-use Rattle.micro_terms.specs.declared.node.Node.{Node}
+use Rattle.micro_terms.proofs.Common.{◌≡◌, List, Some, length, ap, ◌∙◌, sym, refl, subst, slice_get, slice_get_read, IsLimited, Node}
 use Rattle.micro_terms.proofs.Limits.{limited}
 use Rattle.micro_terms.proofs.nodes.Nodes.range_of.Goals as goal
 

@@ -1,5 +1,4 @@
-use Rattle.std.proofs.Common.{bit_and, ◌∙◌, ap, refl}
-use Rattle.micro_terms.specs.Value.{value}
+use Rattle.micro_terms.proofs.Common.{bit_and, ◌∙◌, ap, refl, value}
 use Rattle.micro_terms.proofs.Bits.{and_apart}
 use Rattle.micro_terms.proofs.nodes.Nodes.share_nothing.Goals as goal
 

@@ -1,5 +1,4 @@
-use Rattle.std.proofs.Common.{◌∙◌}
-use Rattle.std.proofs.lemmas.Nat.{and_comm}
+use Rattle.micro_terms.proofs.Common.{◌∙◌, and_comm}
 use Rattle.micro_terms.proofs.nodes.Nodes.shared.Goals as goal
 
 pub returns-then-right-left-clause-value : goal.returns-then-right-left-clause-value

@@ -1,6 +1,4 @@
-use Rattle.std.proofs.Common.{◌≡◌, Some, length, ap, ◌∙◌, sym, refl}
-use Rattle.std.specs.Prelude.{slice_get}
-use Rattle.std.proofs.lemmas.Option.{slice_get_read}
+use Rattle.micro_terms.proofs.Common.{◌≡◌, Some, length, ap, ◌∙◌, sym, refl, slice_get, slice_get_read}
 use Rattle.micro_terms.proofs.nodes.Nodes.term_of.Goals as goal
 
 pub returns-in_ok-term-in-Some : goal.returns-in_ok-term-in-Some

@@ -1,8 +1,4 @@
-use Rattle.std.proofs.Common.{◌≡◌, ℕ, Option, Some, None, length, ap, ◌∙◌, sym, refl}
-use Rattle.std.specs.Prelude.{slice_get, IfSome}
-use Rattle.std.proofs.lemmas.Option.{slice_get_read}
-use Rattle.micro_terms.specs.Environment.{Environment}
-use Rattle.micro_terms.specs.Meaning.{IsNode, Holds}
+use Rattle.micro_terms.proofs.Common.{◌≡◌, ℕ, Option, Some, None, length, ap, ◌∙◌, sym, refl, slice_get, IfSome, slice_get_read, Environment, IsNode, Holds}
 use Rattle.micro_terms.proofs.nodes.Nodes.word_of.Goals as goal
 
 weaker : {T : Type 0} (o : Option T) (P Q : T → Type 0) → ((x : T) → P x → Q x) → IfSome o P → IfSome o Q

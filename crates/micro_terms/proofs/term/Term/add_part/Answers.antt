@@ -1,8 +1,4 @@
-use Rattle.std.proofs.Common.{◌≡◌, ℕ, ◌+◌, ◌<◌, length, List, ◌∙◌, ap, sym, refl, get_or, arith, rules}
-use Rattle.std.proofs.lemmas.List.{get_or_read}
-use Rattle.mic_words.specs.Arithmetic.{wrap}
-use Rattle.micro_terms.specs.Value.{value, weight}
-use Rattle.micro_terms.specs.declared.part.Part.{Part}
+use Rattle.micro_terms.proofs.Common.{◌≡◌, ℕ, ◌+◌, ◌<◌, length, List, ◌∙◌, ap, sym, refl, get_or, arith, rules, get_or_read, wrap, value, weight, Part}
 use Rattle.micro_terms.proofs.Modular.{is_wrap, grown}
 use Rattle.micro_terms.proofs.Weights.{part_weight, after_set, after_remove, after_insert}
 use Rattle.micro_terms.proofs.term.Term.add_part.Goals as goal

@@ -1,7 +1,4 @@
-use Rattle.std.proofs.Common.{◌+◌, [], ◌∷◌, ◌++◌, ap, ◌∙◌}
-use Rattle.mic_words.specs.Arithmetic.{wrap}
-use Rattle.micro_terms.specs.Value.{value, weight}
-use Rattle.micro_terms.specs.declared.part.Part.{Part}
+use Rattle.micro_terms.proofs.Common.{◌+◌, [], ◌∷◌, ◌++◌, ap, ◌∙◌, wrap, value, weight, Part}
 use Rattle.micro_terms.proofs.Modular.{wrap_once}
 use Rattle.micro_terms.proofs.term.Term.once.Goals as goal
 

@@ -1,10 +1,4 @@
-use Rattle.std.proofs.Common.{◌≡◌, ℕ, ◌+◌, ◌%◌, List, ◌∙◌, ap, sym, take, take_all, get_or}
-use Rattle.std.proofs.Math.Nat.{add-zero}
-use Rattle.std.proofs.lemmas.List.Sums.{sum_by_more}
-use Rattle.mic_words.specs.Arithmetic.{wrap}
-use Rattle.micro_terms.specs.Value.{value, weight}
-use Rattle.micro_terms.specs.declared.part.Part.{Part}
-use Rattle.micro_terms.specs.declared.term.Term.{Term}
+use Rattle.micro_terms.proofs.Common.{◌≡◌, ℕ, ◌+◌, ◌%◌, List, ◌∙◌, ap, sym, take, take_all, get_or, add-zero, sum_by_more, wrap, value, weight, Part, Term}
 use Rattle.micro_terms.proofs.Modular.{is_wrap, wrap_word, both, one_more}
 use Rattle.micro_terms.proofs.Weights.{part_weight, value_lt}
 use Rattle.micro_terms.proofs.term.Term.plus.Goals as goal

@@ -1,5 +1,4 @@
-use Rattle.std.proofs.Common.{ℕ, IsTrue, replicate, ap, subst, sym}
-use Rattle.std.proofs.lemmas.List.{get_or-replicate, length-replicate}
+use Rattle.micro_word.proofs.Common.{ℕ, IsTrue, replicate, ap, subst, sym, get_or-replicate, length-replicate}
 use Rattle.micro_word.specs.Prelude.{is_canonical}
 use Rattle.micro_word.proofs.Decoded.{decoded_everywhere}
 use Rattle.micro_word.proofs.store.Store.filled.Goals as goal

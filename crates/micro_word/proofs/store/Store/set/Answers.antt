@@ -1,5 +1,4 @@
-use Rattle.std.proofs.Common.{◌∙◌}
-use Rattle.std.proofs.lemmas.List.{length-set}
+use Rattle.std.proofs.Common.{◌∙◌, length-set}
 use Rattle.micro_word.proofs.Decoded.{canonical_there, decoded_there}
 use Rattle.micro_word.proofs.store.Store.set.Goals as goal
 

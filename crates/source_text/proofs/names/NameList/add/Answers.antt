@@ -1,6 +1,4 @@
-use Rattle.std.proofs.Common.{◌≡◌, ◌<◌, ◌++◌, ◌∷◌, [], ◌∙◌, ap, subst, sym, cond, length, None, arith}
-use Rattle.std.specs.Prelude.{is_ok}
-use Rattle.source_text.specs.Prelude.{ArePlaces, place_of_name}
+use Rattle.source_text.proofs.Common.{◌≡◌, ◌<◌, ◌++◌, ◌∷◌, [], ◌∙◌, ap, subst, sym, cond, length, None, arith, is_ok, ArePlaces, place_of_name}
 use Rattle.source_text.proofs.Adding.{few_push, places_push}
 use Rattle.source_text.proofs.names.NameList.add.Goals as goal
 

@@ -1,9 +1,4 @@
-use Rattle.std.proofs.Common.{ℕ, ◌≡◌, length, map, refl, subst, arith}
-use Rattle.std.proofs.lemmas.List.{length-map}
-use Rattle.tiny_tree.specs.Prelude.{function_tree}
-use Rattle.tiny_code.specs.Prelude.{function_numbers}
-use Rattle.std.specs.List.{flat_map}
-use Rattle.tiny_pool.specs.Prelude.{HasSeen}
+use Rattle.tiny_pool.proofs.Common.{ℕ, ◌≡◌, length, map, refl, subst, arith, length-map, function_tree, function_numbers, flat_map, HasSeen}
 use Rattle.tiny_pool.proofs.Pools.{table_of}
 use Rattle.tiny_pool.proofs.table.Table.new.Goals as goal
 

@@ -1,8 +1,4 @@
-use Rattle.std.proofs.Common.{◌≡◌, ◌<◌, ◌⊎◌, ℕ, arith, inl, inr, max}
-use Rattle.std.specs.Int.{bit_at}
-use Rattle.std.proofs.lemmas.Nat.{le_or_l}
-use Rattle.std.proofs.lemmas.Nat.Bits.{bit_at_or, bit_at-lt}
-use Rattle.std.proofs.lemmas.Bool.{cases_eq}
+use Rattle.verifier_locals.proofs.Common.{◌≡◌, ◌<◌, ◌⊎◌, ℕ, arith, inl, inr, max, bit_at, le_or_l, bit_at_or, bit_at-lt, cases_eq}
 use Rattle.verifier_locals.proofs.local_set.LocalSet.joined.Goals as goal
 
 -- the larger of two bits

@@ -1,5 +1,4 @@
-use Rattle.std.proofs.Common.{◌∙◌, sym, w64}
-use Rattle.std.proofs.lemmas.Nat.Bits.{bit_at_set_same, bit_at_set_other}
+use Rattle.verifier_locals.proofs.Common.{◌∙◌, sym, w64, bit_at_set_same, bit_at_set_other}
 use Rattle.verifier_locals.proofs.local_set.LocalSet.with.Goals as goal
 
 pub returns-clause-added : goal.returns-clause-added

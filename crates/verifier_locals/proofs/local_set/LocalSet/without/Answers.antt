@@ -1,5 +1,4 @@
-use Rattle.std.proofs.Common.{◌∙◌, arith, sym, w64}
-use Rattle.std.proofs.lemmas.Nat.Bits.{bit_at_clear_same, bit_at_clear_other}
+use Rattle.verifier_locals.proofs.Common.{◌∙◌, arith, sym, w64, bit_at_clear_same, bit_at_clear_other}
 use Rattle.verifier_locals.proofs.local_set.LocalSet.without.Goals as goal
 
 pub returns-clause-taken : goal.returns-clause-taken

@@ -1,6 +1,4 @@
-use Rattle.std.proofs.Common.{◌≡◌, ◌∙◌, refl, sym, Some, length}
-use Rattle.std.specs.Prelude.{slice_get}
-use Rattle.std.proofs.lemmas.Option.{slice_get_read}
+use Rattle.verifier_locals.proofs.Common.{◌≡◌, ◌∙◌, refl, sym, Some, length, slice_get, slice_get_read}
 use Rattle.verifier_locals.proofs.Traces.{held_get, held_same, held_other}
 use Rattle.verifier_locals.proofs.trace.Trace.held.Goals as goal
 

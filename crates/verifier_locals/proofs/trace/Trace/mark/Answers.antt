@@ -1,7 +1,4 @@
-use Rattle.std.proofs.Common.{◌≡◌, ◌∙◌, ◌++◌, ◌∷◌, [], refl, sym, arith, ap, inl, inr, ℕ}
-use Rattle.std.specs.Int.{bit_at}
-use Rattle.verifier_locals.specs.declared.trace.Mark.{Mark}
-use Rattle.verifier_locals.specs.Prelude.{held, held_at}
+use Rattle.verifier_locals.proofs.Common.{◌≡◌, ◌∙◌, ◌++◌, ◌∷◌, [], refl, sym, arith, ap, inl, inr, ℕ, bit_at, Mark, held, held_at}
 use Rattle.verifier_locals.proofs.Traces.{held_same, marks_set, set_here, set_only}
 use Rattle.verifier_locals.proofs.trace.Trace.mark.Goals as goal
 

@@ -1,5 +1,4 @@
-use Rattle.std.proofs.Common.{inl, inr}
-use Rattle.std.proofs.lemmas.Result.{on_ok_weaker}
+use Rattle.verifier_locals.proofs.Common.{inl, inr, on_ok_weaker}
 use Rattle.verifier_locals.proofs.Traces.{way_below, marks_on}
 use Rattle.verifier_locals.proofs.trace.Trace.mark_ways.Goals as goal
 

@@ -1,5 +1,4 @@
-use Rattle.std.proofs.Common.{◌+◌, length}
-use Rattle.verifier_locals.specs.Prelude.{IsTracing, blanks}
+use Rattle.verifier_locals.proofs.Common.{◌+◌, length, IsTracing, blanks}
 use Rattle.verifier_locals.proofs.trace.Trace.trace.Given as goal
 
 abbrev pub invariant-loop-at : goal.invariant-loop-at

@@ -1,9 +1,5 @@
-use Rattle.std.proofs.Common.{◌≡◌, ◌∙◌, ℕ, ap, sym, arith, inl, inr, Some, None, ◌%◌}
-use Rattle.std.specs.Prelude.{slice_get, slice_index_or}
-use Rattle.std.specs.Int.{bit_at}
-use Rattle.std.proofs.lemmas.Option.{slice_get-get_or}
-use Rattle.verifier_locals.specs.declared.graph.Node.{Node}
-use Rattle.verifier_locals.specs.Prelude.{IsIn}
+use Rattle.verifier_locals.proofs.Common.{◌≡◌, ◌∙◌, ℕ, ap, sym, arith, inl, inr, Some, None, ◌%◌, slice_get, slice_index_or, bit_at, slice_get-get_or, Node}
+use Rattle.verifier_locals.proofs.Common.{IsIn}
 use Rattle.verifier_locals.proofs.trace.Trace.visit.Goals as goal
 
 abbrev nowhere : Node

@@ -1,5 +1,4 @@
-use Rattle.std.proofs.Common.{◌<◌, ◌+◌, ◌∙◌, arith, sym, length}
-use Rattle.verifier_reach.specs.Prelude.{kept_at}
+use Rattle.verifier_reach.proofs.Common.{◌<◌, ◌+◌, ◌∙◌, arith, sym, length, kept_at}
 use Rattle.verifier_reach.proofs.Keeping.{reach_in, empties_few, call_inside}
 use Rattle.verifier_reach.proofs.search.Search.enter.Goals as goal
 

@@ -1,6 +1,4 @@
-use Rattle.std.proofs.Common.{◌≡◌, [], ◌∷◌, ◌++◌, Some, None}
-use Rattle.std.proofs.lemmas.Option.{slice_get_within}
-use Rattle.verifier_reach.specs.Prelude.{get_set_same}
+use Rattle.verifier_reach.proofs.Common.{◌≡◌, [], ◌∷◌, ◌++◌, Some, None, slice_get_within, get_set_same}
 use Rattle.verifier_reach.proofs.Keeping.{search_set, grows_set}
 use Rattle.verifier_reach.proofs.search.Search.keep.Goals as goal
 

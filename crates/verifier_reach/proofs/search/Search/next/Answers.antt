@@ -1,6 +1,4 @@
-use Rattle.std.proofs.Common.{◌≡◌, ◌<◌, refl, arith, ap, ◌∙◌, Some, length}
-use Rattle.std.specs.Prelude.{slice_get}
-use Rattle.std.proofs.lemmas.Option.{slice_get_within, slice_get_read}
+use Rattle.verifier_reach.proofs.Common.{◌≡◌, ◌<◌, refl, arith, ap, ◌∙◌, Some, length, slice_get, slice_get_within, slice_get_read}
 use Rattle.verifier_reach.proofs.Keeping.{taken_kept}
 use Rattle.verifier_reach.proofs.search.Search.next.Goals as goal
 

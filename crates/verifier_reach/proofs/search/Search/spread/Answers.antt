@@ -1,9 +1,4 @@
-use Rattle.std.proofs.Common.{◌≡◌, arith, sym, subst, refl, inl, inr}
-use Rattle.std.proofs.lemmas.Int.{to_z-of_z, ints}
-use Rattle.std.proofs.lemmas.Result.{on_ok_weaker}
-use Rattle.ijvm_instr.specs.Prelude.{target}
-use Rattle.ijvm_instr.specs.declared.row.Flow.{Flow}
-use Rattle.verifier_facts.specs.Prelude.{HasNext, HasJump}
+use Rattle.verifier_reach.proofs.Common.{◌≡◌, arith, sym, subst, refl, inl, inr, to_z-of_z, ints, on_ok_weaker, target, Flow, HasNext, HasJump}
 use Rattle.verifier_reach.proofs.Keeping.{on_way, grows_on}
 use Rattle.verifier_reach.proofs.search.Search.spread.Goals as goal
 

@@ -1,6 +1,4 @@
-use Rattle.std.proofs.Common.{◌≡◌, inr}
-use Rattle.std.proofs.lemmas.Result.{err_from_is_err_and}
-use Rattle.verifier_reach.specs.Prelude.{kept_at, States}
+use Rattle.verifier_reach.proofs.Common.{◌≡◌, inr, err_from_is_err_and, kept_at, States}
 use Rattle.verifier_reach.proofs.Keeping.{wrong_holds}
 use Rattle.verifier_reach.proofs.search.Search.visit.Goals as goal
 

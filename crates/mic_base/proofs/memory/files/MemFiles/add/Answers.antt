@@ -1,7 +1,4 @@
-use Rattle.std.proofs.Common.{◌≡◌, ◌∙◌, Some, arith, sym, rules}
-use Rattle.std.specs.Prelude.{option_map}
-use Rattle.std.specs.BTreeMap.{get_by_text}
-use Rattle.std.proofs.lemmas.Map.Text.{text_keys}
+use Rattle.mic_base.proofs.Common.{◌≡◌, ◌∙◌, Some, arith, sym, rules, option_map, get_by_text, text_keys}
 use Rattle.mic_base.proofs.FileLemmas.{file_is}
 use Rattle.mic_base.proofs.memory.files.MemFiles.add.Goals as goal
 

@@ -1,5 +1,4 @@
-use Rattle.std.proofs.Common.{◌≡◌, ◌≤◌, ◌∙◌, ◌++◌, ap, arith, length, take, drop, sym, append_assoc, List, ℕ}
-use Rattle.std.proofs.lemmas.List.{take_all, take-append-drop}
+use Rattle.std.proofs.Common.{◌≡◌, ◌≤◌, ◌∙◌, ◌++◌, ap, arith, length, take, drop, sym, append_assoc, List, ℕ, take_all, take-append-drop}
 use Rattle.mic_base.proofs.memory.sink.MemSinkSink.flush.Goals as goal
 
 -- all bytes begin with those that had been passed on
