@@ -29,7 +29,7 @@ fn turns(count: &str) -> Result<Option<(u32, u32)>, Refusal> {
     let (first, last) = count.split_once("..").unwrap_or(("1", count));
     match (first.parse::<u32>(), last.parse::<u32>()) {
         (Ok(first), Ok(last)) => Ok(Some((first, last))),
-        _ => Err(Refusal("a mark has a space or a number behind it")),
+        _ => Err(Refusal("a mark has a space or a number after it")),
     }
 }
 

@@ -88,7 +88,7 @@ fn section_after(
         return Err(Refusal("no line of a case"));
     };
     if !section.part.may_precede(next) {
-        return Err(Refusal("the part stands behind a later one, or twice"));
+        return Err(Refusal("the part stands after a later one, or twice"));
     }
     put(case, section)?;
     begin(rt, case, next, head, rest)?;

@@ -20,11 +20,11 @@ use Rattle.cli_outside.specs.Status as exits
 use Rattle.cli_outside.specs.Work as work
 use Rattle.cli_run_texts.specs.Ends as texts
 use Rattle.cli_programs.specs.Reference as reference
-use Rattle.cli_boards.specs.Prepared as preparing
-use Rattle.cli_boards.specs.Cached as cached
-use Rattle.cli_boards.specs.OwnRun as own_run
-use Rattle.cli_boards.specs.Profiled as profiled
-use Rattle.cli_boards.specs.Traced as traced
+use Rattle.cli_clocked.specs.Prepared as preparing
+use Rattle.cli_clocked.specs.Cached as cached
+use Rattle.cli_clocked.specs.OwnRun as own_run
+use Rattle.cli_clocked.specs.Profiled as profiled
+use Rattle.cli_clocked.specs.Traced as traced
 use Rattle.cli_debug.specs.Debugged as debugging
 use Rattle.cli_rewind.specs.Rewound as rewound_by
 use Rattle.cli_session.specs.Goes as lines_of

@@ -7,7 +7,7 @@ use Rattle.cli_call.proofs.Common.{report as report_of, accesses_of, cache_line,
 use Rattle.mic_watched.specs.Prelude.{cycles_of}
 use Rattle.mic1_datapath.specs.declared.mic1.Mic1.{Mic1 as Datapath}
 use Rattle.mic_clock.specs.declared.end.End.TheVariants as ends
-use Rattle.cli_boards.specs.Cached as caching
+use Rattle.cli_clocked.specs.Cached as caching
 use Rattle.cli_call.specs.Prelude.{ClockedEnd, CutByRead, CutByWrite, Ran, CountsTheRun, IsQuiet}
 use Rattle.cli_call.proofs.Agreeing.{said, told_input}
 use Rattle.cli_call.proofs.SameRuns.{same_memory, same_runs}

@@ -60,9 +60,9 @@ pub use Rattle.cli_watchers.specs.Prelude.{accesses_of, cache_line, counts_of}
 pub use Rattle.cli_run_texts.specs.Prelude.{clocked_head, cycles_of, head, last_boundary, plain_head, status_of}
 pub use Rattle.cli_run_texts.specs.Report.{report}
 pub use Rattle.cli_programs.specs.Prelude.{EndsOver, IsAcceptedProgram, IsReferenceRun, IsRefusedProgram, IsRefusedTiny, IsReported, Reported, SoakEnds}
-pub use Rattle.cli_boards.specs.Prelude.{Clocked, EndsCache, EndsOwnRun, EndsPrepared, IsCached, IsChosenMicroprogram, IsFirstBoard, IsOwnRun, IsProfiled}
-pub use Rattle.cli_boards.specs.Prelude.{IsTraced, IsUnprepared, NoMicroprogram, NoProgram, NoneChosen, RunsThrough, Unprepared, job_in, report_on}
-pub use Rattle.cli_boards.specs.declared.job.Job.{Job}
+pub use Rattle.cli_clocked.specs.Prelude.{Clocked, EndsCache, EndsOwnRun, EndsPrepared, IsCached, IsChosenMicroprogram, IsFirstBoard, IsOwnRun, IsProfiled}
+pub use Rattle.cli_clocked.specs.Prelude.{IsTraced, IsUnprepared, NoMicroprogram, NoProgram, NoneChosen, RunsThrough, Unprepared, job_in, report_on}
+pub use Rattle.cli_clocked.specs.declared.job.Job.{Job}
 pub use Rattle.cli_session.specs.Prelude.{AreDone, EndsWithInput, Goes, IsNoInput, OnlyGives, most_lines, place}
 pub use Rattle.cli_session.specs.declared.lines.Step.{Step}
 pub use Rattle.cli_debug.specs.Prelude.{IsDebugged}

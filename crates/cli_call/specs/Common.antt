@@ -36,8 +36,8 @@ pub use Rattle.cli_run_texts.specs.Report.{report}
 pub use Rattle.cli_program_texts.specs.Prelude.{Lists, Summarizes}
 pub use Rattle.cli_programs.specs.Prelude.{Assembles, Compiles, EndsOver, EndsOverTiny, IsReferenceRun, SoakEnds}
 pub use Rattle.cli_micro.specs.Prelude.{MicroAnswers, PrintMicroAnswers}
-pub use Rattle.cli_boards.specs.Prelude.{EndsCache, EndsOwnRun, EndsProfile, EndsTrace, job_in, report_on}
-pub use Rattle.cli_boards.specs.declared.job.Job.{Job}
+pub use Rattle.cli_clocked.specs.Prelude.{EndsCache, EndsOwnRun, EndsProfile, EndsTrace, job_in, report_on}
+pub use Rattle.cli_clocked.specs.declared.job.Job.{Job}
 pub use Rattle.cli_session.specs.Prelude.{OnlyGives}
 pub use Rattle.cli_debug.specs.Prelude.{EndsDebug}
 pub use Rattle.cli_rewind.specs.Prelude.{EndsRewind}

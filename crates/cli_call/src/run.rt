@@ -5,7 +5,7 @@ ghost use Rattle.cli_call.specs.Common.{IsMap, Over, EndsOver, job_in};
 ghost use Rattle.cli_call.specs.CallEnds.{EndsRun};
 ghost use Rattle.cli_call.specs.ClockedEnd.{ClockedEnd};
 
-use cli_boards::{Job, run_own_file};
+use cli_clocked::{Job, run_own_file};
 use cli_outside::{Outside, Status};
 use cli_programs::program_in_file;
 use cli_run_texts::{clocked_report, status_of};

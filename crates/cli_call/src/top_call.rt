@@ -8,7 +8,7 @@ use crate::print::print_asked;
 use crate::run::{run_asked, run_file};
 use crate::tiny::run_tiny;
 use crate::usage::misused;
-use cli_boards::{Job, cache_file, profile_file, trace_file};
+use cli_clocked::{Job, cache_file, profile_file, trace_file};
 use cli_debug::debug_file;
 use cli_micro::micro;
 use cli_outside::{Outside, Status};

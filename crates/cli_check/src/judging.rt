@@ -8,7 +8,7 @@ ghost use Rattle.cli_check.specs.CheckEnds.{IsJudged, Judges};
 
 use crate::finding::not_shown_text;
 use crate::table::proved_text;
-use cli_boards::{Microprogram, placed_microprogram};
+use cli_clocked::{Microprogram, placed_microprogram};
 use cli_outside::{Outside, Status};
 use mal_shipped::Loaded;
 use mic_base::{Files, Sink, Source};

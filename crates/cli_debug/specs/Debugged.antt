@@ -9,9 +9,9 @@ use Rattle.mic_debugger.specs.Prelude.{session_at, SessionView, listing_of}
 use Rattle.cli_outside.specs.Status as exits
 use Rattle.cli_outside.specs.Prelude.{out_of_memory, LentView, Over, OutsideView, TellsOnErr}
 use Rattle.cli_run_texts.specs.Prelude.{left_report}
-use Rattle.cli_boards.specs.declared.job.Job.{Job}
-use Rattle.cli_boards.specs.Prelude.{EndsPrepared, IsFirstBoard}
-use Rattle.cli_boards.specs.declared.preparing.Prepared.{Prepared}
+use Rattle.cli_clocked.specs.declared.job.Job.{Job}
+use Rattle.cli_clocked.specs.Prelude.{EndsPrepared, IsFirstBoard}
+use Rattle.cli_clocked.specs.declared.preparing.Prepared.{Prepared}
 use Rattle.cli_session.specs.Prelude.{EndsWithInput, IsCutIn, IsNext, IsReadOut, most_lines, AreDone, IsCutShort, Place, place}
 use Rattle.cli_debug.specs.Stand.{is_quit}
 use Rattle.cli_debug.specs.Debugging.{DebuggingView, debugging, debugging_view}

@@ -38,5 +38,5 @@ module _ {M State : Type 0} (state : M → State) (m : Meaning State) (line : Li
   HasGone session input outside session' input' outside' =
       Gone (debugging state m) (line ∷ []) (place_at session input outside) (place_at session' input' outside')
 
-  abbrev pub IsCutAt : SessionView M → PlainSource → LentView → LentView → Type 0
-  IsCutAt session input old new = IsCutShort (debugging state m) line (place_at session input old) new.seen
+  abbrev pub IsCutInLine : SessionView M → PlainSource → LentView → LentView → Type 0
+  IsCutInLine session input old new = IsCutShort (debugging state m) line (place_at session input old) new.seen

@@ -3,11 +3,11 @@
 ghost use Rattle.std.specs.Prelude.{◌≤◌, ◌^◌};
 ghost use Rattle.console_port.specs.Prelude.{IsMap};
 ghost use Rattle.cli_outside.specs.Prelude.{Over, name_in};
-ghost use Rattle.cli_boards.specs.Prelude.{job_in};
+ghost use Rattle.cli_clocked.specs.Prelude.{job_in};
 ghost use Rattle.cli_debug.specs.Debugged.{EndsDebug};
 
 use crate::debug::debug_program;
-use cli_boards::{Job, prepare};
+use cli_clocked::{Job, prepare};
 use cli_outside::{Outside, Status};
 use cli_session::chosen_input;
 use mic_base::{Files, Sink, Source};

@@ -5,7 +5,7 @@ ghost use Rattle.cli_outside.specs.Prelude.{Over, TellsOnErr};
 ghost use Rattle.cli_debug.specs.Debugged.{DebugsPrepared, IsStart, left_report_on};
 
 use crate::debugging::Debugging;
-use cli_boards::{Microprogram, Prepared};
+use cli_clocked::{Microprogram, Prepared};
 use cli_outside::{Outside, Status};
 use cli_run_texts::left_report;
 use cli_session::{Step, do_lines};

@@ -1,7 +1,7 @@
 //! What does the lines of a debugger.
 
 ghost use Rattle.std.specs.Prelude.{◌≡◌, IfOk, OnOk, OnErr};
-ghost use Rattle.cli_debug.specs.Debugging.{HasGone, IsCutAt};
+ghost use Rattle.cli_debug.specs.Debugging.{HasGone, IsCutInLine};
 ghost use Rattle.cli_debug.specs.Stand.{is_quit, is_quit_reply};
 
 use cli_outside::Outside;
@@ -35,7 +35,7 @@ fn answer_line<M: Clocked, F: Files, S: Source, K: Sink, E: Sink>(
 ) -> Result<Reply, SessionFault>
     ensures quits { IfOk result (λ reply. is_quit_reply reply ≡ is_quit session.old.listing.memory line.now) }
     ensures done { OnOk result (HasGone M.state M.meaning line.now session.old input.old outside.old session.new input.new outside.new) }
-    ensures broken { OnErr result (IsCutAt M.state M.meaning line.now session.old input.old outside.old outside.new) }
+    ensures broken { OnErr result (IsCutInLine M.state M.meaning line.now session.old input.old outside.old outside.new) }
     ensures console { outside.new.seen.console ≡ outside.old.seen.console }
     ensures names { outside.new.names ≡ outside.old.names }
 {

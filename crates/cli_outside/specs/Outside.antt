@@ -106,8 +106,8 @@ SaysTo held passed faults old new = Says (sink_of held passed faults old) (sink_
 
 -- A call after another that has put a text: it puts this piece after the text, or leaves the text as it was put.
 
-abbrev pub PutsBehind : {E : Type 0} → Result Unit E → Option (List ℕ) → List ℕ → Result Unit E → Option (List ℕ) → Type 0
-PutsBehind said old piece result new = (first : Option (List ℕ)) (text : List ℕ) → Puts first text said old → Puts first (text ++ piece) result new
+abbrev pub PutsAfter : {E : Type 0} → Result Unit E → Option (List ℕ) → List ℕ → Result Unit E → Option (List ℕ) → Type 0
+PutsAfter said old piece result new = (first : Option (List ℕ)) (text : List ℕ) → Puts first text said old → Puts first (text ++ piece) result new
 
 abbrev pub StaysPut : {E : Type 0} → Result Unit E → Option (List ℕ) → Result Unit E → Option (List ℕ) → Type 0
 StaysPut said old result new = (first : Option (List ℕ)) (text : List ℕ) → Puts first text said old → Puts first text result new

@@ -4,7 +4,7 @@ ghost use Rattle.std.specs.Prelude.{◌≡◌, ℕ, OnOk};
 ghost use Rattle.mic_base.specs.Prelude.{HasCause, IsFlushed, KeepsFront};
 ghost use Rattle.cli_outside.specs.Status as exits;
 ghost use Rattle.cli_outside.specs.Messages.{message, out_of_memory};
-ghost use Rattle.cli_outside.specs.Outside.{PutsBehind, SaysTo, StaysPut};
+ghost use Rattle.cli_outside.specs.Outside.{PutsAfter, SaysTo, StaysPut};
 
 use crate::status::Status;
 use mic_base::{Sink, SinkFailed};
@@ -17,7 +17,7 @@ pub fn put_after<E: Sink>(
     err: &mut E,
     piece: &[u8],
 ) -> Result<(), SinkFailed>
-    ensures puts { PutsBehind said (E.held err.old) piece.now result (E.held err.new) }
+    ensures puts { PutsAfter said (E.held err.old) piece.now result (E.held err.new) }
     ensures keeps { KeepsFront (E.held err.old) (E.held err.new) }
     ensures passed { E.passed err.new ≡ E.passed err.old }
     ensures cause { (before : ℕ) → HasCause before (E.faults err.old) said → HasCause before (E.faults err.new) result }

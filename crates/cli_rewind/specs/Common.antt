@@ -14,9 +14,9 @@ pub use Rattle.mal_shipped.specs.declared.loaded.Loaded.{Loaded}
 pub use Rattle.verifier_facts.specs.Prelude.{VerifiedView}
 pub use Rattle.cli_outside.specs.Prelude.{FilesState, Got, GotInPart, LentView, OutsideView, Over, SinkState, SourceState, TellsOnErr, name_in, out_of_memory}
 pub use Rattle.cli_outside.specs.Prelude.{outside_view, sink_of}
-pub use Rattle.cli_boards.specs.Prelude.{EndsPrepared, IsFirstBoard, job_in}
-pub use Rattle.cli_boards.specs.declared.job.Job.{Job}
-pub use Rattle.cli_boards.specs.declared.preparing.Prepared.{Prepared}
+pub use Rattle.cli_clocked.specs.Prelude.{EndsPrepared, IsFirstBoard, job_in}
+pub use Rattle.cli_clocked.specs.declared.job.Job.{Job}
+pub use Rattle.cli_clocked.specs.declared.preparing.Prepared.{Prepared}
 pub use Rattle.cli_session.specs.Prelude.{CommandForm, EndsWithInput, Goes, Gone, IsCutShort, IsFrontOf, OnlyGives, SessionMeaning, command_form, command_in}
 pub use Rattle.cli_session.specs.Prelude.{end_line, is_quit_in, most_lines, place, state_text, word_line}
 pub use Rattle.cli_session.specs.declared.lines.Step.{Step}

@@ -51,5 +51,5 @@ rewinding state m =
     }
 
 -- `out` or `err` failed in a line
-abbrev pub IsCutAt : {M State : Type 0} → (M → State) → Meaning State → List ℕ → ℕ → RewindView M → PlainSource → LentView → LentView → Type 0
-IsCutAt state m line memory rewind input old new = IsCutShort (rewinding state m) line (place (rewinding_at rewind memory input) old.seen) new.seen
+abbrev pub IsCutInLine : {M State : Type 0} → (M → State) → Meaning State → List ℕ → ℕ → RewindView M → PlainSource → LentView → LentView → Type 0
+IsCutInLine state m line memory rewind input old new = IsCutShort (rewinding state m) line (place (rewinding_at rewind memory input) old.seen) new.seen

@@ -5,7 +5,7 @@ ghost use Rattle.cli_rewind.specs.Common.{IsMap, Over, name_in, job_in};
 ghost use Rattle.cli_rewind.specs.Rewound.{EndsRewind};
 
 use crate::rewind::rewind_program;
-use cli_boards::{Job, prepare};
+use cli_clocked::{Job, prepare};
 use cli_outside::{Outside, Status};
 use cli_session::chosen_input;
 use mic_base::{Files, Sink, Source};

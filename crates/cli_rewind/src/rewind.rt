@@ -6,7 +6,7 @@ ghost use Rattle.cli_rewind.specs.Rewinding.{rewinding_at};
 ghost use Rattle.cli_rewind.specs.Rewound.{IsStartOf, RewindsPrepared, status_after};
 
 use crate::rewinding::Rewinding;
-use cli_boards::{Microprogram, Prepared};
+use cli_clocked::{Microprogram, Prepared};
 use cli_outside::{Outside, Status};
 use cli_session::{Step, do_lines};
 use mal_shipped::Loaded;

@@ -3,7 +3,7 @@
 ghost use Rattle.std.specs.Prelude.{◌≡◌, ◌∷◌, ℕ, suc, [], IfOk, OnOk, OnErr};
 ghost use Rattle.cli_rewind.specs.Common.{FilesState, SourceState, outside_view, sink_of, Gone, IsCutShort, place};
 ghost use Rattle.cli_rewind.specs.Commands.{is_quit};
-ghost use Rattle.cli_rewind.specs.Rewinding.{IsCutAt, Lasts, LastsOneLess, rewinding, rewinding_at};
+ghost use Rattle.cli_rewind.specs.Rewinding.{IsCutInLine, Lasts, LastsOneLess, rewinding, rewinding_at};
 
 use crate::replies::follow;
 use crate::table::{is_quit, read_command};
@@ -70,7 +70,7 @@ fn answer_line<M: Clocked, F: Files, S: Source, K: Sink, E: Sink>(
     ensures done { OnOk result (Gone (rewinding M.state M.meaning) (line.now ∷ [])
         (place (rewinding_at rewind.old words input.old) outside.old.seen)
         (place (rewinding_at rewind.new words input.new) outside.new.seen)) }
-    ensures broken { OnErr result (IsCutAt M.state M.meaning line.now words rewind.old input.old outside.old outside.new) }
+    ensures broken { OnErr result (IsCutInLine M.state M.meaning line.now words rewind.old input.old outside.old outside.new) }
     ensures console { outside.new.seen.console ≡ outside.old.seen.console }
     ensures names { outside.new.names ≡ outside.old.names }
 {

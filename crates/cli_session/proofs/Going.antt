@@ -10,7 +10,7 @@ use Rattle.cli_session.specs.declared.line.Read.{Read}
 use Rattle.cli_session.specs.declared.line.Read.TheVariants as reads
 use Rattle.cli_session.specs.declared.lines.Step.{Step}
 use Rattle.cli_session.specs.declared.lines.Step.TheVariants as steps
-use Rattle.cli_session.specs.Prelude.{IsCutLine, IsFirstLine, ReadsLineOf, behind_line, line_in, IsReadOn, IsReadOut, MayGoOn, left_after, lines_of, AreDone, AtOnce, DoesAll, Gone, IsCutShort, Place, SessionMeaning, Then, ConsoleFailed, Goes, On, Over, SinkFailed, step_behind}
+use Rattle.cli_session.specs.Prelude.{IsCutLine, IsFirstLine, ReadsLineOf, after_line, line_in, IsReadOn, IsReadOut, MayGoOn, left_after, lines_of, AreDone, AtOnce, DoesAll, Gone, IsCutShort, Place, SessionMeaning, Then, ConsoleFailed, Goes, On, Over, SinkFailed, step_after}
 
 -- ---- what is printed
 
@@ -26,17 +26,17 @@ prints_more (Some h) held' held'' a b p q = q ∙ ap (option_map (λ (x : List �
 
 -- the first of some bytes, and then the others, if it does not quit
 lines_first : (quits : List ℕ → Bool) (n : ℕ) (told line : List ℕ) → 0 < length told → line ≡ line_in 256 told →
-    lines_of quits (suc n) told ≡ line ∷ (if quits line then [] else lines_of quits n (behind_line 256 told))
+    lines_of quits (suc n) told ≡ line ∷ (if quits line then [] else lines_of quits n (after_line 256 told))
 lines_first quits n [] line some e = absurd (omega (arith, some))
 lines_first quits n (b ∷ bytes) line some e =
-    λ i. sym e i ∷ (if quits (sym e i) then [] else lines_of quits n (behind_line 256 (b ∷ bytes)))
+    λ i. sym e i ∷ (if quits (sym e i) then [] else lines_of quits n (after_line 256 (b ∷ bytes)))
 
 -- what is left after the first line of some bytes, and then after the others, if it does not quit
 left_first : (quits : List ℕ → Bool) (n : ℕ) (told line : List ℕ) → 0 < length told → line ≡ line_in 256 told →
-    left_after quits (suc n) told ≡ (if quits line then behind_line 256 told else left_after quits n (behind_line 256 told))
+    left_after quits (suc n) told ≡ (if quits line then after_line 256 told else left_after quits n (after_line 256 told))
 left_first quits n [] line some e = absurd (omega (arith, some))
 left_first quits n (b ∷ bytes) line some e =
-    λ i. if quits (sym e i) then behind_line 256 (b ∷ bytes) else left_after quits n (behind_line 256 (b ∷ bytes))
+    λ i. if quits (sym e i) then after_line 256 (b ∷ bytes) else left_after quits n (after_line 256 (b ∷ bytes))
 
 none_left : (quits : List ℕ → Bool) (n : ℕ) → left_after quits n [] ≡ []
 none_left quits zero = refl
@@ -80,24 +80,24 @@ module _ (quits : List ℕ → Bool) (n : ℕ) (bytes line : List ℕ) (left : O
   quit_at is first =
       record {
         whole = sym (lines_first quits n bytes line first.some first.line_is
-            ∙ ap (λ (q : Bool). line ∷ (if q then [] else lines_of quits n (behind_line 256 bytes))) is);
+            ∙ ap (λ (q : Bool). line ∷ (if q then [] else lines_of quits n (after_line 256 bytes))) is);
         left_is = first.rest ∙ ap Some (sym (left_first quits n bytes line first.some first.line_is
-            ∙ ap (λ (q : Bool). if q then behind_line 256 bytes else left_after quits n (behind_line 256 bytes)) is));
+            ∙ ap (λ (q : Bool). if q then after_line 256 bytes else left_after quits n (after_line 256 bytes)) is));
       }
 
   -- the line does not quit
-  on_at : quits line ≡ false → IsFirstLine bytes line left → IsReadOn quits (suc n) n bytes (line ∷ []) (behind_line 256 bytes)
+  on_at : quits line ≡ false → IsFirstLine bytes line left → IsReadOn quits (suc n) n bytes (line ∷ []) (after_line 256 bytes)
   on_at is first =
       record {
         open_end = opened_by quits n line is;
         whole = lines_first quits n bytes line first.some first.line_is
-            ∙ ap (λ (q : Bool). line ∷ (if q then [] else lines_of quits n (behind_line 256 bytes))) is;
+            ∙ ap (λ (q : Bool). line ∷ (if q then [] else lines_of quits n (after_line 256 bytes))) is;
         rest_is = left_first quits n bytes line first.some first.line_is
-            ∙ ap (λ (q : Bool). if q then behind_line 256 bytes else left_after quits n (behind_line 256 bytes)) is;
+            ∙ ap (λ (q : Bool). if q then after_line 256 bytes else left_after quits n (after_line 256 bytes)) is;
       }
 
   -- nothing follows the line
-  last_at : quits line ≡ false → IsFirstLine bytes line left → behind_line 256 bytes ≡ [] → IsReadOut quits (suc n) bytes (line ∷ []) left
+  last_at : quits line ≡ false → IsFirstLine bytes line left → after_line 256 bytes ≡ [] → IsReadOut quits (suc n) bytes (line ∷ []) left
   last_at is first none =
       let on = on_at is first in
       record {
@@ -288,11 +288,11 @@ module _ {Seen Rules Stand : Type 0} {m : SessionMeaning Seen Rules Stand} where
       SinkFailed [] line mid (at_once (omega arith) done) quiet (told_as old.seen.console.left _ _ told (λ bytes q. (_, by read other bytes q))) cut
     where
       first_is : (bytes : List ℕ) → IsFirstLine bytes line new.seen.console.left →
-          lines_of (m.quits old.session) (suc n) bytes ≡ line ∷ (if m.quits old.session line then [] else lines_of (m.quits old.session) n (behind_line 256 bytes))
+          lines_of (m.quits old.session) (suc n) bytes ≡ line ∷ (if m.quits old.session line then [] else lines_of (m.quits old.session) n (after_line 256 bytes))
       first_is bytes first = lines_first (m.quits old.session) n bytes line first.some first.line_is
 
       by : (one : Read) → one ≢ reads.Nothing → (bytes : List ℕ) → ReadsLineOf {E = E} bytes line (Ok one) new.seen.console.left →
-          lines_of (m.quits old.session) (suc n) bytes ≡ line ∷ (if m.quits old.session line then [] else lines_of (m.quits old.session) n (behind_line 256 bytes))
+          lines_of (m.quits old.session) (suc n) bytes ≡ line ∷ (if m.quits old.session line then [] else lines_of (m.quits old.session) n (after_line 256 bytes))
       by reads.Line well bytes first = first_is bytes first
       by reads.Last well bytes first = first_is bytes first.0
       by reads.Nothing well bytes none = absurd (well refl)
@@ -300,7 +300,7 @@ module _ {Seen Rules Stand : Type 0} {m : SessionMeaning Seen Rules Stand} where
   -- a line is done
   pub goes_one : (E : Type 0) (n : ℕ) {old new : Place Seen} (line : List ℕ) (read : Read) (stops : Bool) → stops ≡ m.quits old.session line → read ≢ reads.Nothing →
       Gone m (line ∷ []) old new → new.seen.console.faults ≡ old.seen.console.faults →
-      IfSome old.seen.console.left (λ told. ReadsLineOf {E = E} told line (Ok read) new.seen.console.left) → Goes m (suc n) n old new (step_behind read stops)
+      IfSome old.seen.console.left (λ told. ReadsLineOf {E = E} told line (Ok read) new.seen.console.left) → Goes m (suc n) n old new (step_after read stops)
   goes_one E n {old = old} {new = new} line reads.Line true is other done quiet told =
       Over (line ∷ []) (at_once (omega arith) done) quiet (told_as old.seen.console.left _ _ told (λ bytes first. quit_at (m.quits old.session) n bytes line new.seen.console.left (sym is) first))
   goes_one E n {old = old} {new = new} line reads.Last true is other done quiet told =
@@ -308,7 +308,7 @@ module _ {Seen Rules Stand : Type 0} {m : SessionMeaning Seen Rules Stand} where
   goes_one E n {old = old} {new = new} line reads.Line false is other done quiet told =
       On (line ∷ []) (at_once (omega arith) done) quiet
       (told_as old.seen.console.left _ _ told
-      (λ bytes first. (behind_line 256 bytes, first.rest, on_at (m.quits old.session) n bytes line new.seen.console.left (sym is) first)))
+      (λ bytes first. (after_line 256 bytes, first.rest, on_at (m.quits old.session) n bytes line new.seen.console.left (sym is) first)))
   goes_one E n {old = old} {new = new} line reads.Last false is other done quiet told =
       Over (line ∷ []) (at_once (omega arith) done) quiet
       (told_as old.seen.console.left _ _ told (λ bytes first. last_at (m.quits old.session) n bytes line new.seen.console.left (sym is) first.0 first.1))

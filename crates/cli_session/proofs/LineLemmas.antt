@@ -6,27 +6,27 @@ use Rattle.std.proofs.lemmas.Bool.Decides.{nat_tests}
 use Rattle.std.proofs.lemmas.List.{append-nil, length-append}
 use Rattle.std.proofs.lemmas.Option.{same_Some}
 use Rattle.cli_session.specs.declared.line.Read.TheVariants as reads
-use Rattle.cli_session.specs.Prelude.{IsFirstLine, ReadsLine, behind_line, line_in}
+use Rattle.cli_session.specs.Prelude.{IsFirstLine, ReadsLine, after_line, line_in}
 
 -- the bytes of the line that were read so far, and those that are left
 pub record IsUnderway (told line rest : List ℕ) : Type 0 where
   pub told_is : told ≡ line ++ rest
   pub small : length line ≤ 256
   pub line_is : line_in 256 told ≡ line ++ line_in (256 - length line) rest
-  pub behind : behind_line 256 told ≡ behind_line (256 - length line) rest
+  pub after : after_line 256 told ≡ after_line (256 - length line) rest
 
 -- the first byte of what is left goes to the line
 line_more : (n b : ℕ) (rest : List ℕ) → (b == 10) ≡ false → line_in (suc n) (b ∷ rest) ≡ b ∷ line_in n rest
 line_more n b rest e = rw e refl
 
-behind_more : (n b : ℕ) (rest : List ℕ) → (b == 10) ≡ false → behind_line (suc n) (b ∷ rest) ≡ behind_line n rest
-behind_more n b rest e = rw e refl
+after_more : (n b : ℕ) (rest : List ℕ) → (b == 10) ≡ false → after_line (suc n) (b ∷ rest) ≡ after_line n rest
+after_more n b rest e = rw e refl
 
 line_end : (n b : ℕ) (rest : List ℕ) → (b == 10) ≡ true → line_in (suc n) (b ∷ rest) ≡ []
 line_end n b rest e = rw e refl
 
-behind_end : (n b : ℕ) (rest : List ℕ) → (b == 10) ≡ true → behind_line (suc n) (b ∷ rest) ≡ rest
-behind_end n b rest e = rw e refl
+after_end : (n b : ℕ) (rest : List ℕ) → (b == 10) ≡ true → after_line (suc n) (b ∷ rest) ≡ rest
+after_end n b rest e = rw e refl
 
 room : (n : ℕ) → n < 256 → 256 - n ≡ suc (256 - (n + 1))
 room n less = omega (arith, less)
@@ -42,7 +42,7 @@ underway_more told line b rest other less u =
       line_is = u.line_is ∙ ap (λ (n : ℕ). line ++ line_in n (b ∷ rest)) left
           ∙ ap (λ (x : List ℕ). line ++ x) (line_more (256 - length (line ++ b ∷ [])) b rest other)
           ∙ sym (append_assoc line (b ∷ []) (line_in (256 - length (line ++ b ∷ [])) rest));
-      behind = u.behind ∙ ap (λ (n : ℕ). behind_line n (b ∷ rest)) left ∙ behind_more (256 - length (line ++ b ∷ [])) b rest other;
+      after = u.after ∙ ap (λ (n : ℕ). after_line n (b ∷ rest)) left ∙ after_more (256 - length (line ++ b ∷ [])) b rest other;
     }
 
 -- a newline ends the line
@@ -52,7 +52,7 @@ first_ended told line b rest is less u =
     record {
       some = subst (λ (t : List ℕ). 0 < length t) (sym u.told_is) (let e = length-append line (b ∷ rest) in omega (arith, e));
       line_is = sym (u.line_is ∙ ap (λ (k : ℕ). line ++ line_in k (b ∷ rest)) (room (length line) less) ∙ ap (λ (x : List ℕ). line ++ x) (line_end n b rest is) ∙ append-nil line);
-      rest = ap Some (sym (u.behind ∙ ap (λ (k : ℕ). behind_line k (b ∷ rest)) (room (length line) less) ∙ behind_end n b rest is));
+      rest = ap Some (sym (u.after ∙ ap (λ (k : ℕ). after_line k (b ∷ rest)) (room (length line) less) ∙ after_end n b rest is));
     }
 
 -- the 256th byte ends the line
@@ -62,21 +62,21 @@ first_full told line rest full u =
     record {
       some = subst (λ (t : List ℕ). 0 < length t) (sym u.told_is) (let e = length-append line rest in omega (arith, e, full));
       line_is = sym (u.line_is ∙ ap (λ (k : ℕ). line ++ line_in k rest) none ∙ append-nil line);
-      rest = ap Some (sym (u.behind ∙ ap (λ (k : ℕ). behind_line k rest) none));
+      rest = ap Some (sym (u.after ∙ ap (λ (k : ℕ). after_line k rest) none));
     }
 
 line_nothing : (n : ℕ) → line_in n [] ≡ []
 line_nothing zero = refl
 line_nothing (suc n) = refl
 
-behind_nothing : (n : ℕ) → behind_line n [] ≡ []
-behind_nothing zero = refl
-behind_nothing (suc n) = refl
+after_nothing : (n : ℕ) → after_line n [] ≡ []
+after_nothing zero = refl
+after_nothing (suc n) = refl
 
 -- the end of the bytes ends the line, where it has a byte
-pub first_last : (told line : List ℕ) → 0 < length line → IsUnderway told line [] → IsFirstLine told line (Some []) × (behind_line 256 told ≡ [])
+pub first_last : (told line : List ℕ) → 0 < length line → IsUnderway told line [] → IsFirstLine told line (Some []) × (after_line 256 told ≡ [])
 first_last told line some u =
-    let over : behind_line 256 told ≡ [] = u.behind ∙ behind_nothing (256 - length line) in (
+    let over : after_line 256 told ≡ [] = u.after ∙ after_nothing (256 - length line) in (
       record {
         some = subst (λ (t : List ℕ). 0 < length t) (sym (u.told_is ∙ append-nil line)) some;
         line_is = sym (u.line_is ∙ ap (λ (x : List ℕ). line ++ x) (line_nothing (256 - length line)) ∙ append-nil line);

@@ -28,8 +28,8 @@ abbrev pub first_word : List ℕ → List ℕ
 first_word line = take (prefix_len is_word_byte (unindented line)) (unindented line)
 
 -- what follows that word
-abbrev pub behind_word : List ℕ → List ℕ
-behind_word line = drop (prefix_len is_word_byte (unindented line)) (unindented line)
+abbrev pub after_word : List ℕ → List ℕ
+after_word line = drop (prefix_len is_word_byte (unindented line)) (unindented line)
 
 -- ---- reading
 
@@ -67,7 +67,7 @@ module _ {V : Type 0} where
   command_in forms words line =
       if nat_lt 255 (length line) then Err BadCommand else
       if is_empty (first_word line) then Ok None else
-      if is_empty (first_word (behind_word (behind_word line))) then with_row words (row_in (first_word line) forms) (first_word (behind_word line))
+      if is_empty (first_word (after_word (after_word line))) then with_row words (row_in (first_word line) forms) (first_word (after_word line))
       else Err BadCommand
 
   -- whether what was read ends the session, by which verbs do

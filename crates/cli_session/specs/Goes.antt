@@ -15,9 +15,9 @@ step_of reads.Last = steps.Over
 step_of reads.Nothing = steps.Over
 
 -- how a session goes on after a line: one that quits, or is the last, is followed by none
-abbrev pub step_behind : Read → Bool → Step
-step_behind read true = steps.Over
-step_behind read false = step_of read
+abbrev pub step_after : Read → Bool → Step
+step_after read true = steps.Over
+step_after read false = step_of read
 
 module _ {Seen Rules Stand : Type 0} (m : SessionMeaning Seen Rules Stand) where
   -- the lines by which a session comes to a place, of at most `most`, where at most `more` may follow

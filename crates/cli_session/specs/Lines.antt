@@ -1,6 +1,6 @@
 -- The lines of a session, up to the first that quits.
 use Rattle.std.specs.Prelude.{◌≡◌, ◌<◌, ◌+◌, ◌-◌, All, ℕ, zero, suc, Bool, false, if◌then◌else◌, List, [], ◌∷◌, ◌++◌, length, Option, Some}
-use Rattle.cli_session.specs.Told.{behind_line, line_in}
+use Rattle.cli_session.specs.Told.{after_line, line_in}
 
 -- the most lines of a session
 abbrev pub most_lines : ℕ
@@ -13,14 +13,14 @@ module _ (quits : List ℕ → Bool) where
   lines_of zero bytes = []
   lines_of (suc n) [] = []
   lines_of (suc n) (b ∷ bytes) =
-      line_in 256 (b ∷ bytes) ∷ (if quits (line_in 256 (b ∷ bytes)) then [] else lines_of n (behind_line 256 (b ∷ bytes)))
+      line_in 256 (b ∷ bytes) ∷ (if quits (line_in 256 (b ∷ bytes)) then [] else lines_of n (after_line 256 (b ∷ bytes)))
 
   -- what is left of these bytes after those lines
   abbrev pub left_after : ℕ → List ℕ → List ℕ
   left_after zero bytes = bytes
   left_after (suc n) [] = []
   left_after (suc n) (b ∷ bytes) =
-      if quits (line_in 256 (b ∷ bytes)) then behind_line 256 (b ∷ bytes) else left_after n (behind_line 256 (b ∷ bytes))
+      if quits (line_in 256 (b ∷ bytes)) then after_line 256 (b ∷ bytes) else left_after n (after_line 256 (b ∷ bytes))
 
   -- none of these lines quits, and this many more may follow of at most `most`
   pub record MayGoOn (most more : ℕ) (lines : List (List ℕ)) : Type 0 where
@@ -52,4 +52,4 @@ module _ (quits : List ℕ → Bool) where
 
   -- this line comes after these ones
   abbrev pub IsNext : ℕ → List ℕ → List (List ℕ) → List ℕ → Type 0
-  IsNext most bytes lines line = (behind : List (List ℕ)) × (lines_of most bytes ≡ lines ++ line ∷ behind)
+  IsNext most bytes lines line = (following : List (List ℕ)) × (lines_of most bytes ≡ lines ++ line ∷ following)

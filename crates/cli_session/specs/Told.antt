@@ -10,16 +10,16 @@ line_in (suc n) [] = []
 line_in (suc n) (b ∷ bytes) = if b == 10 then [] else b ∷ line_in n bytes
 
 -- what follows that line, and the newline that ended it
-abbrev pub behind_line : ℕ → List ℕ → List ℕ
-behind_line zero bytes = bytes
-behind_line (suc n) [] = []
-behind_line (suc n) (b ∷ bytes) = if b == 10 then bytes else behind_line n bytes
+abbrev pub after_line : ℕ → List ℕ → List ℕ
+after_line zero bytes = bytes
+after_line (suc n) [] = []
+after_line (suc n) (b ∷ bytes) = if b == 10 then bytes else after_line n bytes
 
 -- a line was read of these bytes
 pub record IsFirstLine (told line : List ℕ) (left : Option (List ℕ)) : Type 0 where
   pub some : 0 < length told
   pub line_is : line ≡ line_in 256 told
-  pub rest : left ≡ Some (behind_line 256 told)
+  pub rest : left ≡ Some (after_line 256 told)
 
 -- a failing console cuts a line after these bytes of it
 pub record IsCutLine (told line : List ℕ) (left : Option (List ℕ)) : Type 0 where
@@ -31,7 +31,7 @@ pub record IsCutLine (told line : List ℕ) (left : Option (List ℕ)) : Type 0 
 
 abbrev pub ReadsLineOf : {E : Type 0} → List ℕ → List ℕ → Result Read E → Option (List ℕ) → Type 0
 ReadsLineOf told line (Ok reads.Line) left = IsFirstLine told line left
-ReadsLineOf told line (Ok reads.Last) left = IsFirstLine told line left × (behind_line 256 told ≡ [])
+ReadsLineOf told line (Ok reads.Last) left = IsFirstLine told line left × (after_line 256 told ≡ [])
 ReadsLineOf told line (Ok reads.Nothing) left = (told ≡ []) × (left ≡ Some [])
 ReadsLineOf told line (Err e) left = IsCutLine told line left
 

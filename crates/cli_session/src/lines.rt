@@ -3,7 +3,7 @@
 ghost use Rattle.std.specs.Prelude.{◌≡◌, ℕ, suc, []};
 ghost use Rattle.cli_session.specs.Lines.{most_lines};
 ghost use Rattle.cli_session.specs.Meaning.{LastsOneLess};
-ghost use Rattle.cli_session.specs.Goes.{GoesOver, step_behind};
+ghost use Rattle.cli_session.specs.Goes.{GoesOver, step_after};
 
 use crate::line::{Read, read_line};
 use crate::session::LineSession;
@@ -25,8 +25,8 @@ pub enum Step {
 }
 
 /// How a session goes on after a line that was done.
-fn step_behind(read: Read, quits: bool) -> Step
-    ensures { result ≡ step_behind read quits }
+fn step_after(read: Read, quits: bool) -> Step
+    ensures { result ≡ step_after read quits }
 {
     match (read, quits) {
         (_, true) => Step::Over,
@@ -56,7 +56,7 @@ fn do_line<L: LineSession, F: Files, S: Source, K: Sink, E: Sink>(
         return Step::Over;
     }
     match session.answer(line.as_slice(), outside) {
-        Ok(quits) => step_behind(read, quits),
+        Ok(quits) => step_after(read, quits),
         Err(_) => Step::SinkFailed,
     }
 }

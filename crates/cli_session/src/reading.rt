@@ -3,7 +3,7 @@
 ghost use Rattle.std.specs.Prelude.{◌≡◌, ◌≤◌, length, map};
 ghost use Rattle.std.specs.List.{prefix_len};
 ghost use Rattle.mic_base.specs.Prelude.{number_of};
-ghost use Rattle.cli_session.specs.Commands.{behind_word, command_in, first_word, is_blank, is_word_byte, ranged, unindented, with_argument};
+ghost use Rattle.cli_session.specs.Commands.{after_word, command_in, first_word, is_blank, is_word_byte, ranged, unindented, with_argument};
 ghost use Rattle.cli_session.specs.Table.{form_of};
 
 use crate::table::{Argument, CommandRow, row_of};
@@ -69,8 +69,8 @@ fn first_word(line: &[u8]) -> &[u8]
 }
 
 /// What follows the first word of a line.
-fn behind_word(line: &[u8]) -> &[u8]
-    ensures { result.now ≡ behind_word line.now }
+fn after_word(line: &[u8]) -> &[u8]
+    ensures { result.now ≡ after_word line.now }
 {
     let line = unindented(line);
     let end = word_bytes(line);
@@ -133,8 +133,8 @@ pub fn read_command<V: Copy>(
     if name.is_empty() {
         return Ok(None);
     }
-    let rest = behind_word(line);
-    let surplus = first_word(behind_word(rest));
+    let rest = after_word(line);
+    let surplus = first_word(after_word(rest));
     if !surplus.is_empty() {
         return Err(CommandError::BadCommand);
     }

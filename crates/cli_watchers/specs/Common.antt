@@ -24,4 +24,4 @@ pub use Rattle.ijvm_instr.specs.declared.instr.Instr.{Instr}
 pub use Rattle.ijvm_image.specs.Prelude.{ImageView}
 pub use Rattle.verifier_facts.specs.Prelude.{IsKind}
 pub use Rattle.verifier_facts.specs.declared.kind.Kind.{Kind}
-pub use Rattle.cli_outside.specs.Prelude.{PutsBehind}
+pub use Rattle.cli_outside.specs.Prelude.{PutsAfter}

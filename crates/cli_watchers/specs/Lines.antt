@@ -36,8 +36,8 @@ IsBoundaryLine image None text = text ≡ []
 IsBoundaryLine image (Some at) text = (instruction : List ℕ) × IsInstruction image at instruction × (text ≡ reached_line at instruction)
 
 -- a call after another that has put a text puts one of these texts after it
-abbrev pub PutsOneBehind : {E : Type 0} → (List ℕ → Type 0) → Result Unit E → Option (List ℕ) → Result Unit E → Option (List ℕ) → Type 0
-PutsOneBehind IsOne said old result new =
+abbrev pub PutsOneAfter : {E : Type 0} → (List ℕ → Type 0) → Result Unit E → Option (List ℕ) → Result Unit E → Option (List ℕ) → Type 0
+PutsOneAfter IsOne said old result new =
     (first : Option (List ℕ)) (text : List ℕ) → Puts first text said old → (one : List ℕ) × IsOne one × Puts first (text ++ one) result new
 
 -- a word's label and parts make this text

@@ -1,7 +1,7 @@
 //! What is printed of a profile.
 
 ghost use Rattle.std.specs.Prelude.{◌≡◌, ◌≤◌, ℕ, length};
-ghost use Rattle.cli_watchers.specs.Common.{HasCause, Puts, PutsBehind};
+ghost use Rattle.cli_watchers.specs.Common.{HasCause, Puts, PutsAfter};
 ghost use Rattle.cli_watchers.specs.Profile.{count_line, profile_in, profile_text, row_line, rows_text, tallies_at};
 
 use crate::profiler::{Profiler, RowCount, complete};
@@ -42,7 +42,7 @@ fn put_rows<E: Sink>(
     err: &mut E,
     tallies: &[RowCount],
 ) -> Result<(), SinkFailed>
-    ensures puts { PutsBehind before (E.held err.old) (rows_text 0 tallies.now) result (E.held err.new) }
+    ensures puts { PutsAfter before (E.held err.old) (rows_text 0 tallies.now) result (E.held err.new) }
     ensures cause { (count : ℕ) → HasCause count (E.faults err.old) before → HasCause count (E.faults err.new) result }
 {
     let mut said = before;

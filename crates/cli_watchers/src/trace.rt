@@ -2,7 +2,7 @@
 
 ghost use Rattle.std.specs.Prelude.{ℕ};
 ghost use Rattle.cli_watchers.specs.Common.{HasCause, Places, demands_of};
-ghost use Rattle.cli_watchers.specs.Lines.{AreLinesOf, IsBoundaryLine, PutsOneBehind, Traced};
+ghost use Rattle.cli_watchers.specs.Lines.{AreLinesOf, IsBoundaryLine, PutsOneAfter, Traced};
 
 use crate::lines::{cycle_line, state_lines};
 use crate::names::instruction_text;
@@ -31,7 +31,7 @@ fn put_boundary<E: Sink>(
     image: &VerifiedImage,
     boundary: Option<u32>,
 ) -> Result<(), SinkFailed>
-    ensures puts { PutsOneBehind (IsBoundaryLine image.now.image boundary) said (E.held err.old) result (E.held err.new) }
+    ensures puts { PutsOneAfter (IsBoundaryLine image.now.image boundary) said (E.held err.old) result (E.held err.new) }
     ensures cause { (before : ℕ) → HasCause before (E.faults err.old) said → HasCause before (E.faults err.new) result }
 {
     match boundary {

@@ -36,17 +36,17 @@ first_other n r (m ∷ fs) h = go (bytes_eq m n) refl (has_row m r) refl (λ q k
     go false e false t rec = rw t (rec (r ++ default_row m ∷ []) (rw e at h) ∙ other_row n m r e)
 
 -- a row after one of its name changes nothing
-row_behind : (n m : Text) (r : List Row) → has_row n r ≡ true → first_of n (r ++ default_row m ∷ []) ≡ first_of n r
-row_behind n m [] h = cc
-row_behind n m (x ∷ r) h = go (bytes_eq x.id n) refl (row_behind n m r)
+row_after : (n m : Text) (r : List Row) → has_row n r ≡ true → first_of n (r ++ default_row m ∷ []) ≡ first_of n r
+row_after n m [] h = cc
+row_after n m (x ∷ r) h = go (bytes_eq x.id n) refl (row_after n m r)
   where
     go : (b : Bool) → bytes_eq x.id n ≡ b → (has_row n r ≡ true → first_of n (r ++ default_row m ∷ []) ≡ first_of n r) → first_of n ((x ∷ r) ++ default_row m ∷ []) ≡ first_of n (x ∷ r)
     go true e rec = rw e refl
     go false e rec = rw e (rec (rw e at h))
 
-has_behind : (n : Text) (x : Row) (r : List Row) → has_row n r ≡ true → has_row n (r ++ x ∷ []) ≡ true
-has_behind n x [] h = cc
-has_behind n x (y ∷ r) h = go (bytes_eq y.id n) refl (has_behind n x r)
+has_after : (n : Text) (x : Row) (r : List Row) → has_row n r ≡ true → has_row n (r ++ x ∷ []) ≡ true
+has_after n x [] h = cc
+has_after n x (y ∷ r) h = go (bytes_eq y.id n) refl (has_after n x r)
   where
     go : (b : Bool) → bytes_eq y.id n ≡ b → (has_row n r ≡ true → has_row n (r ++ x ∷ []) ≡ true) → has_row n ((y ∷ r) ++ x ∷ []) ≡ true
     go true e rec = rw e refl
@@ -58,7 +58,7 @@ first_there n r (m ∷ fs) h = go (has_row m r) refl (λ q k. first_there n q fs
   where
     go : (d : Bool) → has_row m r ≡ d → ((q : List Row) → has_row n q ≡ true → first_of n (flagged q fs) ≡ first_of n q) → first_of n (flagged r (m ∷ fs)) ≡ first_of n r
     go true t rec = rw t (rec r h)
-    go false t rec = rw t (rec (r ++ default_row m ∷ []) (has_behind n (default_row m) r h) ∙ row_behind n m r h)
+    go false t rec = rw t (rec (r ++ default_row m ∷ []) (has_after n (default_row m) r h) ∙ row_after n m r h)
 
 -- the last row of a name that no other has
 last_row : (n : Text) (r : List Row) → has_row n r ≡ false → (first_of n r ≡ None) × (first_of n (r ++ default_row n ∷ []) ≡ Some (codes "false")) × (has_row n (r ++ default_row n ∷ []) ≡ true)

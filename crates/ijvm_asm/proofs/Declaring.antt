@@ -2,8 +2,8 @@
 use Rattle.std.proofs.Common.{◌≡◌, ℕ, ◌+◌, true, false, List, [], ◌∷◌, ◌++◌, map, length, Option, Some, None, refl, ap, sym, subst, ◌∙◌, is_some, append-nil}
 use Rattle.std.proofs.option.Match.{None-if_not_some}
 use Rattle.ijvm_line.specs.declared.place.Place.TheVariants as places
-use Rattle.ijvm_asm.specs.Prelude.{begun, DraftView, Between, Body, CodeItem, Constants, Locals, Main, Method, Section, section_lines, declarations_of, Source, AreLocals, AreNew, code_from, declared, labels_in, lines_in, locals_in, MakesUnit, positions_in, waits_behind, Declarations, defined, SectionAdds, SectionsDeclare}
-use Rattle.ijvm_asm.proofs.Made.{MakesBody, Makes, may_declare_behind, OpensLocals, SectionsMake}
+use Rattle.ijvm_asm.specs.Prelude.{begun, DraftView, Between, Body, CodeItem, Constants, Locals, Main, Method, Section, section_lines, declarations_of, Source, AreLocals, AreNew, code_from, declared, labels_in, lines_in, locals_in, MakesUnit, positions_in, waits_after, Declarations, defined, SectionAdds, SectionsDeclare}
+use Rattle.ijvm_asm.proofs.Made.{MakesBody, Makes, may_declare_after, OpensLocals, SectionsMake}
 use Rattle.ijvm_asm.proofs.Mains.{main_ended, main_opened}
 use Rattle.ijvm_asm.proofs.Methods.{ended, opened}
 use Rattle.ijvm_asm.proofs.Kept.{body_keeps}
@@ -19,7 +19,7 @@ coded j items u = record u {
   labels = u.labels ++ labels_in items;
   label_positions = u.label_positions ++ positions_in (length u.lines) items;
   lines = u.lines ++ lines_in j items;
-  pending = waits_behind u.pending items;
+  pending = waits_after u.pending items;
 }
 
 opens_is : (o : Option Locals) (k : ℕ) (s v : Source) (name : Option (List ℕ)) (ps : List (List ℕ)) → s.unit ≡ begun name ps → OpensLocals k s o v → AreLocals ps (locals_in o) × (v.unit ≡ with_locals name ps o)
@@ -32,9 +32,9 @@ opens_is (Some d) k s v name ps e q = (
 body_is : (k : ℕ) (s t : Source) (name : Option (List ℕ)) (ps : List (List ℕ)) (b : Body) → s.unit ≡ begun name ps → MakesBody k s b t → MakesUnit k name ps b t.unit
 body_is k s t name ps b e m =
     let j = code_from k b.locals in
-    let o = opens_is b.locals k s m.behind_locals name ps e m.opens in
+    let o = opens_is b.locals k s m.after_locals name ps e m.opens in
     let is : t.unit ≡ coded j b.code (with_locals name ps b.locals) = ap (λ (w : Source). w.unit) m.makes.1 ∙ ap (coded j b.code) o.1 in
-    let ready : waits_behind false b.code ≡ false = sym (ap (λ (u : DraftView). u.pending) is) ∙ m.ready in
+    let ready : waits_after false b.code ≡ false = sym (ap (λ (u : DraftView). u.pending) is) ∙ m.ready in
     record {
       locals = o.0;
       labels = subst (λ (u : DraftView). AreNew u.labels (labels_in b.code)) o.1 m.makes.0;
@@ -54,11 +54,11 @@ body_again k s name ps b u e is =
     let j = code_from k b.locals in
     let v = opens_again b.locals k s name ps e is.locals in
     let o = opens_is b.locals k s v.0 name ps e v.1 in
-    let t : Source = record v.0 { may_declare = may_declare_behind v.0.may_declare b.code; unit = coded j b.code v.0.unit } in
+    let t : Source = record v.0 { may_declare = may_declare_after v.0.may_declare b.code; unit = coded j b.code v.0.unit } in
     let at : t.unit ≡ coded j b.code (with_locals name ps b.locals) = ap (coded j b.code) o.1 in (
       t,
       record {
-        behind_locals = v.0;
+        after_locals = v.0;
         opens = v.1;
         makes = (subst (λ (x : DraftView). AreNew x.labels (labels_in b.code)) (sym o.1) is.labels, refl);
         ready = ap (λ (x : DraftView). x.pending) at ∙ is.ready;

@@ -2,7 +2,7 @@
 use Rattle.ijvm_asm.proofs.Common.{◌≡◌, ℕ, ◌+◌, ◌≤◌, Bool, true, false, List, [], ◌∷◌, ◌++◌, map, length, Option, Some, None, most_names, Constant}
 use Rattle.ijvm_line.specs.declared.place.Place.TheVariants as places
 use Rattle.source_text.specs.Places as names
-use Rattle.ijvm_asm.specs.Prelude.{begun, Between, Body, CodeItem, Constants, Locals, Main, Method, Section, section_lines, Source, AreLocals, AreNew, code_from, declared, labels_in, lines_in, positions_in, waits_behind, AreConstants, defined}
+use Rattle.ijvm_asm.specs.Prelude.{begun, Between, Body, CodeItem, Constants, Locals, Main, Method, Section, section_lines, Source, AreLocals, AreNew, code_from, declared, labels_in, lines_in, positions_in, waits_after, AreConstants, defined}
 
 -- ---- a unit
 
@@ -11,21 +11,21 @@ abbrev pub MakesLocals : Source → List (Option (List ℕ)) → Source → Type
 MakesLocals s items u = AreLocals s.unit.names (declared items)
     × (u ≡ record s { place = places.Code; unit = record s.unit { names = s.unit.names ++ declared items } })
 
-abbrev pub may_declare_behind : Bool → List (Option CodeItem) → Bool
-may_declare_behind may [] = may
-may_declare_behind may (None ∷ items) = may_declare_behind may items
-may_declare_behind may (Some c ∷ items) = false
+abbrev pub may_declare_after : Bool → List (Option CodeItem) → Bool
+may_declare_after may [] = may
+may_declare_after may (None ∷ items) = may_declare_after may items
+may_declare_after may (Some c ∷ items) = false
 
 -- code lines from line `k` on give the unit their labels and their instructions
 abbrev pub MakesCode : ℕ → Source → List (Option CodeItem) → Source → Type 0
 MakesCode k s items u = AreNew s.unit.labels (labels_in items)
     × (u ≡ record s {
-      may_declare = may_declare_behind s.may_declare items;
+      may_declare = may_declare_after s.may_declare items;
       unit = record s.unit {
         labels = s.unit.labels ++ labels_in items;
         label_positions = s.unit.label_positions ++ positions_in (length s.unit.lines) items;
         lines = s.unit.lines ++ lines_in k items;
-        pending = waits_behind s.unit.pending items;
+        pending = waits_after s.unit.pending items;
       };
     })
 
@@ -36,9 +36,9 @@ OpensLocals k s (Some d) u = MakesLocals (record s { place = places.Locals; inne
 
 -- the locals, then the code, whose last label has an instruction
 pub record MakesBody (k : ℕ) (s : Source) (body : Body) (u : Source) : Type 0 where
-  pub behind_locals : Source
-  pub opens : OpensLocals k s body.locals behind_locals
-  pub makes : MakesCode (code_from k body.locals) behind_locals body.code u
+  pub after_locals : Source
+  pub opens : OpensLocals k s body.locals after_locals
+  pub makes : MakesCode (code_from k body.locals) after_locals body.code u
   pub ready : u.unit.pending ≡ false
 
 -- ---- sections

@@ -73,7 +73,7 @@ main_makes k s u b e (v, p, h, more) =
       first = i.0;
       last = r.0;
       content = record {
-        behind_locals = o.0;
+        after_locals = o.0;
         opens = o.1;
         makes = code_makes b.code (code_from (k + 1) b.locals) o.0 r.0 c.0 r.1;
         ready = (or_parts (is_some r.0.unit.name) r.0.unit.pending l.0).1;
@@ -85,14 +85,14 @@ pub makes_main : (k : ℕ) (s u : Source) (b : Body) → s.place ≡ places.Outs
 makes_main k s u b e m =
     let w = m.last in
     let d = m.content in
-    let c = opens_code b.locals (k + 1) (main_opened k s) d.behind_locals refl d.opens in
+    let c = opens_code b.locals (k + 1) (main_opened k s) d.after_locals refl d.opens in
     let n : w.unit.name ≡ None = ap (λ x. x.unit.name) d.makes.1 ∙ c.1 in
     let at : w.place ≡ places.Code = ap (λ x. x.place) d.makes.1 ∙ c.0 in
     let j = code_from (k + 1) b.locals in (
       main_opened k s,
       e,
       ok_if s.seen_main (errors.BadLine k) (ok (main_opened k s)) m.first,
-      open_locals b.locals (k + 1) (main_opened k s) d.behind_locals u (map code_line b.code ++ (Dotted marks.EndMain ∷ [])) refl refl d.opens
-          (join (map code_line b.code) (Dotted marks.EndMain ∷ []) j d.behind_locals w u (makes_code b.code j d.behind_locals w c.0 d.makes)
+      open_locals b.locals (k + 1) (main_opened k s) d.after_locals u (map code_line b.code ++ (Dotted marks.EndMain ∷ [])) refl refl d.opens
+          (join (map code_line b.code) (Dotted marks.EndMain ∷ []) j d.after_locals w u (makes_code b.code j d.after_locals w c.0 d.makes)
           (main_ended w, at, ok_if (is_some w.unit.name || w.unit.pending) (errors.BadLine (j + length (map code_line b.code))) (ok (main_ended w)) (or_from (is_some w.unit.name) w.unit.pending (ap is_some n) d.ready), sym m.ends)),
     )

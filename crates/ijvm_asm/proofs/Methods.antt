@@ -60,7 +60,7 @@ method_makes k s u n ps b e (v, p, h, more) =
       few = m.1;
       last = r.0;
       content = record {
-        behind_locals = o.0;
+        after_locals = o.0;
         opens = o.1;
         makes = code_makes b.code (code_from (k + 1) b.locals) o.0 r.0 c.0 r.1;
         ready = (or_parts (not (is_some r.0.unit.name)) r.0.unit.pending l.0).1;
@@ -72,7 +72,7 @@ pub makes_method : (k : ℕ) (s u : Source) (n : List ℕ) (ps : List (List ℕ)
 makes_method k s u n ps b e m =
     let w = m.last in
     let d = m.content in
-    let c = opens_code b.locals (k + 1) (opened k s n ps) d.behind_locals refl d.opens in
+    let c = opens_code b.locals (k + 1) (opened k s n ps) d.after_locals refl d.opens in
     let name : w.unit.name ≡ Some n = ap (λ x. x.unit.name) d.makes.1 ∙ c.1 in
     let at : w.place ≡ places.Code = ap (λ x. x.place) d.makes.1 ∙ c.0 in
     let j = code_from (k + 1) b.locals in
@@ -80,7 +80,7 @@ makes_method k s u n ps b e m =
       opened k s n ps,
       e,
       i ∙ begun_by k s n ps m.once m.few,
-      open_locals b.locals (k + 1) (opened k s n ps) d.behind_locals u (map code_line b.code ++ (Dotted marks.EndMethod ∷ [])) refl refl d.opens
-          (join (map code_line b.code) (Dotted marks.EndMethod ∷ []) j d.behind_locals w u (makes_code b.code j d.behind_locals w c.0 d.makes)
+      open_locals b.locals (k + 1) (opened k s n ps) d.after_locals u (map code_line b.code ++ (Dotted marks.EndMethod ∷ [])) refl refl d.opens
+          (join (map code_line b.code) (Dotted marks.EndMethod ∷ []) j d.after_locals w u (makes_code b.code j d.after_locals w c.0 d.makes)
           (ended w, at, ok_if (not (is_some w.unit.name) || w.unit.pending) (errors.BadLine (j + length (map code_line b.code))) (ok (ended w)) (or_from (not (is_some w.unit.name)) w.unit.pending (ap (λ x. not (is_some x)) name) d.ready), sym m.ends)),
     )

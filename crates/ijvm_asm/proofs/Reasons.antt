@@ -5,7 +5,7 @@ use Rattle.ijvm_line.specs.declared.place.Mark.TheVariants as marks
 use Rattle.ijvm_line.specs.declared.place.Place.TheVariants as places
 use Rattle.source_text.specs.Places as names
 use Rattle.ijvm_asm.specs.declared.error.AsmError.TheVariants as errors
-use Rattle.ijvm_asm.specs.Prelude.{BlankAt, Codes, Declares, Defines, Dotted, Heads, place_of, Said, DraftView, empty, Source, add_line, add_mark, gather, is_declared, method_by, with_unit, IsMisfit, IsReason, names_behind, open_names}
+use Rattle.ijvm_asm.specs.Prelude.{BlankAt, Codes, Declares, Defines, Dotted, Heads, place_of, Said, DraftView, empty, Source, add_line, add_mark, gather, is_declared, method_by, with_unit, IsMisfit, IsReason, names_following, open_names}
 use Rattle.ijvm_asm.proofs.Building.{Build}
 use Rattle.ijvm_asm.proofs.Conditions.{if_ok, ok, ok_if}
 use Rattle.ijvm_asm.proofs.Fronts.{fits, fitting, stands_at}
@@ -24,7 +24,7 @@ names_after k s (Some l) (Some i) = refl
 names_of : (w u : Source) (ns : List (List ℕ)) → ok w ≡ ok u → w.unit.names ≡ ns → u.unit.names ≡ ns
 names_of w u ns e h = let q : w ≡ u = cc in ap (λ x. x.unit.names) (sym q) ∙ h
 
-mark_names : (k : ℕ) (s u : Source) (m : Mark) → add_mark k s m ≡ Ok u → u.unit.names ≡ names_behind s.unit.names (Dotted m)
+mark_names : (k : ℕ) (s u : Source) (m : Mark) → add_mark k s m ≡ Ok u → u.unit.names ≡ names_following s.unit.names (Dotted m)
 mark_names k s u marks.BeginConstants h =
     names_of (record s { place = places.Constants; section = k; seen_constants = true }) u s.unit.names
     (if_ok s.seen_constants (errors.BadLine k) (ok (record s { place = places.Constants; section = k; seen_constants = true })) u h).1 refl
@@ -37,7 +37,7 @@ mark_names k s u marks.BeginLocals h =
     (if_ok (not s.may_declare) (errors.BadLine k) (ok (record s { place = places.Locals; inner = k; may_declare = false })) u h).1 refl
 mark_names k s u marks.EndLocals h = names_of (record s { place = places.Code }) u s.unit.names h refl
 
-line_names : (k : ℕ) (s u : Source) (x : Said) → add_line k s x ≡ Ok u → u.unit.names ≡ names_behind s.unit.names x
+line_names : (k : ℕ) (s u : Source) (x : Said) → add_line k s x ≡ Ok u → u.unit.names ≡ names_following s.unit.names x
 line_names k s u (BlankAt p) h = names_of s u s.unit.names h refl
 line_names k s u (Dotted m) h = mark_names k s u m h
 line_names k s u (Heads n ps) h =

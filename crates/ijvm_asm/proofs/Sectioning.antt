@@ -26,7 +26,7 @@ Coded false true xs = Ended marks.EndMethod xs
 abbrev Rest : Place → Bool → Bool → List Said → Type 0
 Rest places.Outside d m xs = (rest : List Section) × (xs ≡ lines_of rest)
 Rest places.Constants d m xs = (items : List (Option Constant)) × (rest : List Section) × (xs ≡ map constant_line items ++ (Dotted marks.EndConstants ∷ lines_of rest))
-Rest places.Locals d m xs = (names : List (Option (List ℕ))) × (behind : List Said) × (xs ≡ map local_line names ++ (Dotted marks.EndLocals ∷ behind)) × Coded d m behind
+Rest places.Locals d m xs = (names : List (Option (List ℕ))) × (following : List Said) × (xs ≡ map local_line names ++ (Dotted marks.EndLocals ∷ following)) × Coded d m following
 Rest places.Code d m xs = Coded d m xs
 
 abbrev RestOf : Source → List Said → Type 0
@@ -80,8 +80,8 @@ fresh_blank m xs (body, rest, q) = by_locals body.locals q
     by_locals None q = (record { locals = None; code = None ∷ body.code }, rest, cons _ _ _ q)
     by_locals (Some d) q = (record { locals = Some (record { blank_lines = suc d.blank_lines; names = d.names }); code = body.code }, rest, cons _ _ _ q)
 
-fresh_locals : (m : Mark) (names : List (Option (List ℕ))) (xs behind : List Said) → xs ≡ map local_line names ++ (Dotted marks.EndLocals ∷ behind) → Ended m behind → Fresh m (Dotted marks.BeginLocals ∷ xs)
-fresh_locals m names xs behind q (code, rest, p) =
+fresh_locals : (m : Mark) (names : List (Option (List ℕ))) (xs following : List Said) → xs ≡ map local_line names ++ (Dotted marks.EndLocals ∷ following) → Ended m following → Fresh m (Dotted marks.BeginLocals ∷ xs)
+fresh_locals m names xs following q (code, rest, p) =
     (record { locals = Some (record { blank_lines = zero; names = names }); code = code }, rest, cons _ _ _ (q ∙ ap (λ ys. map local_line names ++ (Dotted marks.EndLocals ∷ ys)) p))
 
 coded_blank : (d m : Bool) (xs : List Said) → Coded d m xs → Coded d m (BlankAt places.Code ∷ xs)
@@ -105,15 +105,15 @@ coded_method true xs rest q = fresh_ended marks.EndMethod (Dotted marks.EndMetho
 coded_method false xs rest q = ended_end marks.EndMethod xs rest q
 
 coded_locals : (m : Bool) (xs : List Said) → Rest places.Locals false m xs → Coded true m (Dotted marks.BeginLocals ∷ xs)
-coded_locals false xs (names, behind, q, c) = fresh_locals marks.EndMain names xs behind q c
-coded_locals true xs (names, behind, q, c) = fresh_locals marks.EndMethod names xs behind q c
+coded_locals false xs (names, following, q, c) = fresh_locals marks.EndMain names xs following q c
+coded_locals true xs (names, following, q, c) = fresh_locals marks.EndMethod names xs following q c
 
 -- ---- one line
 
 blank : (p : Place) (d m : Bool) (xs : List Said) → Rest p d m xs → Rest p d m (BlankAt p ∷ xs)
 blank places.Outside d m xs (rest, q) = (Between ∷ rest, cons _ _ _ q)
 blank places.Constants d m xs (items, rest, q) = (None ∷ items, rest, cons _ _ _ q)
-blank places.Locals d m xs (names, behind, q, c) = (None ∷ names, behind, cons _ _ _ q, c)
+blank places.Locals d m xs (names, following, q, c) = (None ∷ names, following, cons _ _ _ q, c)
 blank places.Code d m xs c = coded_blank d m xs c
 
 constants : (xs : List Said) (d m e n : Bool) → Rest places.Constants d m xs → Rest places.Outside e n (Dotted marks.BeginConstants ∷ xs)
@@ -132,7 +132,7 @@ method : (n : List ℕ) (ps : List (List ℕ)) (xs : List Said) (d m : Bool) →
 method n ps xs d m (body, rest, q) = (Method n ps body ∷ rest, cons _ _ _ q)
 
 local : (n : List ℕ) (xs : List Said) (d m : Bool) → Rest places.Locals d m xs → Rest places.Locals d m (Declares n ∷ xs)
-local n xs d m (names, behind, q, c) = (Some n ∷ names, behind, cons _ _ _ q, c)
+local n xs d m (names, following, q, c) = (Some n ∷ names, following, cons _ _ _ q, c)
 
 end_locals : (xs : List Said) (d m : Bool) → Rest places.Code d m xs → Rest places.Locals d m (Dotted marks.EndLocals ∷ xs)
 end_locals xs d m c = ([], xs, refl, c)

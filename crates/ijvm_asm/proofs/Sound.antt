@@ -2,7 +2,7 @@
 use Rattle.ijvm_asm.proofs.Common.{◌≡◌, ℕ, ◌+◌, ◌<◌, ◌≤◌, Bool, true, false, List, [], ◌∷◌, ◌++◌, map, length, Option, Some, None, refl, ap, sym, subst, ◌∙◌}
 use Rattle.ijvm_asm.proofs.Common.{arith, length-append, ◌||◌, All, is_some, IsSome, ⊤, All-append, All-cons, All-nil, most_names, Instruction}
 use Rattle.std.proofs.lemmas.List.{append_assoc, length-map, append-nil}
-use Rattle.ijvm_asm.specs.Prelude.{Between, Body, CodeItem, Constants, Locals, Main, Method, Section, section_lines, DraftView, empty, Source, AreLocals, positions_in, behind_instruction, code_from, declared, lines_in, waits, waits_behind, with_position, with_instruction, defined}
+use Rattle.ijvm_asm.specs.Prelude.{Between, Body, CodeItem, Constants, Locals, Main, Method, Section, section_lines, DraftView, empty, Source, AreLocals, positions_in, after_instruction, code_from, declared, lines_in, waits, waits_after, with_position, with_instruction, defined}
 use Rattle.ijvm_asm.proofs.Made.{Makes, MakesBody, OpensLocals, SectionsMake}
 use Rattle.ijvm_asm.proofs.Kept.{body_keeps, body_lines_are, opens_unit}
 
@@ -30,28 +30,28 @@ pub record Sound (s : Source) : Type 0 where
 weaker : (m n : ℕ) (xs : List ℕ) → m ≤ n → All (λ a. a < m) xs → All (λ a. a < n) xs
 weaker m n xs le all k d h = let a = all k d h in omega (arith, a, le)
 
-some_behind : (items : List (Option CodeItem)) (k : ℕ) → waits_behind true items ≡ false → 1 ≤ length (lines_in k items)
-some_behind [] k w = absurd (cc)
-some_behind (None ∷ items) k w = some_behind items (k + 1) w
-some_behind (Some c ∷ items) k w = go (is_some c.label) c.instruction (some_behind items (k + 1)) w
+some_after : (items : List (Option CodeItem)) (k : ℕ) → waits_after true items ≡ false → 1 ≤ length (lines_in k items)
+some_after [] k w = absurd (cc)
+some_after (None ∷ items) k w = some_after items (k + 1) w
+some_after (Some c ∷ items) k w = go (is_some c.label) c.instruction (some_after items (k + 1)) w
   where
-    go : (a : Bool) (i : Option Instruction) → (waits_behind true items ≡ false → 1 ≤ length (lines_in (k + 1) items))
-        → waits_behind (waits (a || true) i) items ≡ false → 1 ≤ length (with_instruction k i (lines_in (k + 1) items))
+    go : (a : Bool) (i : Option Instruction) → (waits_after true items ≡ false → 1 ≤ length (lines_in (k + 1) items))
+        → waits_after (waits (a || true) i) items ≡ false → 1 ≤ length (with_instruction k i (lines_in (k + 1) items))
     go true None rec w = rec w
     go false None rec w = rec w
     go a (Some i) rec w = omega arith
 
-positions_below : (items : List (Option CodeItem)) (n k : ℕ) (b : Bool) → waits_behind b items ≡ false → All (λ at. at < n + length (lines_in k items)) (positions_in n items)
+positions_below : (items : List (Option CodeItem)) (n k : ℕ) (b : Bool) → waits_after b items ≡ false → All (λ at. at < n + length (lines_in k items)) (positions_in n items)
 positions_below [] n k b w = All-nil (λ at. at < n + 0)
 positions_below (None ∷ items) n k b w = positions_below items n (k + 1) b w
 positions_below (Some c ∷ items) n k b w = go c.label c.instruction (λ n b w. positions_below items n (k + 1) b w) w
   where
-    go : (l : Option (List ℕ)) (i : Option Instruction) → ((n : ℕ) (b : Bool) → waits_behind b items ≡ false → All (λ at. at < n + length (lines_in (k + 1) items)) (positions_in n items))
-        → waits_behind (waits (is_some l || b) i) items ≡ false
-        → All (λ at. at < n + length (with_instruction k i (lines_in (k + 1) items))) (with_position n l (positions_in (behind_instruction n i) items))
+    go : (l : Option (List ℕ)) (i : Option Instruction) → ((n : ℕ) (b : Bool) → waits_after b items ≡ false → All (λ at. at < n + length (lines_in (k + 1) items)) (positions_in n items))
+        → waits_after (waits (is_some l || b) i) items ≡ false
+        → All (λ at. at < n + length (with_instruction k i (lines_in (k + 1) items))) (with_position n l (positions_in (after_instruction n i) items))
     go None None rec w = rec n b w
     go None (Some i) rec w = weaker ((n + 1) + length (lines_in (k + 1) items)) (n + length (with_instruction k (Some i) (lines_in (k + 1) items))) (positions_in (n + 1) items) (omega arith) (rec (n + 1) false w)
-    go (Some l) None rec w = All-cons (λ at. at < n + length (lines_in (k + 1) items)) n (positions_in n items) (let s = some_behind items (k + 1) w in omega (arith, s)) (rec n true w)
+    go (Some l) None rec w = All-cons (λ at. at < n + length (lines_in (k + 1) items)) n (positions_in n items) (let s = some_after items (k + 1) w in omega (arith, s)) (rec n true w)
     go (Some l) (Some i) rec w = All-cons (λ at. at < n + length (with_instruction k (Some i) (lines_in (k + 1) items))) n (positions_in (n + 1) items) (omega arith)
         (weaker ((n + 1) + length (lines_in (k + 1) items)) (n + length (with_instruction k (Some i) (lines_in (k + 1) items))) (positions_in (n + 1) items) (omega arith) (rec (n + 1) false w))
 
@@ -70,7 +70,7 @@ opens_few (Some d) k s v q h = subst (λ ns. length ns ≤ most_names) (sym (ap 
 -- the lines of a unit that has none before make a draft
 body_drafted : (k : ℕ) (s : Source) (b : Body) (t : Source) → MakesBody k s b t → length s.unit.names ≤ most_names → s.unit.lines ≡ [] → s.unit.label_positions ≡ [] → Drafted t.unit
 body_drafted k s b t m few no_lines no_positions =
-    let v = m.behind_locals in
+    let v = m.after_locals in
     let j = code_from k b.locals in
     let names : t.unit.names ≡ v.unit.names = ap (λ w. w.unit.names) m.makes.1 in
     let positions0 : v.unit.label_positions ≡ [] = opens_unit (λ u. u.label_positions) (λ u ns. refl) b.locals k s v m.opens ∙ no_positions in
@@ -78,7 +78,7 @@ body_drafted k s b t m few no_lines no_positions =
     let lines : t.unit.lines ≡ lines_in j b.code = body_lines_are k s b t m ∙ ap (λ ls. ls ++ lines_in j b.code) no_lines in
     let label_positions : t.unit.label_positions ≡ positions_in 0 b.code = ap (λ w. w.unit.label_positions) m.makes.1
     ∙ (ap (λ label_positions. label_positions ++ positions_in (length v.unit.lines) b.code) positions0 ∙ ap (λ ls. positions_in (length ls) b.code) lines0) in
-    let waits : waits_behind v.unit.pending b.code ≡ false = sym (ap (λ w. w.unit.pending) m.makes.1) ∙ m.ready in
+    let waits : waits_after v.unit.pending b.code ≡ false = sym (ap (λ w. w.unit.pending) m.makes.1) ∙ m.ready in
     record {
       few = subst (λ ns. length ns ≤ most_names) (sym names) (opens_few b.locals k s v m.opens few);
       label_positions = subst (λ label_positions. All (λ at. at < length t.unit.lines) label_positions) (sym label_positions)
@@ -89,7 +89,7 @@ body_drafted k s b t m few no_lines no_positions =
 body_unit : {A : Type 0} (f : DraftView → A) → ((u : DraftView) (ns : List (List ℕ)) → f (record u { names = ns }) ≡ f u)
     → ((u : DraftView) (ls : List (List ℕ)) (label_positions : List ℕ) (ds : List _) (p : Bool) → f (record u { labels = ls; label_positions = label_positions; lines = ds; pending = p }) ≡ f u)
     → (k : ℕ) (s : Source) (b : Body) (t : Source) → MakesBody k s b t → f t.unit ≡ f s.unit
-body_unit f keeps stays k s b t m = ap (λ w. f w.unit) m.makes.1 ∙ (stays m.behind_locals.unit _ _ _ _ ∙ opens_unit f keeps b.locals k s m.behind_locals m.opens)
+body_unit f keeps stays k s b t m = ap (λ w. f w.unit) m.makes.1 ∙ (stays m.after_locals.unit _ _ _ _ ∙ opens_unit f keeps b.locals k s m.after_locals m.opens)
 
 -- ---- sections
 

@@ -6,8 +6,8 @@ use Rattle.ijvm_line.specs.declared.place.Place.TheVariants as places
 use Rattle.ijvm_line.specs.declared.place.Mark.TheVariants as marks
 use Rattle.source_text.specs.Places as names
 use Rattle.ijvm_asm.specs.declared.error.AsmError.TheVariants as errors
-use Rattle.ijvm_asm.specs.Prelude.{Dotted, Said, code_line, CodeItem, local_line, DraftView, Source, AreNew, positions_in, behind_instruction, declared, labels_in, lines_in, waits, waits_behind, with_position, with_instruction, with_label, add_code, add_instruction, with_unit}
-use Rattle.ijvm_asm.proofs.Made.{MakesCode, MakesLocals, may_declare_behind}
+use Rattle.ijvm_asm.specs.Prelude.{Dotted, Said, code_line, CodeItem, local_line, DraftView, Source, AreNew, positions_in, after_instruction, declared, labels_in, lines_in, waits, waits_after, with_position, with_instruction, with_label, add_code, add_instruction, with_unit}
+use Rattle.ijvm_asm.proofs.Made.{MakesCode, MakesLocals, may_declare_after}
 use Rattle.ijvm_asm.proofs.Building.{Build}
 use Rattle.ijvm_asm.proofs.Conditions.{ok}
 
@@ -95,7 +95,7 @@ lines_over k u None (Some i) xs = append_assoc u.lines ((record { line = k; inst
 lines_over k u (Some l) None xs = refl
 lines_over k u (Some l) (Some i) xs = append_assoc u.lines ((record { line = k; instruction = i }) ∷ []) xs
 
-count_over : (k : ℕ) (u : DraftView) (l : Option (List ℕ)) (i : Option Instruction) → length (add_instruction k (labelled u l) i).lines ≡ behind_instruction (length u.lines) i
+count_over : (k : ℕ) (u : DraftView) (l : Option (List ℕ)) (i : Option Instruction) → length (add_instruction k (labelled u l) i).lines ≡ after_instruction (length u.lines) i
 count_over k u None None = refl
 count_over k u None (Some i) = length-append u.lines ((record { line = k; instruction = i }) ∷ [])
 count_over k u (Some l) None = refl
@@ -113,33 +113,33 @@ waits_over k u None (Some i) = refl
 waits_over k u (Some l) None = refl
 waits_over k u (Some l) (Some i) = refl
 
-stays_false : (items : List (Option CodeItem)) → may_declare_behind false items ≡ false
+stays_false : (items : List (Option CodeItem)) → may_declare_after false items ≡ false
 stays_false [] = refl
 stays_false (None ∷ items) = stays_false items
 stays_false (Some c ∷ items) = refl
 
 -- what code lines from line `k` on leave
-abbrev behind : ℕ → Source → List (Option CodeItem) → Source
-behind k s items = coded s (s.unit.labels ++ labels_in items) (s.unit.label_positions ++ positions_in (length s.unit.lines) items) (s.unit.lines ++ lines_in k items) (waits_behind s.unit.pending items) (may_declare_behind s.may_declare items)
+abbrev following : ℕ → Source → List (Option CodeItem) → Source
+following k s items = coded s (s.unit.labels ++ labels_in items) (s.unit.label_positions ++ positions_in (length s.unit.lines) items) (s.unit.lines ++ lines_in k items) (waits_after s.unit.pending items) (may_declare_after s.may_declare items)
 
-behind_none : (k : ℕ) (s : Source) → behind k s [] ≡ s
-behind_none k s = coded_same s (s.unit.labels ++ []) s.unit.labels (s.unit.label_positions ++ []) s.unit.label_positions (s.unit.lines ++ []) s.unit.lines s.unit.pending s.unit.pending s.may_declare s.may_declare
+after_none : (k : ℕ) (s : Source) → following k s [] ≡ s
+after_none k s = coded_same s (s.unit.labels ++ []) s.unit.labels (s.unit.label_positions ++ []) s.unit.label_positions (s.unit.lines ++ []) s.unit.lines s.unit.pending s.unit.pending s.may_declare s.may_declare
     (append-nil s.unit.labels) (append-nil s.unit.label_positions) (append-nil s.unit.lines) refl refl
 
-behind_one : (k : ℕ) (s : Source) (c : CodeItem) (items : List (Option CodeItem)) → behind (k + 1) (after k s c.label c.instruction) items ≡ behind k s (Some c ∷ items)
-behind_one k s c items =
+one_after : (k : ℕ) (s : Source) (c : CodeItem) (items : List (Option CodeItem)) → following (k + 1) (after k s c.label c.instruction) items ≡ following k s (Some c ∷ items)
+one_after k s c items =
     let w : DraftView = add_instruction k (labelled s.unit c.label) c.instruction in
-    let n : ℕ = behind_instruction (length s.unit.lines) c.instruction in
-    over k s c.label c.instruction (w.labels ++ labels_in items) (w.label_positions ++ positions_in (length w.lines) items) (w.lines ++ lines_in (k + 1) items) (waits_behind w.pending items) (may_declare_behind false items)
+    let n : ℕ = after_instruction (length s.unit.lines) c.instruction in
+    over k s c.label c.instruction (w.labels ++ labels_in items) (w.label_positions ++ positions_in (length w.lines) items) (w.lines ++ lines_in (k + 1) items) (waits_after w.pending items) (may_declare_after false items)
     ∙ coded_same s (w.labels ++ labels_in items) (s.unit.labels ++ with_label c.label (labels_in items))
     (w.label_positions ++ positions_in (length w.lines) items) (s.unit.label_positions ++ with_position (length s.unit.lines) c.label (positions_in n items))
     (w.lines ++ lines_in (k + 1) items) (s.unit.lines ++ with_instruction k c.instruction (lines_in (k + 1) items))
-    (waits_behind w.pending items) (waits_behind (waits (is_some c.label || s.unit.pending) c.instruction) items)
-    (may_declare_behind false items) false
+    (waits_after w.pending items) (waits_after (waits (is_some c.label || s.unit.pending) c.instruction) items)
+    (may_declare_after false items) false
     (labels_over k s.unit c.label c.instruction (labels_in items))
     (ap (λ m. w.label_positions ++ positions_in m items) (count_over k s.unit c.label c.instruction) ∙ positions_over k s.unit c.label c.instruction (positions_in n items))
     (lines_over k s.unit c.label c.instruction (lines_in (k + 1) items))
-    (ap (λ b. waits_behind b items) (waits_over k s.unit c.label c.instruction))
+    (ap (λ b. waits_after b items) (waits_over k s.unit c.label c.instruction))
     (stays_false items)
 
 new_labels : (k : ℕ) (u : DraftView) (l : Option (List ℕ)) (i : Option Instruction) (xs : List (List ℕ)) → IsNew u.labels l → AreNew (add_instruction k (labelled u l) i).labels xs → AreNew u.labels (with_label l xs)
@@ -174,7 +174,7 @@ made_line k s (Some l) i n =
     if_with (λ u. record s { unit = add_instruction k u i; may_declare = false }) (is_some (names.place_of_name s.unit.labels l)) (labelled s.unit (Some l)) (errors.DuplicateName k) (ap is_some n)
 
 pub code_makes : (items : List (Option CodeItem)) (k : ℕ) (s u : Source) → s.place ≡ places.Code → Build k s (map code_line items) u → MakesCode k s items u
-code_makes [] k s u e m = (tt, sym m ∙ sym (behind_none k s))
+code_makes [] k s u e m = (tt, sym m ∙ sym (after_none k s))
 code_makes (None ∷ items) k s u e (v, p, h, more) =
     let q : s ≡ v = cc in
     code_makes items (k + 1) s u e (subst (λ w. Build (k + 1) w (map code_line items) u) (sym q) more)
@@ -183,11 +183,11 @@ code_makes (Some c ∷ items) k s u e (v, p, h, more) =
     let g : ok (after k s c.label c.instruction) ≡ ok v = b.1 in
     let q : after k s c.label c.instruction ≡ v = cc in
     let r = code_makes items (k + 1) (after k s c.label c.instruction) u e (subst (λ w. Build (k + 1) w (map code_line items) u) (sym q) more) in
-    (new_labels k s.unit c.label c.instruction (labels_in items) b.0 r.0, r.1 ∙ behind_one k s c items)
+    (new_labels k s.unit c.label c.instruction (labels_in items) b.0 r.0, r.1 ∙ one_after k s c items)
 
 pub makes_code : (items : List (Option CodeItem)) (k : ℕ) (s u : Source) → s.place ≡ places.Code → MakesCode k s items u → Build k s (map code_line items) u
-makes_code [] k s u e (n, q) = sym (q ∙ behind_none k s)
+makes_code [] k s u e (n, q) = sym (q ∙ after_none k s)
 makes_code (None ∷ items) k s u e a = (s, e, refl, makes_code items (k + 1) s u e a)
 makes_code (Some c ∷ items) k s u e (n, q) =
     let a = labels_new k s.unit c.label c.instruction (labels_in items) n in
-    (after k s c.label c.instruction, e, made_line k s c.label c.instruction a.0, makes_code items (k + 1) (after k s c.label c.instruction) u e (a.1, q ∙ sym (behind_one k s c items)))
+    (after k s c.label c.instruction, e, made_line k s c.label c.instruction a.0, makes_code items (k + 1) (after k s c.label c.instruction) u e (a.1, q ∙ sym (one_after k s c items)))

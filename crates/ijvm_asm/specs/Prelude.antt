@@ -5,9 +5,9 @@ pub use Rattle.ijvm_asm.specs.Making.{AreConstants, Declarations, SectionAdds, S
 pub use Rattle.ijvm_asm.specs.Names.{IsLineOf, IsLocal, IsLowest, IsProgramOf, IsUnitOf, IsUnknownAt, IsUnknownIn, IsUnknownLine, NamesNone, NamesUnknown, Pairwise, StandsFor, all_units, constants_of, first_index, labels_of}
 pub use Rattle.ijvm_asm.specs.ReadingNames.{by_main, by_missing, by_unknown, index_of, label_of, lines_from, lower, missing, missing_at, operation_of, or_line, or_no_main, program_with, unit_of, unit_with, units_from, unknown, unknown_lines, unknown_main, unknown_units}
 unfoldable pub use Rattle.ijvm_asm.specs.ReadingNames.{whole_program}
-pub use Rattle.ijvm_asm.specs.Refusals.{IsFront, IsMisfit, IsReason, StandsAt, names_behind, open_lines, open_names, opened_by}
+pub use Rattle.ijvm_asm.specs.Refusals.{IsFront, IsMisfit, IsReason, StandsAt, names_following, open_lines, open_names, opened_by}
 pub use Rattle.ijvm_asm.specs.Said.{BlankAt, Codes, Declares, Defines, Dotted, Heads, Lists, Said, Says, line_meant, place_of, said_at}
 pub use Rattle.ijvm_asm.specs.Sections.{Between, Body, CodeItem, Constants, Locals, Main, Method, Section, body_lines, code_line, constant_line, lines_of, local_line, locals_lines, section_lines}
 pub use Rattle.ijvm_asm.specs.Source.{Source, declarations_of, empty}
 pub use Rattle.ijvm_asm.specs.Text.{AreRefused, IsRefused, IsSource, SpellsProgram, grammar}
-pub use Rattle.ijvm_asm.specs.Units.{AreLocals, AreNew, MakesUnit, behind_instruction, code_from, declared, labels_in, lines_in, locals_in, positions_in, waits, waits_behind, with_instruction, with_label, with_position}
+pub use Rattle.ijvm_asm.specs.Units.{AreLocals, AreNew, MakesUnit, after_instruction, code_from, declared, labels_in, lines_in, locals_in, positions_in, waits, waits_after, with_instruction, with_label, with_position}

@@ -26,24 +26,24 @@ StandsAt xs place = IsFront (xs ++ BlankAt place ∷ [])
 
 -- ---- the names of the open unit
 
-abbrev pub names_behind : List (List ℕ) → Said → List (List ℕ)
-names_behind ns (Heads name ps) = ps
-names_behind ns (Declares name) = ns ++ name ∷ []
-names_behind ns (Dotted marks.BeginMain) = []
-names_behind ns (Dotted marks.EndMain) = []
-names_behind ns (Dotted marks.EndMethod) = []
-names_behind ns _ = ns
+abbrev pub names_following : List (List ℕ) → Said → List (List ℕ)
+names_following ns (Heads name ps) = ps
+names_following ns (Declares name) = ns ++ name ∷ []
+names_following ns (Dotted marks.BeginMain) = []
+names_following ns (Dotted marks.EndMain) = []
+names_following ns (Dotted marks.EndMethod) = []
+names_following ns _ = ns
 
 -- the parameters and locals of the unit that is open after these lines, which has these before them
 abbrev pub open_names : List (List ℕ) → List Said → List (List ℕ)
 open_names ns [] = ns
-open_names ns (x ∷ xs) = open_names (names_behind ns x) xs
+open_names ns (x ∷ xs) = open_names (names_following ns x) xs
 
 -- ---- the sections that are open
 
-abbrev pub behind_end : List ℕ → List ℕ
-behind_end [] = []
-behind_end (line ∷ lines) = lines
+abbrev pub after_end : List ℕ → List ℕ
+after_end [] = []
+after_end (line ∷ lines) = lines
 
 -- a line that begins a section opens it, and one that ends a section ends the innermost
 abbrev pub opened_by : ℕ → Said → List ℕ → List ℕ
@@ -51,10 +51,10 @@ opened_by k (Heads name ps) opened = k ∷ opened
 opened_by k (Dotted marks.BeginConstants) opened = k ∷ opened
 opened_by k (Dotted marks.BeginMain) opened = k ∷ opened
 opened_by k (Dotted marks.BeginLocals) opened = k ∷ opened
-opened_by k (Dotted marks.EndConstants) opened = behind_end opened
-opened_by k (Dotted marks.EndMain) opened = behind_end opened
-opened_by k (Dotted marks.EndMethod) opened = behind_end opened
-opened_by k (Dotted marks.EndLocals) opened = behind_end opened
+opened_by k (Dotted marks.EndConstants) opened = after_end opened
+opened_by k (Dotted marks.EndMain) opened = after_end opened
+opened_by k (Dotted marks.EndMethod) opened = after_end opened
+opened_by k (Dotted marks.EndLocals) opened = after_end opened
 opened_by k _ opened = opened
 
 -- the lines that began what is open after these lines, the innermost first; the first of these is line `k`

@@ -40,20 +40,20 @@ abbrev pub code_line : Option CodeItem → Said
 code_line None = BlankAt places.Code
 code_line (Some c) = Codes c.label c.instruction
 
--- each of these is the lines of a part, followed by the lines `behind`
+-- each of these is the lines of a part, followed by the lines `following`
 abbrev pub locals_lines : Option Locals → List Said → List Said
-locals_lines None behind = behind
-locals_lines (Some d) behind = replicate d.blank_lines (BlankAt places.Code)
-    ++ (Dotted marks.BeginLocals ∷ (map local_line d.names ++ (Dotted marks.EndLocals ∷ behind)))
+locals_lines None following = following
+locals_lines (Some d) following = replicate d.blank_lines (BlankAt places.Code)
+    ++ (Dotted marks.BeginLocals ∷ (map local_line d.names ++ (Dotted marks.EndLocals ∷ following)))
 
 abbrev pub body_lines : Body → List Said → List Said
-body_lines b behind = locals_lines b.locals (map code_line b.code ++ behind)
+body_lines b following = locals_lines b.locals (map code_line b.code ++ following)
 
 abbrev pub section_lines : Section → List Said → List Said
-section_lines Between behind = BlankAt places.Outside ∷ behind
-section_lines (Constants items) behind = Dotted marks.BeginConstants ∷ (map constant_line items ++ (Dotted marks.EndConstants ∷ behind))
-section_lines (Main body) behind = Dotted marks.BeginMain ∷ body_lines body (Dotted marks.EndMain ∷ behind)
-section_lines (Method name ps body) behind = Heads name ps ∷ body_lines body (Dotted marks.EndMethod ∷ behind)
+section_lines Between following = BlankAt places.Outside ∷ following
+section_lines (Constants items) following = Dotted marks.BeginConstants ∷ (map constant_line items ++ (Dotted marks.EndConstants ∷ following))
+section_lines (Main body) following = Dotted marks.BeginMain ∷ body_lines body (Dotted marks.EndMain ∷ following)
+section_lines (Method name ps body) following = Heads name ps ∷ body_lines body (Dotted marks.EndMethod ∷ following)
 
 -- the lines of all sections
 abbrev pub lines_of : List Section → List Said

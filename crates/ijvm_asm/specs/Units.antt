@@ -51,25 +51,25 @@ abbrev pub with_position : ℕ → Option (List ℕ) → List ℕ → List ℕ
 with_position n None label_positions = label_positions
 with_position n (Some label) label_positions = n ∷ label_positions
 
-abbrev pub behind_instruction : ℕ → Option Instruction → ℕ
-behind_instruction n None = n
-behind_instruction n (Some instruction) = n + 1
+abbrev pub after_instruction : ℕ → Option Instruction → ℕ
+after_instruction n None = n
+after_instruction n (Some instruction) = n + 1
 
 -- for each label how many instructions of the unit stand before it, where `n` stand before all of these lines
 abbrev pub positions_in : ℕ → List (Option CodeItem) → List ℕ
 positions_in n [] = []
 positions_in n (None ∷ items) = positions_in n items
-positions_in n (Some c ∷ items) = with_position n c.label (positions_in (behind_instruction n c.instruction) items)
+positions_in n (Some c ∷ items) = with_position n c.label (positions_in (after_instruction n c.instruction) items)
 
 abbrev pub waits : Bool → Option Instruction → Bool
 waits label None = label
 waits label (Some instruction) = false
 
 -- the last label has no instruction after it
-abbrev pub waits_behind : Bool → List (Option CodeItem) → Bool
-waits_behind label [] = label
-waits_behind label (None ∷ items) = waits_behind label items
-waits_behind label (Some c ∷ items) = waits_behind (waits (is_some c.label || label) c.instruction) items
+abbrev pub waits_after : Bool → List (Option CodeItem) → Bool
+waits_after label [] = label
+waits_after label (None ∷ items) = waits_after label items
+waits_after label (Some c ∷ items) = waits_after (waits (is_some c.label || label) c.instruction) items
 
 -- ---- the unit
 
@@ -88,7 +88,7 @@ locals_in (Some d) = declared d.names
 pub record MakesUnit (k : ℕ) (name : Option (List ℕ)) (ps : List (List ℕ)) (body : Body) (unit : DraftView) : Type 0 where
   pub locals : AreLocals ps (locals_in body.locals)
   pub labels : AreNew [] (labels_in body.code)
-  pub ready : waits_behind false body.code ≡ false
+  pub ready : waits_after false body.code ≡ false
   pub is : unit ≡ record {
     name = name;
     names = ps ++ locals_in body.locals;

@@ -83,10 +83,10 @@ block_read : (file : List ℕ) (place : ℕ) (first : Option ℕ) (origin : ℕ)
     (block_at file place first ≡ Ok (block_there origin place (length bytes))) × (drop (place + 8) file ≡ bytes ++ rest) × (place + 8 + length bytes ≤ length file)
 block_read file place first origin bytes rest e origin_ok size_ok =
     let n : ℕ = length bytes in
-    let behind : List ℕ = word_bytes n ++ (bytes ++ rest) in
-    let e0 : drop place file ≡ word_bytes origin ++ behind = e in
-    let f1 : field file place ≡ Ok origin = field_read file place origin behind e0 in
-    let e1 : drop (place + 4) file ≡ word_bytes n ++ (bytes ++ rest) = (word_read file place origin behind e0).1 in
+    let following : List ℕ = word_bytes n ++ (bytes ++ rest) in
+    let e0 : drop place file ≡ word_bytes origin ++ following = e in
+    let f1 : field file place ≡ Ok origin = field_read file place origin following e0 in
+    let e1 : drop (place + 4) file ≡ word_bytes n ++ (bytes ++ rest) = (word_read file place origin following e0).1 in
     let f2 : field file (place + 4) ≡ Ok n = field_read file (place + 4) n (bytes ++ rest) e1 in
     let eight : place + 4 + 4 ≡ place + 8 = omega arith in
     let e2 : drop (place + 8) file ≡ bytes ++ rest = subst (λ (k : ℕ). drop k file ≡ bytes ++ rest) eight (word_read file (place + 4) n (bytes ++ rest) e1).1 in
@@ -157,12 +157,12 @@ blocks_read file o1 o2 b1 b2 e origin1 origin2 size1 size2 =
     let all : nat_lt (second + 8 + length b2) (length file) ≡ false = grind (arith, nat_tests) in
     let last : ended file (block_there o1 4 (length b1)) (block_there o2 second (length b2)) ≡ Ok (joined file (block_there o1 4 (length b1)) (block_there o2 second (length b2))) =
     cond-false (nat_lt (second + 8 + length b2) (length file)) _ _ all in
-    let behind : and_then (block_at file second (Some o1)) (λ (b : Block). ended file (block_there o1 4 (length b1)) b)
+    let following : and_then (block_at file second (Some o1)) (λ (b : Block). ended file (block_there o1 4 (length b1)) b)
     ≡ Ok (joined file (block_there o1 4 (length b1)) (block_there o2 second (length b2))) =
     and_then_ok (block_at file second (Some o1)) (λ (b : Block). ended file (block_there o1 4 (length b1)) b) (block_there o2 second (length b2)) _ r2.0 last in
     let both : and_then (block_at file 4 None) (λ (a : Block). and_then (block_at file a.to (Some a.origin)) (λ (b : Block). ended file a b))
     ≡ Ok (joined file (block_there o1 4 (length b1)) (block_there o2 second (length b2))) =
-    and_then_ok (block_at file 4 None) (λ (a : Block). and_then (block_at file a.to (Some a.origin)) (λ (b : Block). ended file a b)) (block_there o1 4 (length b1)) _ r1.0 behind in
+    and_then_ok (block_at file 4 None) (λ (a : Block). and_then (block_at file a.to (Some a.origin)) (λ (b : Block). ended file a b)) (block_there o1 4 (length b1)) _ r1.0 following in
     let whole : image_read file ≡ Ok (joined file (block_there o1 4 (length b1)) (block_there o2 second (length b2))) =
     and_then_ok (field file 0)
     (λ (w : ℕ). if w == magic then and_then (block_at file 4 None) (λ (a : Block). and_then (block_at file a.to (Some a.origin)) (λ (b : Block). ended file a b)) else Err errors.BadMagic)

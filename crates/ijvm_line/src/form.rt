@@ -27,11 +27,11 @@ pub enum Form {
 fn method_of(rest: &[Token]) -> Option<Form>
     ensures { result ≡ method_of rest.now }
 {
-    let (first, behind) = rest.split_first()?;
+    let (first, after) = rest.split_first()?;
     let Token::Name(name) = *first else {
         return None;
     };
-    let (second, list) = behind.split_first()?;
+    let (second, list) = after.split_first()?;
     if is_open(*second) && is_list(list) {
         Some(Form::Method(name))
     } else {
@@ -95,7 +95,7 @@ fn code(name: Name, tokens: &[Token]) -> Option<Form>
 {
     let (_, rest) = tokens.split_first()?;
     match rest.split_first() {
-        Some((Token::Sign(Sign::Colon), behind)) => labelled(name, behind),
+        Some((Token::Sign(Sign::Colon), after)) => labelled(name, after),
         _ => Some(Form::Code(None, Some(statement_of(tokens)?))),
     }
 }

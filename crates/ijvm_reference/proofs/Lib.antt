@@ -7,5 +7,5 @@ pub mod SafeLemmas
 pub mod Costs
 pub mod Keeping
 pub mod Running
-pub mod Behind
+pub mod Following
 pub mod Told

@@ -10,7 +10,7 @@ use Rattle.ijvm_meaning.specs.Prelude.{Frame, State, frames_of, base, SameFrames
 use Rattle.ijvm_reference.specs.Prelude.{MachineView, state_of, started, IsMetBy, fresh, program_of, point_at, IsAllBut, IsCut, EndsIn, StoppedBy, IsShown, IsDriven, Reaches, Begins, told_of, reported_end, IsReportOf, Reports, Leaves, GotFront, Finishes, Stops, HasRun, IsCutByRead, IsCutInside, IsCutAtEnd, IsShort}
 use Rattle.ijvm_reference.proofs.SafeLemmas.{some_untaken}
 use Rattle.ijvm_reference.proofs.Running.{lost_shown}
-use Rattle.ijvm_reference.proofs.Behind.{behind, point_behind, finish_behind, ended_behind, reached_behind}
+use Rattle.ijvm_reference.proofs.Following.{following, point_following, finish_following, ended_following, reached_following}
 
 reports : (r : PlainReport) (c : Counts) (new : MachineView) (u g : List ℕ) (cycles instructions : ℕ) (last : Point) → IsReportOf r c new →
     cycles ≡ c.cycles → instructions ≡ c.instructions → last.cycles ≡ c.boundary → SameFrames last.state (state_of new u g) → Reports r cycles instructions last
@@ -40,13 +40,13 @@ record IsEndOf (front : List ℕ) (f : Finish) (end : RunEnd) (c : Counts) (new 
   pub untaken : f.left.untaken ≡ u
   pub given : front ++ f.left.given ≡ g
 
-ends_behind : (front : List ℕ) (p : TimedImage) (bound : ℕ) (from : Point) (end : RunEnd) (c : Counts) (new : MachineView) (u g : List ℕ) → EndsIn end p bound (point_behind front from) c new u g →
+ends_following : (front : List ℕ) (p : TimedImage) (bound : ℕ) (from : Point) (end : RunEnd) (c : Counts) (new : MachineView) (u g : List ℕ) → EndsIn end p bound (point_following front from) c new u g →
     (f : Finish) × EndsBy p bound from f × IsEndOf front f end c new u g
-ends_behind front p bound from end c new u g (e, same) =
-    let b = ended_behind p bound front from e.finish e.ends in
-    let is : e.finish ≡ finish_behind front b.0 = b.2 in
+ends_following front p bound from end c new u g (e, same) =
+    let b = ended_following p bound front from e.finish e.ends in
+    let is : e.finish ≡ finish_following front b.0 = b.2 in
     let last : SameFrames e.finish.last.state (state_of new u g) = subst (λ (s : State). SameFrames e.finish.last.state s) e.left e.last in
-    let h : SameFrames (behind front b.0.last.state) (state_of new u g) = subst (λ (x : Finish). SameFrames x.last.state (state_of new u g)) is last in (
+    let h : SameFrames (following front b.0.last.state) (state_of new u g) = subst (λ (x : Finish). SameFrames x.last.state (state_of new u g)) is last in (
       b.0,
       b.1,
       record {
@@ -71,13 +71,13 @@ record IsCutOf (e : StepError) (held : Option (List ℕ)) (front : List ℕ) (p 
   pub given : front ++ at.state.given ≡ g
   pub lost : e ≡ errors.WriteFault → IsAllBut held console.kept g
 
-cut_behind : (e : StepError) (told : Bool) (c0 : ConsoleView) (held : Option (List ℕ)) (front : List ℕ) (p : TimedImage) (bound : ℕ) (from : Point) (c : Counts) (new : MachineView) (u g : List ℕ) →
-    IsCut e told c0 held p bound (point_behind front from) c new u g →
+cut_following : (e : StepError) (told : Bool) (c0 : ConsoleView) (held : Option (List ℕ)) (front : List ℕ) (p : TimedImage) (bound : ℕ) (from : Point) (c : Counts) (new : MachineView) (u g : List ℕ) →
+    IsCut e told c0 held p bound (point_following front from) c new u g →
     (at : Point) × (console : ConsoleView) × Reaches told p bound from c0 at console × IsCutOf e held front p bound at console c new u g
-cut_behind e told c0 held front p bound from c new u g cut =
-    let b = reached_behind told p bound front from c0 cut.at cut.console cut.reaches in
-    let is : cut.at ≡ point_behind front b.0 = b.2 in
-    let state : behind front b.0.state ≡ state_of new u g = sym (ap (λ (x : Point). x.state) is) ∙ cut.state in (
+cut_following e told c0 held front p bound from c new u g cut =
+    let b = reached_following told p bound front from c0 cut.at cut.console cut.reaches in
+    let is : cut.at ≡ point_following front b.0 = b.2 in
+    let state : following front b.0.state ≡ state_of new u g = sym (ap (λ (x : Point). x.state) is) ∙ cut.state in (
       b.0,
       cut.console,
       b.1,
@@ -144,7 +144,7 @@ pub record Driven (stop : Result PlainEnd AllocError) (left held left' held' : O
   pub untaken : Leaves left left' rest
   pub all : List ℕ
   pub shown : IsShown stop held' c'.kept all
-  pub stopped : StoppedBy (is_some left) fresh held' stop p bound (point_behind (told_of held) (first_point p main_locals input)) c new rest all
+  pub stopped : StoppedBy (is_some left) fresh held' stop p bound (point_following (told_of held) (first_point p main_locals input)) c new rest all
 
 pub driven : (stop : Result PlainEnd AllocError) (left held left' held' : Option (List ℕ)) (c0 c' : ConsoleView) (image : ImageView) (n main_locals bound : ℕ) (machine : Machine) (c0s c : Counts) (old new : MachineView) →
     c0.kept ≡ [] → c0.ended ≡ false → c0s.cycles ≡ 2 → c0s.instructions ≡ 0 → old ≡ started image n main_locals → (TellsLeft left c0.ended → TellsLeft left' c'.ended) →
@@ -189,10 +189,10 @@ finishes left held left' held' p main_locals bound input rest all end c new told
 
 -- the run has ended as the definition's
 has_run : (end : RunEnd) (left held left' held' : Option (List ℕ)) (p : TimedImage) (main_locals bound : ℕ) (input rest all : List ℕ) (c : Counts) (new : MachineView) (r : PlainReport) →
-    Untaken left false input → Leaves left left' rest → EndsIn end p bound (point_behind (told_of held) (first_point p main_locals input)) c new rest all → Given held' [] all →
+    Untaken left false input → Leaves left left' rest → EndsIn end p bound (point_following (told_of held) (first_point p main_locals input)) c new rest all → Given held' [] all →
     IsReportOf r c new → r.end ≡ reported_end end → HasRun p main_locals bound left held left' held' r
 has_run end left held left' held' p main_locals bound input rest all c new r told untaken e shown is by =
-    let b = ends_behind (told_of held) p bound (first_point p main_locals input) end c new rest all e in
+    let b = ends_following (told_of held) p bound (first_point p main_locals input) end c new rest all e in
     record {
       run = finishes left held left' held' p main_locals bound input rest all end c new told untaken b.0 b.1 b.2.untaken;
       end = by ∙ ap reported_end (sym b.2.is_end);
@@ -207,10 +207,10 @@ lost_last (Some h) held' kept kept' given some lost told = subst (λ o. LosesLas
 
 -- the run has ended, but the last flush failed
 cut_at_end : (end : RunEnd) (left held left' held' : Option (List ℕ)) (p : TimedImage) (main_locals bound : ℕ) (input rest all : List ℕ) (c : Counts) (new : MachineView) (r : PlainReport) →
-    Untaken left false input → Leaves left left' rest → EndsIn end p bound (point_behind (told_of held) (first_point p main_locals input)) c new rest all → IsShown (Ok ends.WriteFault) held' [] all →
+    Untaken left false input → Leaves left left' rest → EndsIn end p bound (point_following (told_of held) (first_point p main_locals input)) c new rest all → IsShown (Ok ends.WriteFault) held' [] all →
     LosesLast held' all → Holds (told_of held) held' → IsReportOf r c new → IsCutAtEnd p main_locals bound left held left' held' r
 cut_at_end end left held left' held' p main_locals bound input rest all c new r told untaken e shown last holds is =
-    let b = ends_behind (told_of held) p bound (first_point p main_locals input) end c new rest all e in
+    let b = ends_following (told_of held) p bound (first_point p main_locals input) end c new rest all e in
     record {
       run = finishes left held left' held' p main_locals bound input rest all end c new told untaken b.0 b.1 b.2.untaken;
       report = reports r c new rest all b.0.cycles b.0.instructions b.0.last is b.2.cycles b.2.instructions b.2.boundary b.2.frames;
@@ -256,7 +256,7 @@ pub cut_by_read : (left held left' held1 held' : Option (List ℕ)) (c1 : Consol
     Driven (Ok ends.ReadFault) left held left' held1 c1 p main_locals bound c new → ((g : List ℕ) → Given held1 c1.kept g → Given held' [] g) → IsReportOf r c new →
     IsCutByRead p main_locals bound left held left' held' r
 cut_by_read left held left' held1 held' c1 p main_locals bound c new r d flushed is =
-    let b = cut_behind errors.ReadFault (is_some left) fresh held1 (told_of held) p bound (first_point p main_locals d.input) c new d.rest d.all d.stopped in
+    let b = cut_following errors.ReadFault (is_some left) fresh held1 (told_of held) p bound (first_point p main_locals d.input) c new d.rest d.all d.stopped in
     record {
       run = stops left held left' held' p main_locals bound d.input d.rest d.told d.untaken b.0 b.1 b.2 b.3.untaken;
       under = b.3.under;
@@ -270,7 +270,7 @@ pub cut_inside : (left held left' held1 held' : Option (List ℕ)) (c1 : Console
     Driven (Ok ends.WriteFault) left held left' held1 c1 p main_locals bound c new → held' ≡ held1 → Holds (told_of held) held1 → IsReportOf r c new →
     IsCutInside p main_locals bound left held left' held' r
 cut_inside left held left' held1 held' c1 p main_locals bound c new r d same holds is =
-    let b = cut_behind errors.WriteFault (is_some left) fresh held1 (told_of held) p bound (first_point p main_locals d.input) c new d.rest d.all d.stopped in
+    let b = cut_following errors.WriteFault (is_some left) fresh held1 (told_of held) p bound (first_point p main_locals d.input) c new d.rest d.all d.stopped in
     record {
       run = stops left held left' held' p main_locals bound d.input d.rest d.told d.untaken b.0 b.1 b.2 b.3.untaken;
       under = b.3.under;
@@ -283,7 +283,7 @@ cut_inside left held left' held1 held' c1 p main_locals bound c new r d same hol
 pub short : (e : AllocError) (left held left' held' : Option (List ℕ)) (c1 : ConsoleView) (p : TimedImage) (main_locals bound : ℕ) (c : Counts) (new : MachineView) →
     Driven (Err e) left held left' held' c1 p main_locals bound c new → Holds (told_of held) held' → IsShort p main_locals bound left held left' held'
 short e left held left' held' c1 p main_locals bound c new d holds =
-    let b = cut_behind errors.OutOfMemory (is_some left) fresh held' (told_of held) p bound (first_point p main_locals d.input) c new d.rest d.all d.stopped in
+    let b = cut_following errors.OutOfMemory (is_some left) fresh held' (told_of held) p bound (first_point p main_locals d.input) c new d.rest d.all d.stopped in
     record {
       run = stops left held left' held' p main_locals bound d.input d.rest d.told d.untaken b.0 b.1 b.2 b.3.untaken;
       given = got_front (told_of held) b.0.state.given d.all held' holds (kept_front c1.kept d.all held' d.shown) b.3.given;

@@ -5,7 +5,7 @@ use Rattle.ijvm_simulation.proofs.Common.{turn, turn_by, turns, bounded, after_s
 use Rattle.mic_clock.specs.declared.end.End.TheVariants as clocked
 use Rattle.ijvm_meaning.specs.declared.run.RunEnd.TheVariants as defined
 use Rattle.ijvm_meaning.specs.Prelude.{State, StepOutcome, Goes, Halts, Errs, Limits, Stuck, step_outcome, next_cost, TimedImage, Point, Finish, point_after, finish_from, after_test, after_outcome, completed, stopped}
-use Rattle.ijvm_simulation.specs.Prelude.{point_behind, below, going_on, board_end, IsBoundary, IsEnd, Moment, pass, HasWord, Moves, Stops, StopsHere, StopsBehind, Overruns, ShowsState}
+use Rattle.ijvm_simulation.specs.Prelude.{nth_point, below, going_on, board_end, IsBoundary, IsEnd, Moment, pass, HasWord, Moves, Stops, StopsHere, StopsAfter, Overruns, ShowsState}
 use Rattle.ijvm_simulation.proofs.Passes.{not_boundary}
 use Rattle.ijvm_simulation.proofs.Turns.{moment_of, run_inside, run_at, IsReady, ready_inside, whole_turn, turns-add, ending_turn, clocks, pass_turns, pass_turns_inside, inside_pass}
 
@@ -138,9 +138,9 @@ module _ {S : Type 0} (m : Meaning S) (words : List ℕ) (IsAt : State → S →
       }
 
   -- what is counted where an instruction ends the run
-  completed_behind : (mpc : ℕ) (e : RunEnd) (v : StopsBehind m words IsAt before (moment_of r) (next_cost p.image p.timing at.state) mpc) → completes (board_end e) ≡ true →
+  completed_after : (mpc : ℕ) (e : RunEnd) (v : StopsAfter m words IsAt before (moment_of r) (next_cost p.image p.timing at.state) mpc) → completes (board_end e) ≡ true →
       IsEnd before (completed p at e) (after_end_or_step m words (Some (board_end e)) (run_inside m r (r.counts.cycles + v.n + 1) v.there))
-  completed_behind mpc e v t =
+  completed_after mpc e v t =
       record {
         end = refl;
         cycles = λ ne. omega (arith, v.spent_is, h.cycles);
@@ -184,7 +184,7 @@ module _ {S : Type 0} (m : Meaning S) (words : List ℕ) (IsAt : State → S →
       (turns-add m words bound (suc v.n) 1 r
       ∙ (ap (whole_turn m words bound) (inside_turns v.n v.there t v.begins v.short v.passes v.off)
       ∙ ending_turn m words bound q (board_end e) refl v.off (ending v.there.state q.counts v.mpc_is)))
-      (completed_behind mpc e v done)
+      (completed_after mpc e v done)
 
   pub halts : nat_le bound at.cycles ≡ false → step_outcome p.image p.stack_end at.state ≡ Halts → Ended (completed p at defined.Halt)
   halts t o = stops 255 defined.Halt (law.halts at.state (moment_of r) fine h.stands o) t ends_by refl
@@ -222,16 +222,16 @@ module _ {S : Type 0} (m : Meaning S) (words : List ℕ) (IsAt : State → S →
   -- how both runs go on from here, or end
   pub data Turnout : Type 0 where
     On : (to : State) → Fine to → ((n : ℕ) → finish_from p bound (suc n) at ≡ finish_from p bound n (point_after p at to)) →
-        ((i : ℕ) → point_behind p bound (suc i) at ≡ point_behind p bound i (point_after p at to)) → Moved to → Turnout
-    Over : (f : Finish) → ((n : ℕ) → finish_from p bound (suc n) at ≡ Some f) → ((i : ℕ) → point_behind p bound (suc i) at ≡ None) → Ended f → Turnout
+        ((i : ℕ) → nth_point p bound (suc i) at ≡ nth_point p bound i (point_after p at to)) → Moved to → Turnout
+    Over : (f : Finish) → ((n : ℕ) → finish_from p bound (suc n) at ≡ Some f) → ((i : ℕ) → nth_point p bound (suc i) at ≡ None) → Ended f → Turnout
 
   finish_is : nat_le bound at.cycles ≡ false → (n : ℕ) → {out : StepOutcome} → step_outcome p.image p.stack_end at.state ≡ out →
       finish_from p bound (suc n) at ≡ after_outcome (finish_from p bound n) p at out
   finish_is t n o = ap (after_test (finish_from p bound n) p at) t ∙ ap (after_outcome (finish_from p bound n) p at) o
 
   point_is : nat_le bound at.cycles ≡ false → (i : ℕ) → {out : StepOutcome} → step_outcome p.image p.stack_end at.state ≡ out →
-      point_behind p bound (suc i) at ≡ going_on (point_behind p bound i) p at out
-  point_is t i o = ap (below (point_behind p bound i) p at) t ∙ ap (going_on (point_behind p bound i) p at) o
+      nth_point p bound (suc i) at ≡ going_on (nth_point p bound i) p at out
+  point_is t i o = ap (below (nth_point p bound i) p at) t ∙ ap (going_on (nth_point p bound i) p at) o
 
   by_outcome : nat_le bound at.cycles ≡ false → (out : StepOutcome) → step_outcome p.image p.stack_end at.state ≡ out → Turnout
   by_outcome t (Goes to) o =
@@ -243,7 +243,7 @@ module _ {S : Type 0} (m : Meaning S) (words : List ℕ) (IsAt : State → S →
 
   by_test : (b : Bool) → nat_le bound at.cycles ≡ b → Turnout
   by_test true t =
-      Over (stopped at defined.Bound at.state) (λ n. ap (after_test (finish_from p bound n) p at) t) (λ i. ap (below (point_behind p bound i) p at) t) (bounds t)
+      Over (stopped at defined.Bound at.state) (λ n. ap (after_test (finish_from p bound n) p at) t) (λ i. ap (below (nth_point p bound i) p at) t) (bounds t)
   by_test false t = by_outcome t (step_outcome p.image p.stack_end at.state) refl
 
   pub turnout : Turnout

@@ -2,7 +2,7 @@
 use Rattle.ijvm_simulation.proofs.Common.{◌≡◌, ℕ, suc, ◌+◌, ◌<◌, Some, false, List, refl, arith, sym, ◌∙◌, ap, ap₂, subst, zero-add, nat_le, nat_tests, World}
 use Rattle.ijvm_simulation.proofs.Common.{Meaning, MicroRun, turns, ImageView, Instr, instr_at, VerifiedView, reset_run}
 use Rattle.ijvm_meaning.specs.Prelude.{State, start_of, Goes, Limits, step_outcome, Timing, cost, cost_at, next_cost, TimedImage, Point, point_after, first_point}
-use Rattle.ijvm_simulation.specs.Prelude.{Origin, Went, Overran, program, Loads, Fine, IsNext, IsBoundary, Law, Boots, reset_moment, MovesWithStalls, OverrunsWithStalls, TakesWithStalls, HasStalled, StoppedWithin, Booted, Behind}
+use Rattle.ijvm_simulation.specs.Prelude.{Origin, Went, Overran, program, Loads, Fine, IsNext, IsBoundary, Law, Boots, reset_moment, MovesWithStalls, OverrunsWithStalls, TakesWithStalls, HasStalled, StoppedWithin, Booted, Following}
 use Rattle.ijvm_simulation.proofs.Turns.{moment_of, turns-add}
 use Rattle.ijvm_simulation.proofs.Instruction.{Law as BoundaryLaw, Keeps, arrives, ready, near, instructions, overrun}
 use Rattle.ijvm_simulation.proofs.Next.{Known, fine_start, keeps, next_of, said, boundary_law}
@@ -26,10 +26,10 @@ module _ {S : Type 0} (m : Meaning S) (store : List ℕ) (IsAt : State → S →
   keep = keeps v timing loads.accepted loads.image known
 
   -- the boundary after an instruction
-  behind : (at : Point) (stalls : ℕ) (r : MicroRun S) (i : Instr) (to : State) → IsHere at stalls r → at.cycles < bound →
+  following : (at : Point) (stalls : ℕ) (r : MicroRun S) (i : Instr) (to : State) → IsHere at stalls r → at.cycles < bound →
       instr_at v.image.text at.state.at ≡ Some i → step_outcome v.image v.map.stack_end at.state ≡ Goes to →
       IsHere (point_after p at to) (stalls + stalls_of v.image i) (turns m store (Some bound) (next_cost v.image timing at.state) r)
-  behind at stalls r i to h below code goes =
+  following at stalls r i to h below code goes =
       let is : IsNext v o at.state i = next_of v o loads known at.state h.fine i code in
       let went : Went v.image v.map.stack_end at.state to i = said v o loads known at.state i (Goes to) code goes in
       let w : MovesWithStalls m store IsAt o.given (moment_of r) (cost v.image timing i at.state) (stalls_of v.image i) to =
@@ -47,10 +47,10 @@ module _ {S : Type 0} (m : Meaning S) (store : List ℕ) (IsAt : State → S →
       })
 
   -- an instruction that the stack's end cuts short
-  cut_behind : (at : Point) (stalls : ℕ) (r : MicroRun S) (i : Instr) (left : State) → IsHere at stalls r → at.cycles < bound →
+  cut_following : (at : Point) (stalls : ℕ) (r : MicroRun S) (i : Instr) (left : State) → IsHere at stalls r → at.cycles < bound →
       instr_at v.image.text at.state.at ≡ Some i → step_outcome v.image v.map.stack_end at.state ≡ Limits left →
       (n : ℕ) × StoppedWithin (stalls + stalls_of v.image i) (turns m store (Some bound) n r)
-  cut_behind at stalls r i left h below code limits =
+  cut_following at stalls r i left h below code limits =
       let is : IsNext v o at.state i = next_of v o loads known at.state h.fine i code in
       let over : Overran v.image v.map.stack_end at.state left i = said v o loads known at.state i (Limits left) code limits in
       let w : OverrunsWithStalls m store IsAt o.given (moment_of r) (stalls_of v.image i) left = takes.limits at.state left (moment_of r) i tt h.fine is h.boundary.stands over in
@@ -71,10 +71,10 @@ module _ {S : Type 0} (m : Meaning S) (store : List ℕ) (IsAt : State → S →
 
     here : (at : Point) (stalls : ℕ) → HasStalled booting stalls_of p bound (first_point p v.main_locals input) at stalls → IsHere at stalls (turns m store (Some bound) at.cycles start)
     here at stalls (Booted at' same) = subst (λ (x : Point). IsHere x booting (turns m store (Some bound) x.cycles start)) (sym same) first
-    here at stalls (Behind before at' k i to past below code goes same) =
+    here at stalls (Following before at' k i to past below code goes same) =
         let h : IsHere before k (turns m store (Some bound) before.cycles start) = here before k past in
         let g : IsHere (point_after p before to) (k + stalls_of v.image i) (turns m store (Some bound) (next_cost v.image timing before.state) (turns m store (Some bound) before.cycles start)) =
-        behind before k (turns m store (Some bound) before.cycles start) i to h below code goes in
+        following before k (turns m store (Some bound) before.cycles start) i to h below code goes in
         subst (λ (x : Point). IsHere x (k + stalls_of v.image i) (turns m store (Some bound) x.cycles start)) (sym same)
         (subst (λ (r : MicroRun S). IsHere (point_after p before to) (k + stalls_of v.image i) r)
         (sym (turns-add m store bound before.cycles (next_cost v.image timing before.state) start)) g)
@@ -86,5 +86,5 @@ module _ {S : Type 0} (m : Meaning S) (store : List ℕ) (IsAt : State → S →
         instr_at v.image.text at.state.at ≡ Some i → step_outcome v.image v.map.stack_end at.state ≡ Limits left →
         (n : ℕ) × StoppedWithin (stalls + stalls_of v.image i) (turns m store (Some bound) n start)
     cut_at at stalls i left h below code limits =
-        let c = cut_behind at stalls (turns m store (Some bound) at.cycles start) i left (here at stalls h) below code limits in
+        let c = cut_following at stalls (turns m store (Some bound) at.cycles start) i left (here at stalls h) below code limits in
         (at.cycles + c.0, subst (λ (r : MicroRun S). StoppedWithin (stalls + stalls_of v.image i) r) (sym (turns-add m store bound at.cycles c.0 start)) c.1)

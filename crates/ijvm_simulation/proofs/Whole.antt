@@ -3,7 +3,7 @@ use Rattle.ijvm_simulation.proofs.Common.{◌≡◌, ℕ, zero, suc, ◌+◌, �
 use Rattle.ijvm_simulation.proofs.Common.{nat_le, cases_lt, nat_tests, none-some, same_Some, World, Meaning, MicroRun, turns}
 use Rattle.ijvm_meaning.specs.declared.run.RunEnd.TheVariants as defined
 use Rattle.ijvm_meaning.specs.Prelude.{State, TimedImage, Point, Finish, point_after, finish_from, after_test, stopped}
-use Rattle.ijvm_simulation.specs.Prelude.{point_behind, board_end, IsBoundary, IsEnd, Simulates}
+use Rattle.ijvm_simulation.specs.Prelude.{nth_point, board_end, IsBoundary, IsEnd, Simulates}
 use Rattle.ijvm_simulation.proofs.Turns.{turns-add, ended_stays}
 use Rattle.ijvm_simulation.proofs.Instruction.{Law, Keeps, Turnout, On, Over, turnout}
 
@@ -27,9 +27,9 @@ module _ {S : Type 0} (m : Meaning S) (words : List ℕ) (IsAt : State → S →
     pub is : IsBoundary IsAt t (after k r)
 
   abbrev Reaches : ℕ → Type 0
-  Reaches i = (at : Point) (r : MicroRun S) (t : Point) → IsBoundary IsAt at r → Fine at.state → point_behind p bound i at ≡ Some t → Reached at r t
+  Reaches i = (at : Point) (r : MicroRun S) (t : Point) → IsBoundary IsAt at r → Fine at.state → nth_point p bound i at ≡ Some t → Reached at r t
 
-  reaches_by : (i : ℕ) → Reaches i → (at : Point) (r : MicroRun S) (t : Point) (h : IsBoundary IsAt at r) (fine : Fine at.state) → Here at r h fine → point_behind p bound (suc i) at ≡ Some t → Reached at r t
+  reaches_by : (i : ℕ) → Reaches i → (at : Point) (r : MicroRun S) (t : Point) (h : IsBoundary IsAt at r) (fine : Fine at.state) → Here at r h fine → nth_point p bound (suc i) at ≡ Some t → Reached at r t
   reaches_by i later at r t h fine (On to ok finish points v) is =
       let l : Reached (point_after p at to) (after v.k r) t = later (point_after p at to) (after v.k r) t v.is ok (sym (points i) ∙ is) in
       record {
@@ -85,7 +85,7 @@ module _ {S : Type 0} (m : Meaning S) (words : List ℕ) (IsAt : State → S →
   pub record Known (at : Point) (n : ℕ) : Type 0 where
     pub i : ℕ
     pub t : Point
-    pub are : point_behind p bound i at ≡ Some t
+    pub are : nth_point p bound i at ≡ Some t
     pub later : t.cycles ≡ at.cycles + n
 
   abbrev Knows : ℕ → Type 0

@@ -52,16 +52,16 @@ module _ {S : Type 0} (m : Meaning S) (words : List ℕ) (bound : ℕ) where
       ap (λ (i : ℕ). turns m words (Some bound) i r) split ∙ turns-add m words bound n (k - n) r
 
   -- a moment after an end is that end
-  pub behind_end : (n k : ℕ) (e : End) (r : MicroRun S) → (turns m words (Some bound) n r).end ≡ Some e → n ≤ k →
+  pub after_end : (n k : ℕ) (e : End) (r : MicroRun S) → (turns m words (Some bound) n r).end ≡ Some e → n ≤ k →
       turns m words (Some bound) k r ≡ turns m words (Some bound) n r
-  behind_end n k e r h l = between n k r l ∙ ended_stays m words bound (k - n) (turns m words (Some bound) n r) e h
+  after_end n k e r h l = between n k r l ∙ ended_stays m words bound (k - n) (turns m words (Some bound) n r) e h
 
   -- two ended moments of a run are the same
   pub same_end : (n k : ℕ) (d e : End) (r : MicroRun S) → (turns m words (Some bound) n r).end ≡ Some d → (turns m words (Some bound) k r).end ≡ Some e →
       turns m words (Some bound) n r ≡ turns m words (Some bound) k r
   same_end n k d e r hd he = elim (cases_lt n k) [
-    | inl l ↦ sym (behind_end n k d r hd (omega arith))
-    | inr l ↦ behind_end k n e r he l
+    | inl l ↦ sym (after_end n k d r hd (omega arith))
+    | inr l ↦ after_end k n e r he l
   ]
 
 -- The bytes that a run has given only become more.
@@ -81,7 +81,7 @@ module _ {S : Type 0} (m : Meaning S) (grows : (word : ℕ) (s : S) (w : World) 
       Grows (turns m words (Some bound) n r).world.given (turns m words (Some bound) k r).world.given
   front_of_end words bound n k e r ended = elim (cases_lt k n) [
     | inl l ↦
-        let later : turns m words (Some bound) n r ≡ turns m words (Some bound) k r = behind_end m words bound k n e r ended (omega arith) in
+        let later : turns m words (Some bound) n r ≡ turns m words (Some bound) k r = after_end m words bound k n e r ended (omega arith) in
         record { more = []; are = sym (append-nil _ ∙ ap (λ (x : MicroRun S). x.world.given) later) }
     | inr l ↦
         let g : Grows (turns m words (Some bound) n r).world.given (turns m words (Some bound) (k - n) (turns m words (Some bound) n r)).world.given =

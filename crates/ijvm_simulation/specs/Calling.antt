@@ -14,7 +14,7 @@ use Rattle.ijvm_simulation.specs.Accesses.{IsMapEnd, IsWordAccess, access, limit
 use Rattle.ijvm_simulation.specs.Methods.{IsMethod, Arguments, arguments, method, locals}
 use Rattle.ijvm_simulation.specs.Images as images
 use Rattle.ijvm_simulation.specs.Writes.{linked_words, memory_set, entered, pushed}
-use Rattle.ijvm_simulation.specs.Stack.{place_behind, frame_with, above, frames_at, memory_at, Top}
+use Rattle.ijvm_simulation.specs.Stack.{place_after, frame_with, above, frames_at, memory_at, Top}
 use Rattle.ijvm_simulation.specs.Stack as stack
 use Rattle.ijvm_simulation.specs.Leaves.{constant_from}
 
@@ -132,8 +132,8 @@ module _ {v : VerifiedView} {o : Origin} {s : State} {sp lv cpp tos : ℕ} {w : 
 
   -- The link word of a call with n arguments, where the machine has the method's two counts: its place, and what it holds.
   record Linked (count link n more : ℕ) : Type 0 where
-    at : IsWordAccess top w (next (minus sp count)) (place_behind s (drop (n + 1) s.running.operands))
-    link_is : link ≡ place_behind s (drop (n + 1) s.running.operands) + (n + 1 + more)
+    at : IsWordAccess top w (next (minus sp count)) (place_after s (drop (n + 1) s.running.operands))
+    link_is : link ≡ place_after s (drop (n + 1) s.running.operands) + (n + 1 + more)
     few : more < 65536
 
   linked : {a k count own link : ℕ} (m : Method) (n : ℕ) → m.params ≡ suc n → n < length s.running.operands → Named a k m →
@@ -147,7 +147,7 @@ module _ {v : VerifiedView} {o : Origin} {s : State} {sp lv cpp tos : ℕ} {w : 
       let b2 : byte_in o.words (m.entry + 2) < 256 = byte_bound o.words (m.entry + 2) in
       let b3 : byte_in o.words (m.entry + 3) < 256 = byte_bound o.words (m.entry + 3) in
       let few : m.others < 65536 = omega (arith, f.others) in
-      let at : ℕ = place_behind s rest in
+      let at : ℕ = place_after s rest in
       let sp_is : sp ≡ at + n = omega (arith, h.sp_is) in
       let low : at < top = omega (arith, h.fits) in
       let start : minus sp count ≡ at - 1 = minus_is refl count_is (omega arith) (omega (arith, h.fits)) in
@@ -183,7 +183,7 @@ module _ {v : VerifiedView} {o : Origin} {s : State} {sp lv cpp tos : ℕ} {w : 
       let bottom : 0x8000 ≤ base s.callers = above s.callers in
       let high : top < 0x80000000 = map.high in
       let many_locals : length (onto ps (replicate more None)) ≡ length ps + more = locals ps more in
-      let at : ℕ = place_behind s rest in
+      let at : ℕ = place_after s rest in
       let many : ℕ = length ps + 1 + more in
       let space : at + length ps + 1 + more + 1 < top = omega (arith, went.leads.fits, loads.long) in
       let b : IsWordAccess top w (next (minus sp count)) at = l.at in
@@ -247,11 +247,11 @@ module _ {v : VerifiedView} {o : Origin} {s : State} {sp lv cpp tos : ℕ} {w : 
       let near : top ≤ 0x20000 = map.near in
       let many_locals : length (onto ps (replicate more None)) ≡ length ps + more = locals ps more in
       let depth : length s.running.operands ≡ n + suc (length rest) = args.depth in
-      let at : ℕ = place_behind s rest in
-      let behind : ℕ = at + (n + 1 + more) in
-      let beyond : top < behind + 2 = omega (arith, over.leads.over, loads.long, args.long) in
-      let link_is : link ≡ behind = l.link_is in
-      let small : behind < 0x60000 = omega (arith, l.few, h.fits) in
+      let at : ℕ = place_after s rest in
+      let following : ℕ = at + (n + 1 + more) in
+      let beyond : top < following + 2 = omega (arith, over.leads.over, loads.long, args.long) in
+      let link_is : link ≡ following = l.link_is in
+      let small : following < 0x60000 = omega (arith, l.few, h.fits) in
       let given : w.given ≡ o.given ++ left.given = h.given ∙ ap (λ (t : State). o.given ++ t.given) over.leads.leaves in (
         record {
           first = l.at.write;
@@ -260,11 +260,11 @@ module _ {v : VerifiedView} {o : Origin} {s : State} {sp lv cpp tos : ℕ} {w : 
           untaken = f.untaken ∙ ap (λ (t : State). t.untaken) over.leads.leaves;
           given = l.at.given _ _ ∙ given;
         },
-        elim (cases_lt behind top) [
+        elim (cases_lt following top) [
           | inr full ↦ inl (limit top link (omega arith) (omega arith))
           | inl room ↦
-              let d : IsWordAccess top w link behind = access top w link behind link_is room in
-              let last : next link ≡ behind + 1 = next_is link (behind + 1) (omega arith) (omega arith) in
+              let d : IsWordAccess top w link following = access top w link following link_is room in
+              let last : next link ≡ following + 1 = next_is link (following + 1) (omega arith) (omega arith) in
               inr (record {
                 second = d.write;
                 refused = limit top (next link) (omega arith) (omega arith);

@@ -4,10 +4,10 @@ use Rattle.micro_word.specs.declared.statement.PlacedNext.{PlacedNext}
 use Rattle.micro_word.specs.declared.statement.PlacedNext.TheVariants.{Goto}
 
 -- the next address: a goto's own, and else the first guess
-abbrev pub address_behind : PlacedNext → List ℕ → ℕ
-address_behind (Goto to) gs = to
-address_behind _ [] = 0
-address_behind _ (g ∷ gs) = g
+abbrev pub address_after : PlacedNext → List ℕ → ℕ
+address_after (Goto to) gs = to
+address_after _ [] = 0
+address_after _ (g ∷ gs) = g
 
 -- the guesses that are left
 abbrev pub left_of : PlacedNext → List ℕ → List ℕ

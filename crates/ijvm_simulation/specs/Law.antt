@@ -29,7 +29,7 @@ module _ {S : Type 0} (m : Meaning S) (words : List ℕ) (IsAt : State → S →
     pub mpc_is : (m.registers q.state).mpc ≡ mpc
 
   -- this many cycles lead from a boundary to where the clock ends the run
-  pub record StopsBehind (q : Moment S) (spent mpc : ℕ) : Type 0 where
+  pub record StopsAfter (q : Moment S) (spent mpc : ℕ) : Type 0 where
     pub n : ℕ
     pub spent_is : spent ≡ n + 1
     pub short : n < 1023
@@ -41,7 +41,7 @@ module _ {S : Type 0} (m : Meaning S) (words : List ℕ) (IsAt : State → S →
     pub world : there.world ≡ q.world
 
   abbrev pub Stops : Moment S → ℕ → ℕ → Type 0
-  Stops q spent mpc = StopsHere q spent mpc ⊎ StopsBehind q spent mpc
+  Stops q spent mpc = StopsHere q spent mpc ⊎ StopsAfter q spent mpc
 
   -- some cycles after a boundary a write meets the stack's end, with this state's bytes of the console
   pub record Overruns (q : Moment S) (left : State) : Type 0 where

@@ -17,7 +17,7 @@ use Rattle.ijvm_simulation.specs.Images.{jump, Lands, running}
 use Rattle.ijvm_simulation.specs.Images as images
 use Rattle.ijvm_simulation.specs.Writes.{memory_set}
 use Rattle.ijvm_simulation.specs.Writes as writes
-use Rattle.ijvm_simulation.specs.Stack.{place_behind, frame_with, above, frames_at, memory_at, next_top_is, Top, Two, pushes, drops}
+use Rattle.ijvm_simulation.specs.Stack.{place_after, frame_with, above, frames_at, memory_at, next_top_is, Top, Two, pushes, drops}
 use Rattle.ijvm_simulation.specs.Stack as stack
 
 module _ {v : VerifiedView} {o : Origin} {s : State} {sp lv cpp tos : ℕ} {w : World} (loads : Loads v o)
@@ -238,7 +238,7 @@ module _ {v : VerifiedView} {o : Origin} {s : State} {sp lv cpp tos : ℕ} {w : 
       let t : Two o s sp lv cpp tos w y x rest = stack.two loads h went.are in
       let bottom : 0x8000 ≤ base s.callers = above s.callers in
       let len : length s.running.operands ≡ suc (suc (length rest)) = ap length went.are in
-      let a : ℕ = place_behind s rest in
+      let a : ℕ = place_after s rest in
       let last : IsWordAccess top w sp (a + 1) = access top w sp (a + 1) t.sp_is (omega (arith, h.fits)) in
       let apart : a + 1 ≢ a = omega arith in
       let words : slice_set (slice_set w.words sp (read (before sp))) (before sp) tos ≡ slice_set (slice_set w.words a y) (a + 1) x =
@@ -289,8 +289,8 @@ module _ {v : VerifiedView} {o : Origin} {s : State} {sp lv cpp tos : ℕ} {w : 
       let frames : FramesStand (slice_set w.words a tos) (f ∷ s.callers) =
       frames_at f s.callers (sym words) (writes.stored w.words k y (frame_with s rest) s.callers went.leads.inside went.leads.own
       (omega (arith, r.below, h.memory.long)) t.frames) in
-      let down : IsWordAccess top (record w { words = slice_set w.words a tos }) (before sp) (place_behind s rest - 1) =
-      access top (record w { words = slice_set w.words a tos }) (before sp) (place_behind s rest - 1) t.down.is t.down.below in
+      let down : IsWordAccess top (record w { words = slice_set w.words a tos }) (before sp) (place_after s rest - 1) =
+      access top (record w { words = slice_set w.words a tos }) (before sp) (place_after s rest - 1) t.down.is t.down.below in
       record {
         write = r.write;
         high = omega (arith, r.is);
@@ -299,7 +299,7 @@ module _ {v : VerifiedView} {o : Origin} {s : State} {sp lv cpp tos : ℕ} {w : 
           sp_is = omega (arith, t.down.is, t.above);
           lv_is = h.lv_is;
           cpp_is = h.cpp_is;
-          tos_is = next_top_is (slice_set w.words a tos) (operands_at (base s.callers) f) (place_behind s rest - 1) _ rest (omega (arith, t.above)) down.value
+          tos_is = next_top_is (slice_set w.words a tos) (operands_at (base s.callers) f) (place_after s rest - 1) _ rest (omega (arith, t.above)) down.value
               frames.0.operands;
           frames = frames;
           memory = memory_at (sym words) (memory_set o.words w.words (base s.callers + k) y (omega arith) h.memory);

@@ -76,7 +76,7 @@ goes_to words pc = plus (before pc) (signed_pair (byte_in words pc) (byte_in wor
 -- the place there, and the one after it
 pub record Jump (words : List ℕ) (at pc : ℕ) : Type 0 where
   pub there : Place words (goes_to words pc) (jump words at)
-  pub behind : Place words (plus (goes_to words pc) 1) (jump words at + 1)
+  pub following : Place words (plus (goes_to words pc) 1) (jump words at + 1)
 
 pub jumps : {words : List ℕ} {at pc : ℕ} → pc < 2 ^ 32 → Counts words at pc → jump words at < 0x10000 → Jump words at pc
 jumps {words} {at} {pc} low c to =
@@ -84,7 +84,7 @@ jumps {words} {at} {pc} low c to =
     ap₂ plus (before_is pc at c.p0.is low) (signed_pair_at words pc (at + 1) (at + 2) c.p0 (omega arith))
     ∙ plus_comm at (signed_pair (byte_in words (at + 1)) (byte_in words (at + 2))) in
     let there : Place words (goes_to words pc) (jump words at) = place_at words (goes_to words pc) (jump words at) is (omega arith) in
-    record { there = there; behind = place_on 1 (jump words at + 1) there refl (omega arith) }
+    record { there = there; following = place_on 1 (jump words at + 1) there refl (omega arith) }
 
 -- The address of a local or a constant, as the bytes after the opcode name it: one byte, two, or two after a second opcode.
 

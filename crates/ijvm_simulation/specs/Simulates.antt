@@ -15,13 +15,13 @@ below more p at true = None
 below more p at false = going_on more p at (step_outcome p.image p.stack_end at.state)
 
 -- the boundary this many instructions after this one in the definition's run, if it comes so far
-abbrev pub point_behind : TimedImage → ℕ → ℕ → Point → Option Point
-point_behind p bound zero at = Some at
-point_behind p bound (suc i) at = below (point_behind p bound i) p at (nat_le bound at.cycles)
+abbrev pub nth_point : TimedImage → ℕ → ℕ → Point → Option Point
+nth_point p bound zero at = Some at
+nth_point p bound (suc i) at = below (nth_point p bound i) p at (nat_le bound at.cycles)
 
 -- this boundary is some number of instructions after that one
 abbrev pub IsCounted : TimedImage → ℕ → Point → Point → Type 0
-IsCounted p bound from at = (i : ℕ) × (point_behind p bound i from ≡ Some at)
+IsCounted p bound from at = (i : ℕ) × (nth_point p bound i from ≡ Some at)
 
 -- a boundary of the definition as the clock counts it
 abbrev pub boundary_of : Point → Boundary
@@ -57,10 +57,10 @@ pub record IsEnd {S : Type 0} (before : List ℕ) (f : Finish) (r : MicroRun S) 
 pub record Simulates {S : Type 0} (m : Meaning S) (IsAt : State → S → World → Type 0) (words : List ℕ) (bound : ℕ)
     (p : TimedImage) (first : Point) (before : List ℕ) (start : MicroRun S) : Type 0 where
   -- each boundary of the definition's run is one of the clocked run, after its cycles
-  pub reaches : (i : ℕ) (at : Point) → point_behind p bound i first ≡ Some at → IsBoundary IsAt at (turns m words (Some bound) at.cycles start)
+  pub reaches : (i : ℕ) (at : Point) → nth_point p bound i first ≡ Some at → IsBoundary IsAt at (turns m words (Some bound) at.cycles start)
   -- the clocked run has no other boundary
   pub only : (n : ℕ) → 0 < n → (turns m words (Some bound) n start).end ≡ None → m.is_boundary (turns m words (Some bound) n start).state ≡ true →
-      (i : ℕ) × (at : Point) × (point_behind p bound i first ≡ Some at) × (at.cycles ≡ n)
+      (i : ℕ) × (at : Point) × (nth_point p bound i first ≡ Some at) × (at.cycles ≡ n)
   -- the definition's run ends, and the clocked run as that does
   pub finishes : (f : Finish) × EndsBy p bound first f
   pub ends : (f : Finish) → EndsBy p bound first f → (n : ℕ) × IsEnd before f (turns m words (Some bound) n start)

@@ -14,8 +14,8 @@ abbrev pub frame_with : State → List ℕ → Frame
 frame_with s xs = record s.running { operands = xs }
 
 -- the place after the operands, where these are xs
-abbrev pub place_behind : State → List ℕ → ℕ
-place_behind s xs = base (frame_with s xs ∷ s.callers)
+abbrev pub place_after : State → List ℕ → ℕ
+place_after s xs = base (frame_with s xs ∷ s.callers)
 
 -- the frames stand above the text and the pool
 pub above : (fs : List Frame) → 0x8000 ≤ base fs
@@ -38,20 +38,20 @@ module _ (o : Origin) (s : State) (sp lv cpp tos : ℕ) (w : World) where
   -- a last operand y over rest
   pub record Top (y : ℕ) (rest : List ℕ) : Type 0 where
     pub tos_is : tos ≡ y
-    pub sp_is : sp ≡ place_behind s rest
-    pub below : place_behind s rest < length o.words
-    pub above : 0x8000 ≤ place_behind s rest
-    pub down : IsWordAccess (length o.words) w (before sp) (place_behind s rest - 1)
+    pub sp_is : sp ≡ place_after s rest
+    pub below : place_after s rest < length o.words
+    pub above : 0x8000 ≤ place_after s rest
+    pub down : IsWordAccess (length o.words) w (before sp) (place_after s rest - 1)
     pub next_top : IsTop (read_value (length o.words) w.words w.untaken (before sp)) rest
     pub frames : FramesStand w.words (frame_with s rest ∷ s.callers)
 
   -- two last operands, y and x over rest
   pub record Two (y x : ℕ) (rest : List ℕ) : Type 0 where
     pub tos_is : tos ≡ y
-    pub sp_is : sp ≡ place_behind s rest + 1
-    pub at : IsWordAccess (length o.words) w (before sp) (place_behind s rest)
+    pub sp_is : sp ≡ place_after s rest + 1
+    pub at : IsWordAccess (length o.words) w (before sp) (place_after s rest)
     pub second : read_value (length o.words) w.words w.untaken (before sp) ≡ x
-    pub down : IsWordAccess (length o.words) w (before (before sp)) (place_behind s rest - 1)
+    pub down : IsWordAccess (length o.words) w (before (before sp)) (place_after s rest - 1)
     pub next_top : IsTop (read_value (length o.words) w.words w.untaken (before (before sp))) rest
     pub frames : FramesStand w.words (frame_with s rest ∷ s.callers)
 
@@ -64,19 +64,19 @@ module _ {v : VerifiedView} {o : Origin} {s : State} {sp lv cpp tos : ℕ} {w : 
       let len : length s.running.operands ≡ suc (length rest) = ap length has in
       let bottom : 0x8000 ≤ base s.callers = above s.callers in
       let ops = rw has at h.frames.0.operands in
-      let sp_at : sp ≡ place_behind s rest = omega (arith, h.sp_is) in
+      let sp_at : sp ≡ place_after s rest = omega (arith, h.sp_is) in
       let fits : base (frames_of s) ≤ length o.words = h.fits in
-      let below : place_behind s rest < length o.words = omega arith in
+      let below : place_after s rest < length o.words = omega arith in
       let high : length o.words < 0x80000000 = map.high in
-      let down : IsWordAccess (length o.words) w (before sp) (place_behind s rest - 1) =
-      access (length o.words) w (before sp) (place_behind s rest - 1) (before_is sp (place_behind s rest - 1) (omega arith) (omega arith)) (omega arith) in
+      let down : IsWordAccess (length o.words) w (before sp) (place_after s rest - 1) =
+      access (length o.words) w (before sp) (place_after s rest - 1) (before_is sp (place_after s rest - 1) (omega arith) (omega arith)) (omega arith) in
       record {
         tos_is = rw has at h.tos_is;
         sp_is = sp_at;
         below = below;
         above = omega arith;
         down = down;
-        next_top = next_top_is w.words (operands_at (base s.callers) s.running) (place_behind s rest - 1) _ rest (omega arith) down.value ops.1;
+        next_top = next_top_is w.words (operands_at (base s.callers) s.running) (place_after s rest - 1) _ rest (omega arith) down.value ops.1;
         frames = (record { locals = h.frames.0.locals; operands = ops.1; linked = h.frames.0.linked }, h.frames.1);
       }
 
@@ -85,12 +85,12 @@ module _ {v : VerifiedView} {o : Origin} {s : State} {sp lv cpp tos : ℕ} {w : 
       let t : Top o s sp lv cpp tos w y (x ∷ rest) = top has in
       let bottom : 0x8000 ≤ base s.callers = above s.callers in
       let high : length o.words < 0x80000000 = map.high in
-      let same : place_behind s (x ∷ rest) - 1 ≡ place_behind s rest = omega arith in
-      let at : IsWordAccess (length o.words) w (before sp) (place_behind s rest) =
-      access (length o.words) w (before sp) (place_behind s rest) (t.down.is ∙ same) (omega (arith, t.below)) in
-      let down : IsWordAccess (length o.words) w (before (before sp)) (place_behind s rest - 1) =
-      access (length o.words) w (before (before sp)) (place_behind s rest - 1)
-      (before_is (before sp) (place_behind s rest - 1) (omega (arith, at.is)) (omega (arith, at.is, at.below))) (omega (arith, at.below)) in
+      let same : place_after s (x ∷ rest) - 1 ≡ place_after s rest = omega arith in
+      let at : IsWordAccess (length o.words) w (before sp) (place_after s rest) =
+      access (length o.words) w (before sp) (place_after s rest) (t.down.is ∙ same) (omega (arith, t.below)) in
+      let down : IsWordAccess (length o.words) w (before (before sp)) (place_after s rest - 1) =
+      access (length o.words) w (before (before sp)) (place_after s rest - 1)
+      (before_is (before sp) (place_after s rest - 1) (omega (arith, at.is)) (omega (arith, at.is, at.below))) (omega (arith, at.below)) in
       let ops = t.frames.0.operands.1 in
       record {
         tos_is = t.tos_is;
@@ -98,17 +98,17 @@ module _ {v : VerifiedView} {o : Origin} {s : State} {sp lv cpp tos : ℕ} {w : 
         at = at;
         second = t.next_top;
         down = down;
-        next_top = next_top_is w.words (operands_at (base s.callers) s.running) (place_behind s rest - 1) _ rest (omega arith) down.value ops;
+        next_top = next_top_is w.words (operands_at (base s.callers) s.running) (place_after s rest - 1) _ rest (omega arith) down.value ops;
         frames = (record { locals = t.frames.0.locals; operands = ops; linked = t.frames.0.linked }, t.frames.1);
       }
 
   -- after a push of y over the operands xs
   pub pushes : {xs : List ℕ} {y to sp' tos' : ℕ} {w' : World} {left : List ℕ} → FramesStand w.words (frame_with s xs ∷ s.callers) →
-      place_behind s xs < length o.words → sp' ≡ place_behind s xs → tos' ≡ y → w'.words ≡ slice_set w.words (place_behind s xs) y →
+      place_after s xs < length o.words → sp' ≡ place_after s xs → tos' ≡ y → w'.words ≡ slice_set w.words (place_after s xs) y →
       w'.untaken ≡ left → w'.given ≡ w.given → RegistersStand o (record (moved s (y ∷ xs) to) { untaken = left }) sp' lv cpp tos' w'
   pushes {xs} {y} frames below sps toss words untaken given =
       let bottom : 0x8000 ≤ base s.callers = above s.callers in
-      let a : ℕ = place_behind s xs in
+      let a : ℕ = place_after s xs in
       record {
         sp_is = omega arith;
         lv_is = h.lv_is;
@@ -124,7 +124,7 @@ module _ {v : VerifiedView} {o : Origin} {s : State} {sp lv cpp tos : ℕ} {w : 
 
   -- after the operands have become xs, with no write to memory
   pub drops : {xs : List ℕ} {to sp' tos' : ℕ} {w' : World} {more : List ℕ} → FramesStand w.words (frame_with s xs ∷ s.callers) →
-      place_behind s xs ≤ length o.words → sp' + 1 ≡ place_behind s xs → IsTop tos' xs → w'.words ≡ w.words → w'.untaken ≡ s.untaken →
+      place_after s xs ≤ length o.words → sp' + 1 ≡ place_after s xs → IsTop tos' xs → w'.words ≡ w.words → w'.untaken ≡ s.untaken →
       w'.given ≡ o.given ++ more → RegistersStand o (record (moved s xs to) { given = more }) sp' lv cpp tos' w'
   drops {xs} frames fits sps toss words untaken given =
       record {

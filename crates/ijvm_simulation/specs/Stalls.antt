@@ -37,7 +37,7 @@ BootsWithStalls m words IsAt entry timing stalls v o input =
 -- The boundaries that the definition's run passes, each with the stalls before it: those of the boot, and those of each instruction passed.
 pub data HasStalled (booting : ℕ) (stalls_of : ImageView → Instr → ℕ) (p : TimedImage) (bound : ℕ) (first : Point) : Point → ℕ → Type 0 where
   Booted : (at : Point) → at ≡ first → HasStalled booting stalls_of p bound first at booting
-  Behind : (at next : Point) (stalls : ℕ) (i : Instr) (to : State) → HasStalled booting stalls_of p bound first at stalls → at.cycles < bound →
+  Following : (at next : Point) (stalls : ℕ) (i : Instr) (to : State) → HasStalled booting stalls_of p bound first at stalls → at.cycles < bound →
       instr_at p.image.text at.state.at ≡ Some i → step_outcome p.image p.stack_end at.state ≡ Goes to → next ≡ point_after p at to →
       HasStalled booting stalls_of p bound first next (stalls + stalls_of p.image i)
 

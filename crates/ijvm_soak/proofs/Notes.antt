@@ -337,8 +337,8 @@ module _ (image : ImageView) (whole : List Item) (method : FindsMethod image (no
       let z : ℤ = pos ((seed + 3 * n) % 100) in
       let few : kind < 5 = omega arith in
       let at : ℕ = 0 + code_size a in
-      let behind : In at (depth_after 0 a) b = stands_back image whole None (λ k. false) a b 0 0 h in
-      let back : In at 0 b = subst (λ (d : ℕ). In at d b) (blocks_depth seed n) behind in
+      let following : In at (depth_after 0 a) b = stands_back image whole None (λ k. false) a b 0 0 h in
+      let back : In at 0 b = subst (λ (d : ℕ). In at d b) (blocks_depth seed n) following in
       let size : code_size (a ++ b) ≡ code_size a + code_size b = size_append a b in
       let ends : at + code_size b ≡ 0 + code_size (a ++ b) = omega (arith, size) in
       let here : AllMet image whole at (noted main_note 0 b) = block_met kind z at few (omega (arith, small, size)) back (ap (note_at whole) ends ∙ end) in

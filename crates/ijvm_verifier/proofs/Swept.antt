@@ -30,7 +30,7 @@ swept_skip image n end s free = record {
 -- the piece of this rank, from an address on, after all earlier ones
 pub swept_add : (image : ImageView) (n end at stop : ℕ) (new : Piece) → IsSwept image n end → end ≤ at → 2 * at ≤ n → rank new ≡ n → at < stop →
     ((p : Piece) (b : ℕ) → rank p ≡ n → Covers image p b → (p ≡ new) × (at ≤ b) × (b < stop)) → ((b : ℕ) → at ≤ b → b < stop → Covers image new b) → IsSwept image (n + 1) stop
-swept_add image n end at stop new s behind low is above only covers = record {
+swept_add image n end at stop new s following low is above only covers = record {
   apart = λ p q b lp lq cp cq. elim (cases_lt (rank p) n) [
     | inl p_old ↦ elim (cases_lt (rank q) n) [
       | inl q_old ↦ s.apart p q b p_old q_old cp cq
@@ -141,8 +141,8 @@ none_overlap image seen end closed s z b (p, q, ne, cp, cq) = ne (s.apart p q b 
     met (Header e) lt = omega arith
 
 -- nothing stands past the text
-pub none_behind : (image : ImageView) (seen : List (Option Kept)) (at : ℕ) → IsClosed image seen → length image.text ≤ at → (p : Piece) → Covers image p at → ⊥
-none_behind image seen at closed past p c = omega (arith, (covers_inside image seen p at closed c).1)
+pub none_after : (image : ImageView) (seen : List (Option Kept)) (at : ℕ) → IsClosed image seen → length image.text ≤ at → (p : Piece) → Covers image p at → ⊥
+none_after image seen at closed past p c = omega (arith, (covers_inside image seen p at closed c).1)
 
 -- one method more, and none
 pub methods_none : (image : ImageView) → AreMethodsBelow image 0 0

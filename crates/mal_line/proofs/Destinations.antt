@@ -110,8 +110,8 @@ pub dest_bits-lt : (ds : List Word) (n : ℕ) → n < 512 → dest_bits n ds < 5
 dest_bits-lt [] n h = h
 dest_bits-lt (d ∷ ds) n h = dest_bits-lt ds (bit_or n (bit d)) (or_lt 9 n (bit d) h (bit_lt d))
 
-behind : (d : Word) (ds : List Word) (w : Word) → Contains ds w → Contains (d ∷ ds) w
-behind d ds w (k, lt, e) = (suc k, omega arith, e)
+after : (d : Word) (ds : List Word) (w : Word) → Contains ds w → Contains (d ∷ ds) w
+after d ds w (k, lt, e) = (suc k, omega arith, e)
 
 named_by : (ds : List Word) (n : ℕ) (r : Destination) → IsTrue (loads (dest_bits n ds) r) → IsTrue (loads n r) ⊎ Contains ds (register_word r)
 named_by [] n r h = inl h
@@ -120,7 +120,7 @@ named_by (d ∷ ds) n r h = elim (named_by ds (bit_or n (bit d)) r h) [
     | inl a ↦ inl a
     | inr b ↦ inr (zero, omega arith, loading_word d r b)
   ]
-  | inr c ↦ inr (behind d ds (register_word r) c)
+  | inr c ↦ inr (after d ds (register_word r) c)
 ]
 
 kept : (ds : List Word) (n : ℕ) (r : Destination) → IsTrue (loads n r) → IsTrue (loads (dest_bits n ds) r)

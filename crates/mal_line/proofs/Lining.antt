@@ -6,7 +6,7 @@ use Rattle.mal_tokens.specs.declared.token.Token.TheVariants as tokens
 use Rattle.mal_line.specs.declared.piece.Piece.TheVariants as found
 use Rattle.mal_line.specs.declared.line.Form.TheVariants as forms
 use Rattle.mal_line.specs.declared.line.LineFault.TheVariants as faults
-use Rattle.mal_line.specs.Prelude.{is_semicolon, pieces, add, adds, chain_at, dest_of, empty, piece_of, tree_of, content_of, IsForm, IsRefused, names_foreign, SpellsLine, behind_colon, fix_of, form_of, labelled, line_from, said, said_by}
+use Rattle.mal_line.specs.Prelude.{is_semicolon, pieces, add, adds, chain_at, dest_of, empty, piece_of, tree_of, content_of, IsForm, IsRefused, names_foreign, SpellsLine, after_colon, fix_of, form_of, labelled, line_from, said, said_by}
 use Rattle.mal_line.proofs.Parting.{tree_again, tree_is}
 
 -- ---- what is read has the form
@@ -15,7 +15,7 @@ fix_is : (rest : List Token) (f : Form) → fix_of rest ≡ Some f → (l : List
 fix_is (tokens.Name l ∷ tokens.Number v ∷ []) f h = (l, v, cc, refl)
 fix_is _ f h = absurd (cc)
 
-colon : (rest : List Token) → (rest ≡ behind_colon rest) ⊎ (rest ≡ tokens.Sign signs.Colon ∷ behind_colon rest)
+colon : (rest : List Token) → (rest ≡ after_colon rest) ⊎ (rest ≡ tokens.Sign signs.Colon ∷ after_colon rest)
 colon (tokens.Sign signs.Colon ∷ rest) = inr refl
 colon _ = inl refl
 
@@ -29,12 +29,12 @@ fallback_form m rest f h =
     let q = mapped (λ tree. forms.Fallback tree) (tree_of m rest) f h in
     subst (IsForm m (tokens.Sign signs.Default ∷ rest)) q.2 (rest, refl, tree_is m rest q.0 q.1)
 
-label_form : (m : Machine) (l : List ℕ) (rest : List Token) (f : Form) → labelled m (Some l) (behind_colon rest) ≡ Some f → IsForm m (tokens.Name l ∷ rest) f
+label_form : (m : Machine) (l : List ℕ) (rest : List Token) (f : Form) → labelled m (Some l) (after_colon rest) ≡ Some f → IsForm m (tokens.Name l ∷ rest) f
 label_form m l rest f h =
-    let q = mapped (λ tree. forms.Statement (Some l) tree) (tree_of m (behind_colon rest)) f h in
-    subst (IsForm m (tokens.Name l ∷ rest)) q.2 (behind_colon rest, spelled (colon rest), tree_is m (behind_colon rest) q.0 q.1)
+    let q = mapped (λ tree. forms.Statement (Some l) tree) (tree_of m (after_colon rest)) f h in
+    subst (IsForm m (tokens.Name l ∷ rest)) q.2 (after_colon rest, spelled (colon rest), tree_is m (after_colon rest) q.0 q.1)
   where
-    spelled : (rest ≡ behind_colon rest) ⊎ (rest ≡ tokens.Sign signs.Colon ∷ behind_colon rest) → (tokens.Name l ∷ rest ≡ tokens.Name l ∷ behind_colon rest) ⊎ (tokens.Name l ∷ rest ≡ tokens.Name l ∷ tokens.Sign signs.Colon ∷ behind_colon rest)
+    spelled : (rest ≡ after_colon rest) ⊎ (rest ≡ tokens.Sign signs.Colon ∷ after_colon rest) → (tokens.Name l ∷ rest ≡ tokens.Name l ∷ after_colon rest) ⊎ (tokens.Name l ∷ rest ≡ tokens.Name l ∷ tokens.Sign signs.Colon ∷ after_colon rest)
     spelled (inl e) = inl (ap (λ r. tokens.Name l ∷ r) e)
     spelled (inr e) = inr (ap (λ r. tokens.Name l ∷ r) e)
 
@@ -71,7 +71,7 @@ no_tree m t rest s h d = rw s (go (pieces rest))
     go [] = ap (λ o. option_and_then (λ u. adds m u []) (option_and_then (add (record { tree = empty; waiting = None })) o)) (none [])
     go (p ∷ ps) = ap (λ o. option_and_then (λ u. adds m u ps) (option_and_then (add (record { tree = empty; waiting = None })) o)) (none p)
 
-no_colon : (m : Machine) (rest : List Token) (tree : Tree) → tree_of m rest ≡ Some tree → behind_colon rest ≡ rest
+no_colon : (m : Machine) (rest : List Token) (tree : Tree) → tree_of m rest ≡ Some tree → after_colon rest ≡ rest
 no_colon m (tokens.Sign signs.Colon ∷ rest) tree h = absurd (let k = no_tree m (tokens.Sign signs.Colon) rest refl (λ p. refl) (λ u. refl) in cc)
 no_colon m _ tree h = refl
 

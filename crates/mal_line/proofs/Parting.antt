@@ -4,7 +4,7 @@ use Rattle.mal_line.proofs.Common.{option_and_then, is_some, append-nil, Machine
 use Rattle.micro_word.specs.declared.statement.Mem.TheVariants as mems
 use Rattle.mal_line.specs.declared.piece.Piece.TheVariants as found
 use Rattle.mal_line.specs.declared.next.Next.TheVariants as nexts
-use Rattle.mal_line.specs.Prelude.{AreNothing, AreParts, AreTree, assign, assignments, counted, fetch_count, fetches, IsElse, IsGoto, IsIf, IsJumpLast, IsMem, jump, jumps_of, Kind, listed, listed_mem, memories, memory, nothing, pieces, add, add_behind, add_by, add_else, add_free, add_tokens, adds, empty, gathered_jump, is_access, piece_of, tree_of}
+use Rattle.mal_line.specs.Prelude.{AreNothing, AreParts, AreTree, assign, assignments, counted, fetch_count, fetches, IsElse, IsGoto, IsIf, IsJumpLast, IsMem, jump, jumps_of, Kind, listed, listed_mem, memories, memory, nothing, pieces, add, add_after, add_by, add_else, add_free, add_tokens, adds, empty, gathered_jump, is_access, piece_of, tree_of}
 use Rattle.mal_line.proofs.Piecing.{IsPiece, piece_again, piece_is}
 
 -- where a statement says that it goes next
@@ -328,16 +328,16 @@ first_is : (m : Machine) (x : List Token) (xs : List (List Token)) (s t : Tree) 
 unfolding Rest Fork Found at LastAfter
 first_is m x xs s t v p is h k rest pair = step s.next refl h
   where
-    behind : (n : Jump) (p : Piece) → s.next ≡ Some n → IsPiece m p x → add_behind s p ≡ Some v → Found m s (x ∷ xs) t
-    behind n found.Nothing e is h =
+    following : (n : Jump) (p : Piece) → s.next ≡ Some n → IsPiece m p x → add_after s p ≡ Some v → Found m s (x ∷ xs) t
+    following n found.Nothing e is h =
         let same : at s ≡ v = cc in
         let r = rest s t (subst (λ w. adds m w xs ≡ Some t) (sym same) k) in
         (nothing ∷ r.0, (is, r.1), record { assignment = r.2.assignment; memory = r.2.memory; fetch = r.2.fetch; next = r.2.next; last = subst (λ o. LastAfter o (nothing ∷ r.0)) (sym e) (subst (λ o. LastAfter o r.0) e r.2.last) })
-    behind n _ e is h = absurd (cc)
+    following n _ e is h = absurd (cc)
 
     step : (o : Option Jump) → s.next ≡ o → add_by s None o p ≡ Some v → Found m s (x ∷ xs) t
     step None e h = free_is m x xs s t v p e is h k rest pair
-    step (Some n) e h = behind n p e is h
+    step (Some n) e h = following n p e is h
 
 else_is : (u : Tree) (h : PendingIf) (p : Piece) (v : Gathered) → add_else u h p ≡ Some v → (n : List ℕ) × (p ≡ found.Else n) × (gathered_jump u (Some (nexts.Branch h.test h.high n)) ≡ v)
 else_is u h (found.Else n) v e = (n, refl, cc)

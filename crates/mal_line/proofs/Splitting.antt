@@ -26,19 +26,19 @@ tail_at (x ∷ xs) (suc n) y ys h =
     let lt = r.0 in
     (omega (arith, lt), rw k r.1)
 
-pub adds_more : (m : Machine) (s u : Gathered) (xs : List Token) (n : ℕ) (piece behind : List Token) (y : Token) (after : List Token) → n ≡ len xs → piece ≡ take n xs → behind ≡ drop n xs → behind ≡ y ∷ after
+pub adds_more : (m : Machine) (s u : Gathered) (xs : List Token) (n : ℕ) (piece following : List Token) (y : Token) (after : List Token) → n ≡ len xs → piece ≡ take n xs → following ≡ drop n xs → following ≡ y ∷ after
     → add_tokens m s piece ≡ Some u → adds m s (pieces xs) ≡ adds m u (pieces after)
 unfolding adds
-adds_more m s u xs n piece behind y after e p b c h =
+adds_more m s u xs n piece following y after e p b c h =
     let t = tail_at xs n y after (sym b ∙ c) in
     let h2 : add_tokens m s (take (len xs) xs) ≡ Some u = ap (λ i. add_tokens m s (take i xs)) (sym e) ∙ (ap (add_tokens m s) (sym p) ∙ h) in
     let d : drop (len xs + 1) xs ≡ after = ap (λ i. drop (i + 1) xs) (sym e) ∙ t.1 in
     ap (adds m s) (split_more xs (rw e at t.0)) ∙ (ap (option_and_then (λ v. adds m v (pieces (drop (len xs + 1) xs)))) h2 ∙ ap (λ r. adds m u (pieces r)) d)
 
-pub adds_last : (m : Machine) (s u : Gathered) (xs : List Token) (n : ℕ) (piece behind : List Token) → n ≡ len xs → piece ≡ take n xs → behind ≡ drop n xs → length behind ≡ 0
+pub adds_last : (m : Machine) (s u : Gathered) (xs : List Token) (n : ℕ) (piece following : List Token) → n ≡ len xs → piece ≡ take n xs → following ≡ drop n xs → length following ≡ 0
     → add_tokens m s piece ≡ Some u → adds m s (pieces xs) ≡ ended u
 unfolding adds
-adds_last m s u xs n piece behind e p b none h =
+adds_last m s u xs n piece following e p b none h =
     let l : length (drop n xs) ≡ 0 = ap length (sym b) ∙ none in
     let le : length xs ≤ n = omega (arith, length-drop n xs, l) in
     let h2 : add_tokens m s (take (len xs) xs) ≡ Some u = ap (λ i. add_tokens m s (take i xs)) (sym e) ∙ (ap (add_tokens m s) (sym p) ∙ h) in

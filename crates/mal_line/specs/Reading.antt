@@ -135,14 +135,14 @@ add_else tree half (found.Else label) = Some (gathered_jump tree (Some (nexts.Br
 add_else tree half _ = None
 
 -- after a jump all parts are empty
-abbrev pub add_behind : Tree → Piece → Option Gathered
-add_behind tree found.Nothing = Some (record { tree = tree; waiting = None })
-add_behind tree _ = None
+abbrev pub add_after : Tree → Piece → Option Gathered
+add_after tree found.Nothing = Some (record { tree = tree; waiting = None })
+add_after tree _ = None
 
 abbrev pub add_by : Tree → Option PendingIf → Option (Option (Next (List ℕ))) → Piece → Option Gathered
 add_by tree (Some half) next piece = add_else tree half piece
 add_by tree None None piece = add_free tree piece
-add_by tree None (Some j) piece = add_behind tree piece
+add_by tree None (Some j) piece = add_after tree piece
 
 abbrev pub add : Gathered → Piece → Option Gathered
 add gathering piece = add_by gathering.tree gathering.waiting gathering.tree.next piece
@@ -166,9 +166,9 @@ abbrev pub fix_of : List Token → Option Form
 fix_of (tokens.Name label ∷ tokens.Number address ∷ []) = Some (forms.Fix label address)
 fix_of _ = None
 
-abbrev pub behind_colon : List Token → List Token
-behind_colon (tokens.Sign signs.Colon ∷ rest) = rest
-behind_colon rest = rest
+abbrev pub after_colon : List Token → List Token
+after_colon (tokens.Sign signs.Colon ∷ rest) = rest
+after_colon rest = rest
 
 abbrev pub labelled : Machine → Option (List ℕ) → List Token → Option Form
 labelled machine label ts = option_map (λ tree. forms.Statement label tree) (tree_of machine ts)
@@ -176,7 +176,7 @@ labelled machine label ts = option_map (λ tree. forms.Statement label tree) (tr
 abbrev pub form_by : Machine → Token → List Token → Option Form
 form_by machine (tokens.Sign signs.Label) rest = fix_of rest
 form_by machine (tokens.Sign signs.Default) rest = option_map (λ tree. forms.Fallback tree) (tree_of machine rest)
-form_by machine (tokens.Name label) rest = labelled machine (Some label) (behind_colon rest)
+form_by machine (tokens.Name label) rest = labelled machine (Some label) (after_colon rest)
 form_by machine first rest = labelled machine None (first ∷ rest)
 
 abbrev pub form_of : Machine → List Token → Option Form

@@ -1,7 +1,7 @@
 //! The parts of a statement, gathered one by one.
 ghost use Rattle.std.specs.Prelude.{◌≡◌, ◌≤◌, if◌then◌else◌, length, not, None, Some};
 ghost use Rattle.std.specs.List.{prefix_len};
-ghost use Rattle.mal_line.specs.Reading.{add, add_behind, add_else, add_free, add_tokens, ended, tree_of};
+ghost use Rattle.mal_line.specs.Reading.{add, add_after, add_else, add_free, add_tokens, ended, tree_of};
 ghost use Rattle.mal_line.specs.Statements.{is_semicolon};
 
 use crate::next::Next;
@@ -74,14 +74,14 @@ fn add_else(gathered: &mut Gathered, half: PendingIf, piece: Piece) -> bool
 }
 
 /// After a jump all parts are empty.
-fn add_behind(gathered: &mut Gathered, piece: Piece) -> bool
+fn add_after(gathered: &mut Gathered, piece: Piece) -> bool
     requires { gathered.old.waiting ≡ None }
-    ensures { add_behind gathered.old.tree piece ≡ (if result then Some gathered.new else None) }
+    ensures { add_after gathered.old.tree piece ≡ (if result then Some gathered.new else None) }
 {
     matches!(piece, Piece::Nothing)
 }
 
-/// Adds a part, if it may stand behind those so far.
+/// Adds a part, if it may stand after those so far.
 fn add(gathered: &mut Gathered, piece: Piece) -> bool
     ensures { add gathered.old piece ≡ (if result then Some gathered.new else None) }
 {
@@ -89,7 +89,7 @@ fn add(gathered: &mut Gathered, piece: Piece) -> bool
         return add_else(gathered, half, piece);
     }
     if gathered.tree.next.is_some() {
-        return add_behind(gathered, piece);
+        return add_after(gathered, piece);
     }
     add_free(gathered, piece)
 }
@@ -138,11 +138,11 @@ pub(crate) fn tree_of(machine: Machine, tokens: &[Token]) -> Option<Tree>
     };
     let mut rest = tokens;
     loop {
-        let (piece, behind) = rest.split_at(piece_len(rest));
+        let (piece, following) = rest.split_at(piece_len(rest));
         if !add_tokens(machine, &mut gathered, piece) {
             return None;
         }
-        match behind.split_first() {
+        match following.split_first() {
             Some((_, after)) => rest = after,
             None => return ended(gathered),
         }

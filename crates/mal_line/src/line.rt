@@ -1,7 +1,7 @@
 //! A line and its form.
 ghost use Rattle.std.specs.Prelude.{◌≡◌, IfOk, IfErr};
 ghost use Rattle.mal_line.specs.Lines.{HasPart, is_foreign, IsRefused, names_foreign, SpellsLine};
-ghost use Rattle.mal_line.specs.Reading.{behind_colon, fix_of, form_of, labelled, line_from};
+ghost use Rattle.mal_line.specs.Reading.{after_colon, fix_of, form_of, labelled, line_from};
 
 use crate::content::{Content, content_of};
 use crate::gathering::tree_of;
@@ -36,11 +36,11 @@ fn fix_of(rest: &[Token]) -> Option<Form>
     }
 }
 
-fn behind_colon(rest: &[Token]) -> &[Token]
-    ensures { result.now ≡ behind_colon rest.now }
+fn after_colon(rest: &[Token]) -> &[Token]
+    ensures { result.now ≡ after_colon rest.now }
 {
     match rest.split_first() {
-        Some((Token::Sign(Sign::Colon), behind)) => behind,
+        Some((Token::Sign(Sign::Colon), after)) => after,
         _ => rest,
     }
 }
@@ -60,7 +60,7 @@ fn form_of(machine: Machine, tokens: &[Token]) -> Option<Form>
     match *first {
         Token::Sign(Sign::Label) => fix_of(rest),
         Token::Sign(Sign::Default) => Some(Form::Fallback(tree_of(machine, rest)?)),
-        Token::Name(label) => labelled(machine, Some(label), behind_colon(rest)),
+        Token::Name(label) => labelled(machine, Some(label), after_colon(rest)),
         _ => labelled(machine, None, tokens),
     }
 }

@@ -186,9 +186,9 @@ address_adds k s (said.Fix label number) u cs (a, e, f, g) h = (ap is_some e, h)
 address_adds k s (said.Fallback parts) u cs a h = h
 address_adds k s (said.Statement label parts) u cs a h = h
 
-address_behind : (c : Content) (cs : List Content) → AreAddresses (c ∷ cs) → AreAddresses cs
-address_behind (said.Fix label number) cs h = h.1
-address_behind _ cs h = h
+address_after : (c : Content) (cs : List Content) → AreAddresses (c ∷ cs) → AreAddresses cs
+address_after (said.Fix label number) cs h = h.1
+address_after _ cs h = h
 
 back : (k : ℕ) (s : Sketch) (c : Content) (u : Sketch) (cs : List Content) → AddsTo k s c u → IsFineFrom u (k + 1) cs → IsFineFrom s k (c ∷ cs)
 back k s c u cs a h =
@@ -207,7 +207,7 @@ forth k s c u cs a h =
     record {
       labels = subst (λ ds. AreDistinct (labels_of ds)) (sym t.statements) h.labels;
       few = subst (λ ds. length ds ≤ 512) (sym t.statements) h.few;
-      addresses = address_behind c cs h.addresses;
+      addresses = address_after c cs h.addresses;
       fixed = subst (λ (fs : List Fix). AreDistinct (fix_labels fs)) (sym t.fixes) h.fixed;
       one_default = subst (λ ds. length ds ≤ 1) (sym t.fallback) h.one_default;
     }

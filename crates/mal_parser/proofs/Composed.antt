@@ -36,9 +36,9 @@ default_list all o = option_to_list (option_map (default_content all) o)
 
 -- ---- statements
 
-behind_fixes : (ss : List Statement) (k : ℕ) (rest : List Content) → statements_from k (filter_map fix_content ss ++ rest) ≡ statements_from (k + length (filter_map fix_line ss)) rest
-behind_fixes [] k rest = let e : k ≡ k + 0 = omega arith in ap (λ n. statements_from n rest) e
-behind_fixes (s ∷ ss) k rest = go s.label s.fixed (λ n. behind_fixes ss n rest)
+after_fixes : (ss : List Statement) (k : ℕ) (rest : List Content) → statements_from k (filter_map fix_content ss ++ rest) ≡ statements_from (k + length (filter_map fix_line ss)) rest
+after_fixes [] k rest = let e : k ≡ k + 0 = omega arith in ap (λ n. statements_from n rest) e
+after_fixes (s ∷ ss) k rest = go s.label s.fixed (λ n. after_fixes ss n rest)
   where
     go : (o : Option (List ℕ)) (f : Option ℕ) → ((n : ℕ) → statements_from n (filter_map fix_content ss ++ rest) ≡ statements_from (n + length (filter_map fix_line ss)) rest) → statements_from k (cons_option (fix_said_by o f) (filter_map fix_content ss) ++ rest) ≡ statements_from (k + length (cons_option (option_and_then (λ label. option_map (λ address. printed (fix label address)) f) o) (filter_map fix_line ss))) rest
     go None f rec = rec k
@@ -48,9 +48,9 @@ behind_fixes (s ∷ ss) k rest = go s.label s.fixed (λ n. behind_fixes ss n res
         let e : (k + 1) + n ≡ k + suc n = omega arith in
         rec (k + 1) ∙ ap (λ n. statements_from n rest) e
 
-behind_default : (all : List Statement) (o : Option Statement) (k : ℕ) (rest : List Content) → statements_from k (default_list all o ++ rest) ≡ statements_from (k + length (option_to_list o)) rest
-behind_default all None k rest = let e : k ≡ k + 0 = omega arith in ap (λ n. statements_from n rest) e
-behind_default all (Some s) k rest = refl
+after_default : (all : List Statement) (o : Option Statement) (k : ℕ) (rest : List Content) → statements_from k (default_list all o ++ rest) ≡ statements_from (k + length (option_to_list o)) rest
+after_default all None k rest = let e : k ≡ k + 0 = omega arith in ap (λ n. statements_from n rest) e
+after_default all (Some s) k rest = refl
 
 said_drafts : (all ss : List Statement) (k : ℕ) → statements_from k (map (statement_content all) ss) ≡ drafts all k ss
 said_drafts all [] k = refl
@@ -62,9 +62,9 @@ no_fixes : (all ss : List Statement) (k : ℕ) → fixes_from k (map (statement_
 no_fixes all [] k = refl
 no_fixes all (s ∷ ss) k = no_fixes all ss (k + 1)
 
-no_fixes_behind : (all : List Statement) (o : Option Statement) (ss : List Statement) (k : ℕ) → fixes_from k (default_list all o ++ map (statement_content all) ss) ≡ []
-no_fixes_behind all None ss k = no_fixes all ss k
-no_fixes_behind all (Some s) ss k = no_fixes all ss (k + 1)
+no_fixes_after : (all : List Statement) (o : Option Statement) (ss : List Statement) (k : ℕ) → fixes_from k (default_list all o ++ map (statement_content all) ss) ≡ []
+no_fixes_after all None ss k = no_fixes all ss k
+no_fixes_after all (Some s) ss k = no_fixes all ss (k + 1)
 
 address_is : (address : ℕ) → address < 512 → address_of (pos address) ≡ Some address
 address_is address lt = let t : nat_lt address 512 ≡ true = grind (arith, nat_tests) in ap (λ b. cond b (Some address) None) t
@@ -87,9 +87,9 @@ addresses_none : (all ss : List Statement) → AreAddresses (map (statement_cont
 addresses_none all [] = tt
 addresses_none all (s ∷ ss) = addresses_none all ss
 
-addresses_behind : (all : List Statement) (o : Option Statement) (ss : List Statement) → AreAddresses (default_list all o ++ map (statement_content all) ss)
-addresses_behind all None ss = addresses_none all ss
-addresses_behind all (Some s) ss = addresses_none all ss
+addresses_after : (all : List Statement) (o : Option Statement) (ss : List Statement) → AreAddresses (default_list all o ++ map (statement_content all) ss)
+addresses_after all None ss = addresses_none all ss
+addresses_after all (Some s) ss = addresses_none all ss
 
 said_addresses : (ss : List Statement) (rest : List Content) → Each Below ss → AreAddresses rest → AreAddresses (filter_map fix_content ss ++ rest)
 said_addresses [] rest b a = a
@@ -106,9 +106,9 @@ no_fallbacks : (all ss : List Statement) (k : ℕ) → fallbacks_from k (map (st
 no_fallbacks all [] k = refl
 no_fallbacks all (s ∷ ss) k = no_fallbacks all ss (k + 1)
 
-fallbacks_behind : (ss : List Statement) (k : ℕ) (rest : List Content) → fallbacks_from k (filter_map fix_content ss ++ rest) ≡ fallbacks_from (k + length (filter_map fix_line ss)) rest
-fallbacks_behind [] k rest = let e : k ≡ k + 0 = omega arith in ap (λ n. fallbacks_from n rest) e
-fallbacks_behind (s ∷ ss) k rest = go s.label s.fixed (λ n. fallbacks_behind ss n rest)
+fallbacks_after : (ss : List Statement) (k : ℕ) (rest : List Content) → fallbacks_from k (filter_map fix_content ss ++ rest) ≡ fallbacks_from (k + length (filter_map fix_line ss)) rest
+fallbacks_after [] k rest = let e : k ≡ k + 0 = omega arith in ap (λ n. fallbacks_from n rest) e
+fallbacks_after (s ∷ ss) k rest = go s.label s.fixed (λ n. fallbacks_after ss n rest)
   where
     go : (o : Option (List ℕ)) (f : Option ℕ) → ((n : ℕ) → fallbacks_from n (filter_map fix_content ss ++ rest) ≡ fallbacks_from (n + length (filter_map fix_line ss)) rest) → fallbacks_from k (cons_option (fix_said_by o f) (filter_map fix_content ss) ++ rest) ≡ fallbacks_from (k + length (cons_option (option_and_then (λ label. option_map (λ address. printed (fix label address)) f) o) (filter_map fix_line ss))) rest
     go None f rec = rec k
@@ -137,8 +137,8 @@ one_later s ss one i j name e f = let k : suc i ≡ suc j = one (suc i) (suc j) 
 foreign_later : (label : List ℕ) (s : Statement) (ss : List Statement) → IsForeign label (s ∷ ss) → IsForeign label ss
 foreign_later label s ss f i name e = f (suc i) name e
 
-foreign_behind : (s : Statement) (ss : List Statement) (label : List ℕ) → OneEach (s ∷ ss) → s.label ≡ Some label → IsForeign label ss
-foreign_behind s ss label one h i name e = go (bytes_eq name label) refl
+foreign_after : (s : Statement) (ss : List Statement) (label : List ℕ) → OneEach (s ∷ ss) → s.label ≡ Some label → IsForeign label ss
+foreign_after s ss label one h i name e = go (bytes_eq name label) refl
   where
     go : (b : Bool) → bytes_eq name label ≡ b → b ≡ false
     go false f = refl
@@ -158,7 +158,7 @@ distinct_labels all (s ∷ ss) k one = go s.label refl (distinct_labels all ss (
   where
     go : (o : Option (List ℕ)) → s.label ≡ o → AreDistinct (labels_of (drafts all (k + 1) ss)) → AreDistinct (cons_option o (labels_of (drafts all (k + 1) ss)))
     go None e rec = rec
-    go (Some name) e rec = (foreign_labels all ss (k + 1) name (foreign_behind s ss name one e), rec)
+    go (Some name) e rec = (foreign_labels all ss (k + 1) name (foreign_after s ss name one e), rec)
 
 foreign_fixes : (ss : List Statement) (k : ℕ) (label : List ℕ) → IsForeign label ss → is_among label (fix_labels (fixes_at ss k)) ≡ false
 foreign_fixes [] k label f = refl
@@ -176,7 +176,7 @@ distinct_fixes (s ∷ ss) k one = go s.label s.fixed refl (λ n. distinct_fixes 
     go : (o : Option (List ℕ)) (a : Option ℕ) → s.label ≡ o → ((n : ℕ) → AreDistinct (fix_labels (fixes_at ss n))) → AreDistinct (fix_labels (fixed_by k o a (λ n. fixes_at ss n)))
     go None a e rec = rec k
     go (Some name) None e rec = rec k
-    go (Some name) (Some address) e rec = (foreign_fixes ss (k + 1) name (foreign_behind s ss name one e), rec (k + 1))
+    go (Some name) (Some address) e rec = (foreign_fixes ss (k + 1) name (foreign_after s ss name one e), rec (k + 1))
 
 -- ---- the address of a label
 
@@ -199,7 +199,7 @@ address_here (x ∷ ss) k zero s label one h e =
   where
     go : (o : Option (List ℕ)) (a : Option ℕ) → o ≡ Some label → address_at (fixed_by k o a (λ n. fixes_at ss n)) label ≡ a
     go None a f = absurd (cc)
-    go (Some name) None f = foreign_address ss k label (foreign_behind x ss label one (let q : x ≡ s = cc in ap (λ (t : Statement). t.label) q ∙ e))
+    go (Some name) None f = foreign_address ss k label (foreign_after x ss label one (let q : x ≡ s = cc in ap (λ (t : Statement). t.label) q ∙ e))
     go (Some name) (Some address) f =
         let n : name ≡ label = cc in
         ap (λ b. option_map (λ (x : Fix). x.address) (cond b (Some (record { label = name; line = k; address = address })) (find (λ x. bytes_eq x.label label) (fixes_at ss (k + 1))))) (ap (bytes_eq name) (sym n) ∙ text_same name)
@@ -289,23 +289,23 @@ module _ (p : MalView) (h : IsMalProgram p) where
 
   statements_are : statements (content_of p) ≡ drafts p.statements begin p.statements
   statements_are =
-      behind_fixes p.statements 1 (default_list p.statements p.fallback ++ map (statement_content p.statements) p.statements)
-      ∙ (behind_default p.statements p.fallback (1 + fix_count p) (map (statement_content p.statements) p.statements)
+      after_fixes p.statements 1 (default_list p.statements p.fallback ++ map (statement_content p.statements) p.statements)
+      ∙ (after_default p.statements p.fallback (1 + fix_count p) (map (statement_content p.statements) p.statements)
       ∙ said_drafts p.statements p.statements begin)
 
   fixes_are : fixes (content_of p) ≡ fixes_at p.statements 1
-  fixes_are = said_fixes p.statements (default_list p.statements p.fallback ++ map (statement_content p.statements) p.statements) 1 below_all (λ n. no_fixes_behind p.statements p.fallback p.statements n)
+  fixes_are = said_fixes p.statements (default_list p.statements p.fallback ++ map (statement_content p.statements) p.statements) 1 below_all (λ n. no_fixes_after p.statements p.fallback p.statements n)
 
   fallbacks_are : fallbacks (content_of p) ≡ option_to_list (option_map (default_draft p.statements (1 + fix_count p)) p.fallback)
   fallbacks_are =
-      fallbacks_behind p.statements 1 (default_list p.statements p.fallback ++ map (statement_content p.statements) p.statements)
+      fallbacks_after p.statements 1 (default_list p.statements p.fallback ++ map (statement_content p.statements) p.statements)
       ∙ said_default p.statements p.fallback p.statements (1 + fix_count p)
 
   is_fine : IsFine (content_of p)
   is_fine = record {
     labels = subst (λ ds. AreDistinct (labels_of ds)) (sym statements_are) (distinct_labels p.statements p.statements begin h.labels);
     few = subst (λ ds. length ds ≤ 512) (sym statements_are) (subst (λ n. n ≤ 512) (sym (length_drafts p.statements p.statements begin)) h.few);
-    addresses = said_addresses p.statements (default_list p.statements p.fallback ++ map (statement_content p.statements) p.statements) below_all (addresses_behind p.statements p.fallback p.statements);
+    addresses = said_addresses p.statements (default_list p.statements p.fallback ++ map (statement_content p.statements) p.statements) below_all (addresses_after p.statements p.fallback p.statements);
     fixed = subst (λ fs. AreDistinct (fix_labels fs)) (sym fixes_are) (distinct_fixes p.statements 1 h.labels);
     one_default = subst (λ ds. length ds ≤ 1) (sym fallbacks_are) (one p.fallback);
   }

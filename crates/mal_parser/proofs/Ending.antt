@@ -129,20 +129,20 @@ module _ (test : Content → List Content → Bool) where
   at_none : (k n : ℕ) → IsAt test k [] n → ⊥
   at_none k n a = go a.front a.split
     where
-      go : (front : List Content) → [] ≡ front ++ a.content ∷ a.behind → ⊥
+      go : (front : List Content) → [] ≡ front ++ a.content ∷ a.following → ⊥
       go [] e = cc
       go (x ∷ front) e = cc
 
   at_later : (k n : ℕ) (c : Content) (cs : List Content) → IsAt test (k + 1) cs n → IsAt test k (c ∷ cs) n
-  at_later k n c cs a = record { front = c ∷ a.front; content = a.content; behind = a.behind; split = ap (λ xs. c ∷ xs) a.split; number = omega (arith, a.number); passes = a.passes }
+  at_later k n c cs a = record { front = c ∷ a.front; content = a.content; following = a.following; split = ap (λ xs. c ∷ xs) a.split; number = omega (arith, a.number); passes = a.passes }
 
   -- where the first line does not pass, the line is one of the rest
   at_rest : (k n : ℕ) (c : Content) (cs : List Content) → test c cs ≡ false → IsAt test k (c ∷ cs) n → IsAt test (k + 1) cs n
   at_rest k n c cs f a = go a.front a.split a.number
     where
-      go : (front : List Content) → c ∷ cs ≡ front ++ a.content ∷ a.behind → n ≡ k + length front → IsAt test (k + 1) cs n
-      go [] e m = absurd (let p = a.passes in let g : c ≡ a.content = cc in let h : cs ≡ a.behind = cc in cc)
-      go (x ∷ front) e m = record { front = front; content = a.content; behind = a.behind; split = cc; number = omega (arith, m); passes = a.passes }
+      go : (front : List Content) → c ∷ cs ≡ front ++ a.content ∷ a.following → n ≡ k + length front → IsAt test (k + 1) cs n
+      go [] e m = absurd (let p = a.passes in let g : c ≡ a.content = cc in let h : cs ≡ a.following = cc in cc)
+      go (x ∷ front) e m = record { front = front; content = a.content; following = a.following; split = cc; number = omega (arith, m); passes = a.passes }
 
   line_found : (cs : List Content) (k : ℕ) → Found k cs (line_from test k cs)
   unfolding Found line_from
@@ -154,7 +154,7 @@ module _ (test : Content → List Content → Bool) where
       rest e (Some n) (a, lowest) = (at_later k n c cs a, λ j b. lowest j (at_rest k j c cs e b))
 
       go : (b : Bool) → test c cs ≡ b → (o : Option ℕ) → Found (k + 1) cs o → Found k (c ∷ cs) (cond b (Some k) o)
-      go true e o f = (record { front = []; content = c; behind = cs; split = refl; number = omega arith; passes = e }, λ j a. omega (arith, a.number))
+      go true e o f = (record { front = []; content = c; following = cs; split = refl; number = omega arith; passes = e }, λ j a. omega (arith, a.number))
       go false e o f = rest e o f
 
   first_line : (k n : ℕ) (cs : List Content) → line_from test k cs ≡ Some n → IsFirst (IsAt test k cs) n
@@ -198,11 +198,11 @@ unknown_named ds (nexts.Branch test high low) = go (has_label ds high) (has_labe
     go true false = refl
     go false b = refl
 
-same_unknown : (ds : List Draft) (c : Content) (behind : List Content) → is_unknown ds c ≡ names_unknown ds c behind
-same_unknown ds said.Nothing behind = refl
-same_unknown ds (said.Fix label number) behind = unknown_named ds (nexts.Goto label)
-same_unknown ds (said.Fallback parts) behind = unknown_named ds parts.next
-same_unknown ds (said.Statement label parts) behind = unknown_named ds parts.next
+same_unknown : (ds : List Draft) (c : Content) (following : List Content) → is_unknown ds c ≡ names_unknown ds c following
+same_unknown ds said.Nothing following = refl
+same_unknown ds (said.Fix label number) following = unknown_named ds (nexts.Goto label)
+same_unknown ds (said.Fallback parts) following = unknown_named ds parts.next
+same_unknown ds (said.Statement label parts) following = unknown_named ds parts.next
 
 same_line : (ds : List Draft) (cs : List Content) (k : ℕ) → from_line ds k cs ≡ line_from (names_unknown ds) k cs
 unfolding from_line line_from

@@ -118,10 +118,10 @@ refusals = record { bad_token = errors.BadToken; at_line = at_line }
 pub record IsAt (test : Content → List Content → Bool) (k : ℕ) (cs : List Content) (n : ℕ) : Type 0 where
   pub front : List Content
   pub content : Content
-  pub behind : List Content
-  pub split : cs ≡ front ++ content ∷ behind
+  pub following : List Content
+  pub split : cs ≡ front ++ content ∷ following
   pub number : n ≡ k + length front
-  pub passes : test content behind ≡ true
+  pub passes : test content following ≡ true
 
 -- the first line of which this holds
 abbrev pub IsFirst : (ℕ → Type 0) → ℕ → Type 0
@@ -144,7 +144,7 @@ labels_named (said.Fallback parts) = targets_of parts.next
 labels_named (said.Statement label parts) = targets_of parts.next
 
 abbrev pub names_unknown : List Draft → Content → List Content → Bool
-names_unknown ds c behind = list_any (λ label. not (has_label ds label)) (labels_named c)
+names_unknown ds c following = list_any (λ label. not (has_label ds label)) (labels_named c)
 
 -- the line names a label that no statement has
 abbrev pub NamesUnknown : List Content → ℕ → Type 0
@@ -160,9 +160,9 @@ is_statement (said.Statement label parts) = true
 is_statement _ = false
 
 abbrev pub falls_off : Content → List Content → Bool
-falls_off (said.Fallback parts) behind = falls parts.next
-falls_off (said.Statement label parts) behind = falls parts.next && not (list_any is_statement behind)
-falls_off _ behind = false
+falls_off (said.Fallback parts) following = falls parts.next
+falls_off (said.Statement label parts) following = falls parts.next && not (list_any is_statement following)
+falls_off _ following = false
 
 -- the line is the last statement or `.default`, and has no goto
 abbrev pub FallsOff : List Content → ℕ → Type 0

@@ -14,14 +14,14 @@ abbrev pub Counts : Access → CacheView → CacheView → Type 0
 Counts access old new = new.tally ≡ counted (length old.bus.words) access old.tally
 
 -- A call leads from one view to another, by an access that was answered; or by none, and then nothing is counted.
-abbrev pub Leads : Option Access → CacheView → CacheView → Type 0
-Leads None old new = (length new.bus.words ≡ length old.bus.words) × (new.tally ≡ old.tally)
-Leads (Some access) old new = (length new.bus.words ≡ length old.bus.words) × Counts access old new
+abbrev pub Serves : Option Access → CacheView → CacheView → Type 0
+Serves None old new = (length new.bus.words ≡ length old.bus.words) × (new.tally ≡ old.tally)
+Serves (Some access) old new = (length new.bus.words ≡ length old.bus.words) × Counts access old new
 
 -- each call leads from the view that the one before it left
 abbrev pub AllLead : List (Option Access) → CacheView → CacheView → Type 0
 AllLead [] old new = new ≡ old
-AllLead (call ∷ calls) old new = (between : CacheView) × Leads call old between × AllLead calls between new
+AllLead (call ∷ calls) old new = (between : CacheView) × Serves call old between × AllLead calls between new
 
 -- the accesses that were answered
 abbrev pub answered : List (Option Access) → List Access

@@ -11,7 +11,7 @@ pub use Rattle.ijvm_instr.specs.declared.instr.Instr.TheVariants.{Err, Halt}
 pub use Rattle.ijvm_meaning.specs.Prelude.{State, Timing, cost, start_of, timing_of}
 pub use Rattle.verifier_facts.specs.Prelude.{VerifiedView}
 pub use Rattle.ijvm_simulation.specs.Prelude.{Boots, Fine, Interprets, IsAt, IsCutWhereReadFails, IsCutWhereWriteFails, IsNext, Law, Loads, Moment, Moves}
-pub use Rattle.ijvm_simulation.specs.Prelude.{Origin, Overran, Overruns, Promises, RunsAsDefined, ShowsState, Stops, StopsBehind, Takes, Went, reset_moment}
+pub use Rattle.ijvm_simulation.specs.Prelude.{Origin, Overran, Overruns, Promises, RunsAsDefined, ShowsState, Stops, StopsAfter, Takes, Went, reset_moment}
 pub use Rattle.mic1_checks.specs.Prelude.{CarriesAll, HasWords, IsReadyOrArriving, MovesOn, StandsBefore, timing_by}
 pub use Rattle.mic1_checks.specs.declared.judged.Costs.{Costs}
 pub use Rattle.mic1_checker.specs.Prelude.{IsReadyInWords, checked_with, reading}

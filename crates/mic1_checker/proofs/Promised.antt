@@ -1,7 +1,7 @@
 -- What a store promises that was judged beside one which keeps its promises.
 use Rattle.mic1_checker.proofs.Common.{◌≡◌, ℕ, List, inl, inr, refl, sym, subst, World, Instr, Err, Halt, Timing, cost, State, start_of, VerifiedView, Micro}
 use Rattle.mic1_checker.proofs.Common.{mic1_meaning, IsReady, Origin, IsAt, Moment, Went, Overran, Loads, Fine, IsNext, Boots, Law, Moves, Overruns, ShowsState}
-use Rattle.mic1_checker.proofs.Common.{Stops, StopsBehind, Takes, reset_moment, Promises, Costs, IsReadyOrArriving, StandsBefore, CarriesAll, MovesOn}
+use Rattle.mic1_checker.proofs.Common.{Stops, StopsAfter, Takes, reset_moment, Promises, Costs, IsReadyOrArriving, StandsBefore, CarriesAll, MovesOn}
 use Rattle.mic1_checker.proofs.Common.{timing_by, HasWords, IsReadyInWords}
 
 module _ (store' : List ℕ) (entry' : ℕ) (o : Origin) where
@@ -47,7 +47,7 @@ module _ (store' : List ℕ) (entry' : ℕ) (o : Origin) where
         given = h.given;
       }
 
-  pub stops_in_words : (before : List ℕ) (q : Moment Micro) (spent mpc : ℕ) → StopsBehind mic1_meaning store' Arriving before q spent mpc →
+  pub stops_in_words : (before : List ℕ) (q : Moment Micro) (spent mpc : ℕ) → StopsAfter mic1_meaning store' Arriving before q spent mpc →
       Stops mic1_meaning store' InWords before q spent mpc
   stops_in_words before q spent mpc h =
       inr (record {

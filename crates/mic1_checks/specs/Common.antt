@@ -11,7 +11,7 @@ pub use Rattle.ijvm_instr.specs.declared.row.Cost.TheVariants.{Always, ByEntry, 
 pub use Rattle.ijvm_meaning.specs.Prelude.{State, Timing, base, cost, frames_of}
 pub use Rattle.verifier_facts.specs.Prelude.{VerifiedView}
 pub use Rattle.ijvm_simulation.specs.Prelude.{Boots, Fine, IsAt, IsNext, Loads, Moment, Moves, Origin, Overran, Overruns, RegistersStand, ShowsState}
-pub use Rattle.ijvm_simulation.specs.Prelude.{StopsBehind, Takes, Went, pass, reset_moment}
+pub use Rattle.ijvm_simulation.specs.Prelude.{StopsAfter, Takes, Went, pass, reset_moment}
 pub use Rattle.micro_terms.specs.Prelude.{AreOrdered, Environment, Grows, Holds, IsNode, value}
 pub use Rattle.micro_terms.specs.declared.node.Node.{Node}
 pub use Rattle.micro_terms.specs.declared.node.Node.TheVariants.{Free}

@@ -1,6 +1,6 @@
 -- Where HALT and ERR lead in a control store.
 use Rattle.std.specs.Prelude.{◌≡◌, ◌≢◌, ◌+◌, ◌<◌, ℕ, List, length}
-use Rattle.mic1_checks.specs.Common.{byte_in, Instr, State, VerifiedView, Micro, mic1_meaning, Origin, IsAt, Moment, StopsBehind, Path, Followed}
+use Rattle.mic1_checks.specs.Common.{byte_in, Instr, State, VerifiedView, Micro, mic1_meaning, Origin, IsAt, Moment, StopsAfter, Path, Followed}
 use Rattle.ijvm_instr.specs.declared.instr.Instr.TheVariants.{Err, Halt}
 use Rattle.mic1_passes.specs.declared.run.Followed.TheVariants as ends
 use Rattle.mic1_checks.specs.declared.ends.Ends.{Ends}
@@ -29,11 +29,11 @@ abbrev pub EndsAfter : ℕ → ℕ → Shape → List ℕ → ℕ → ℕ → Ty
 EndsAfter opcode mpc shape store entry cycles =
     (before : List ℕ) (v : VerifiedView) (o : Origin) (s : State) (q : Moment Micro) (i : Instr) →
     StandsBefore entry v o s q i → byte_in o.words s.at ≡ opcode → shape_of q.state ≡ shape →
-    StopsBehind mic1_meaning store (IsAt mic1_meaning IsReadyOrArriving entry o) before q (cycles + 1) mpc
+    StopsAfter mic1_meaning store (IsAt mic1_meaning IsReadyOrArriving entry o) before q (cycles + 1) mpc
 
 -- the store takes HALT and ERR to the ends of the run
 pub record TakesEnds (store : List ℕ) (entry : ℕ) (ends : Ends) : Type 0 where
   pub halts : (before : List ℕ) (v : VerifiedView) (o : Origin) (s : State) (q : Moment Micro) → StandsBefore entry v o s q Halt →
-      StopsBehind mic1_meaning store (IsAt mic1_meaning IsReadyOrArriving entry o) before q (ends.halt + 1) 0x0FF
+      StopsAfter mic1_meaning store (IsAt mic1_meaning IsReadyOrArriving entry o) before q (ends.halt + 1) 0x0FF
   pub errs : (before : List ℕ) (v : VerifiedView) (o : Origin) (s : State) (q : Moment Micro) → StandsBefore entry v o s q Err →
-      StopsBehind mic1_meaning store (IsAt mic1_meaning IsReadyOrArriving entry o) before q (ends.err + 1) 0x0FE
+      StopsAfter mic1_meaning store (IsAt mic1_meaning IsReadyOrArriving entry o) before q (ends.err + 1) 0x0FE

@@ -1,7 +1,7 @@
 -- What the second store spends, by what the first spends, and all that it does then.
 use Rattle.std.specs.Prelude.{◌≡◌, ◌⊎◌, ◌<◌, ◌+◌, ◌-◌, ◌==◌, ◌&&◌, if◌then◌else◌, ℕ, List, [], ◌∷◌, Option, Some, None, slice_index, unwrap_or}
 use Rattle.mic1_checks.specs.Common.{All, World, Micro, mic1_meaning, IsReady, Instr, Cost, Always, IfTaken, ByEntry, Timing, cost, State, VerifiedView, Origin}
-use Rattle.mic1_checks.specs.Common.{IsAt, Moment, Boots, Moves, Overruns, ShowsState, StopsBehind, Takes, reset_moment, Went, Overran, Loads}
+use Rattle.mic1_checks.specs.Common.{IsAt, Moment, Boots, Moves, Overruns, ShowsState, StopsAfter, Takes, reset_moment, Went, Overran, Loads}
 use Rattle.ijvm_instr.specs.declared.instr.Instr.TheVariants.{Err, Halt}
 use Rattle.mic1_checks.specs.declared.judged.Costs.{Costs}
 use Rattle.mic1_checks.specs.declared.leaf.Counts.{Counts}
@@ -66,6 +66,6 @@ pub record CarriesAll (store store' : List ℕ) (entry entry' : ℕ) (costs : Co
       Takes mic1_meaning store (IsAt mic1_meaning IsReady entry o) before timing v o (λ i. Unit {0}) →
       StandsBefore entry' v o s q i → (i ≡ Halt) ⊎ ((i ≡ Err) ⊎ GoesOn store' entry' before (timing_by costs timing) v o s q i)
   pub halts : (before : List ℕ) (timing : Timing) (v : VerifiedView) (o : Origin) (s : State) (q : Moment Micro) → StandsBefore entry' v o s q Halt →
-      StopsBehind mic1_meaning store' (IsAt mic1_meaning IsReadyOrArriving entry' o) before q (cost v.image (timing_by costs timing) Halt s) 0x0FF
+      StopsAfter mic1_meaning store' (IsAt mic1_meaning IsReadyOrArriving entry' o) before q (cost v.image (timing_by costs timing) Halt s) 0x0FF
   pub errs : (before : List ℕ) (timing : Timing) (v : VerifiedView) (o : Origin) (s : State) (q : Moment Micro) → StandsBefore entry' v o s q Err →
-      StopsBehind mic1_meaning store' (IsAt mic1_meaning IsReadyOrArriving entry' o) before q (cost v.image (timing_by costs timing) Err s) 0x0FE
+      StopsAfter mic1_meaning store' (IsAt mic1_meaning IsReadyOrArriving entry' o) before q (cost v.image (timing_by costs timing) Err s) 0x0FE

@@ -11,8 +11,8 @@ pub use Rattle.micro_word.specs.declared.lines.Lines.{Lines}
 pub use Rattle.micro_word.specs.declared.statement.BusSource.{BusSource}
 pub use Rattle.micro_word.specs.declared.statement.Mem.{Mem}
 pub use Rattle.micro_word.specs.declared.statement.Placed.{Placed}
-pub use Rattle.mic1_alu.specs.Prelude.{controls_of, enabled, gates}
-pub use Rattle.mic1_alu.specs.declared.controls.Controls.{Controls}
+pub use Rattle.mic_alu.specs.Prelude.{controls_of, enabled, gates}
+pub use Rattle.mic_alu.specs.declared.controls.Controls.{Controls}
 pub use Rattle.console_port.specs.Prelude.{BusView, ChangesOnly, ConsoleView, Given, IsLed, Refusal, Shows, StreamsGoOn, Untaken, World, refused_by}
 pub use Rattle.console_port.specs.declared.fault.BusFault.{BusFault}
 pub use Rattle.console_port.specs.declared.fault.BusFault.TheVariants.{ReadFault, WriteFault}

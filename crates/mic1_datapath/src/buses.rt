@@ -7,9 +7,9 @@ ghost use Rattle.mic1_datapath.specs.Mic1.{computed, computed_on, driven};
 ghost use Rattle.mic1_datapath.specs.Microstep.{source};
 
 use crate::latches::Latches;
+use mic_alu::{AluOut, Controls, alu, each_row_computes};
 use mic_clock::{Computed, Drive};
 use mic_datapath::{operate, shift_by, side_law};
-use mic1_alu::{AluOut, Controls, alu, each_row_computes};
 use micro_word::{Lines, Machine, bits, statement_law, word_law};
 
 pub const H: usize = 8;

@@ -102,7 +102,7 @@ fn brings_nothing(word: u64) -> bool
 
 /// What the word before brings becomes MDR, whatever the C bus put there, and MBR.
 #[inline(always)]
-fn arrive_behind(before: u64, word: u32, byte: u8, places: &mut Places)
+fn arrive_after(before: u64, word: u32, byte: u8, places: &mut Places)
     requires { IsTrue (is_canonical Mic1 before) }
     ensures mdr { slice_index places.new 1 ≡ arrived_of (under_way (reads before) word) (slice_index places.old 1) }
     ensures mbru { slice_index places.new 10 ≡ arrived_of (under_way (fetches before) byte) (slice_index places.old 10) }
@@ -247,7 +247,7 @@ impl Latches {
             None,
             &mut self.places,
         );
-        arrive_behind(self.before, self.word, self.byte, &mut self.places);
+        arrive_after(self.before, self.word, self.byte, &mut self.places);
         self.mpc = goes_on(word, lines.addr, value, self.places[MBRU] as u8);
         take(sampled.word, &mut self.word);
         take_byte(sampled.byte, &mut self.byte);

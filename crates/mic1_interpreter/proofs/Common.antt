@@ -27,7 +27,7 @@ pub use Rattle.verifier_facts.specs.Prelude.{VerifiedView}
 pub use Rattle.ijvm_simulation.specs.Accesses.{fetch_ok}
 pub use Rattle.ijvm_simulation.specs.Images.{first, lands, map}
 pub use Rattle.ijvm_simulation.specs.Prelude.{Boots, Fine, Grows, HaltsAndErrs, HasWord, IsNext, Lands, Loads, Moment, Moves, OnDone, Origin, Overran, Overruns}
-pub use Rattle.ijvm_simulation.specs.Prelude.{RegistersStand, ShowsState, Stops, Takes, Went, address_behind, is_inside, jump, last, left_of, outcome_at, pass}
+pub use Rattle.ijvm_simulation.specs.Prelude.{RegistersStand, ShowsState, Stops, Takes, Went, address_after, is_inside, jump, last, left_of, outcome_at, pass}
 pub use Rattle.ijvm_simulation.specs.Prelude.{pass_on, reset_moment, stalls_at}
 pub use Rattle.ijvm_simulation.specs.Words.{before_is, byte_bound, byte_kept, given_grows, grows_not, next_is, plus_comm, wrap_small}
 pub use Rattle.mic1_interpreter.specs.Prelude.{Stands}

@@ -2,21 +2,21 @@
 use Rattle.mic1_interpreter.proofs.Common.{ap, ap₂, ◌∙◌, ◌≡◌, ℕ, zero, suc, ◌<◌, Option, Some, None, true, List, length, arith, refl, add-zero, length-set}
 use Rattle.mic1_interpreter.proofs.Common.{nat_lt, nat_tests, World, Refusal, Mem, Write, Placed, Done, Refused, Micro, clock, world_after, ports_of, settled}
 use Rattle.mic1_interpreter.proofs.Common.{refusal, mic1_meaning, microstep, step_of_word, driven, Ports, written, sampled, memory_refusal, byte_refusal}
-use Rattle.mic1_interpreter.proofs.Common.{outcome, Moment, is_inside, outcome_at, stalls_at, last, pass, pass_on, address_behind, left_of}
+use Rattle.mic1_interpreter.proofs.Common.{outcome, Moment, is_inside, outcome_at, stalls_at, last, pass, pass_on, address_after, left_of}
 use Rattle.mic1_interpreter.proofs.Store.{shipped, HasStatements}
 
 -- `top` is the end of the memory.
 module _ (top : ℕ) where
   abbrev pub guided : Placed → List ℕ → Moment Micro → Moment Micro
   guided s gs p =
-      record { state = record (clock top s p.state p.world) { mpc = address_behind s.next gs }; world = world_after top s p.state p.world; stalls = p.stalls }
+      record { state = record (clock top s p.state p.world) { mpc = address_after s.next gs }; world = world_after top s p.state p.world; stalls = p.stalls }
 
   -- no access of a step is refused, and the guess is right
   abbrev pub IsClear : Placed → List ℕ → Moment Micro → Type 0
   IsClear s gs p =
       (memory_refusal top s.part.mem (settled s.part p.state).mar ≡ None)
       × (byte_refusal top s.part.fetch (settled s.part p.state).pc ≡ None)
-      × ((clock top s p.state p.world).mpc ≡ address_behind s.next gs)
+      × ((clock top s p.state p.world).mpc ≡ address_after s.next gs)
       × (nat_lt p.state.mpc 512 ≡ true)
 
   -- the moment after n + 1 steps along the guesses

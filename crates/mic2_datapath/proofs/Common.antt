@@ -14,8 +14,8 @@ pub use Rattle.micro_word.specs.declared.statement.BusSource.{BusSource}
 pub use Rattle.micro_word.specs.declared.statement.Mem.{Mem}
 pub use Rattle.micro_word.specs.declared.statement.Placed.{Placed}
 pub use Rattle.micro_word.specs.declared.statement.PlacedNext.{PlacedNext}
-pub use Rattle.mic1_alu.specs.Prelude.{controls_of, enabled, gates}
-pub use Rattle.mic1_alu.specs.declared.controls.Controls.{Controls}
+pub use Rattle.mic_alu.specs.Prelude.{controls_of, enabled, gates}
+pub use Rattle.mic_alu.specs.declared.controls.Controls.{Controls}
 pub use Rattle.console_port.specs.Prelude.{BusView, ChangesOnly, HasFaultCause, IsFault, IsLed, Refusal, Shows, StillTells, StreamsGoOn, World, refused_by}
 pub use Rattle.mic_clock.specs.Prelude.{Done, IsEdge, IsTried, Outcome, buses_in, edge_passed, refusal_in}
 pub use Rattle.mic_clock.specs.declared.buses.Computed.{Computed}

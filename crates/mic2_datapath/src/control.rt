@@ -7,9 +7,9 @@ ghost use Rattle.mic2_datapath.specs.Latches.{IsDecoded, access_by, jam_in};
 ghost use Rattle.mic2_datapath.specs.Mic2.{flagged, value_of};
 ghost use Rattle.mic2_datapath.specs.Microstep.{demand};
 
+use mic_alu::{AluOut, Controls, alu, each_row_computes};
 use mic_clock::Computed;
 use mic_datapath::{next_address, operate, shift_by, side_law};
-use mic1_alu::{AluOut, Controls, alu, each_row_computes};
 use micro_word::{Lines, Machine, Mem, bits, statement_law, word_law};
 
 /// JMPC.

@@ -91,14 +91,14 @@ word_without word skip h =
     ap (drop skip) (sym (bytes_of_turned word)) ∙ drop-bytes_in skip (4 - skip) 4 (turned_word word) (omega arith) (omega arith)
 
 -- bytes that enter after others
-pub or_behind : (bits more n m : ℕ) → bits < 2 ^ (8 * n) → more < 2 ^ (8 * m) → 8 * m + 8 * n ≤ 64 → bit_or bits (more * 2 ^ (8 * n) % 2 ^ 64) ≡ bits + more * 2 ^ (8 * n)
-or_behind bits more n m h few fits =
+pub or_after : (bits more n m : ℕ) → bits < 2 ^ (8 * n) → more < 2 ^ (8 * m) → 8 * m + 8 * n ≤ 64 → bit_or bits (more * 2 ^ (8 * n) % 2 ^ 64) ≡ bits + more * 2 ^ (8 * n)
+or_after bits more n m h few fits =
     let flip : more * 2 ^ (8 * n) + bits ≡ bits + more * 2 ^ (8 * n) = omega arith in
     ap (bit_or bits) (shl_whole more (8 * m) (8 * n) 64 few fits)
     ∙ (or_comm bits (more * 2 ^ (8 * n)) ∙ (or_shifted more (8 * n) bits h ∙ flip))
 
-pub behind-lt : (bits more n m k : ℕ) → bits < 2 ^ (8 * n) → more < 2 ^ (8 * m) → k ≡ n + m → bits + more * 2 ^ (8 * n) < 2 ^ (8 * k)
-behind-lt bits more n m k h few e =
+pub following-lt : (bits more n m k : ℕ) → bits < 2 ^ (8 * n) → more < 2 ^ (8 * m) → k ≡ n + m → bits + more * 2 ^ (8 * n) < 2 ^ (8 * k)
+following-lt bits more n m k h few e =
     let size : 8 * k ≡ 8 * m + 8 * n = omega arith in
     let whole : 2 ^ (8 * k) ≡ 2 ^ (8 * m) * 2 ^ (8 * n) = ap (λ (x : ℕ). 2 ^ x) size ∙ pow-add 2 (8 * m) (8 * n) in
     let more_one : (more + 1) * 2 ^ (8 * n) ≤ 2 ^ (8 * m) * 2 ^ (8 * n) = mul-le-mul_right {m = more + 1} {n = 2 ^ (8 * m)} (2 ^ (8 * n)) (omega arith) in

@@ -99,17 +99,17 @@ edge_full words t u h more =
 short : (bytes : List ℕ) (imar skip word : ℕ) → IsUnit (unit bytes imar skip (Some word)) → length bytes ≤ 2
 short bytes imar skip word h = let asks : true ≡ nat_le (length bytes) 2 = h.asks in grind (arith, nat_tests)
 
-unit_behind : (words : List ℕ) (t imar skip : ℕ) (bytes : List ℕ) → t ≤ length bytes → (pending : Option ℕ) →
+unit_following : (words : List ℕ) (t imar skip : ℕ) (bytes : List ℕ) → t ≤ length bytes → (pending : Option ℕ) →
     IsUnit (unit bytes imar skip pending) → IsUnit (edge words t (unit bytes imar skip pending))
 unfolding edge
-unit_behind words t imar skip bytes within None h =
+unit_following words t imar skip bytes within None h =
     record {
       few = omega (arith, length-drop t bytes, h.few);
       skip = h.skip;
       skips = λ some. absurd (let none : false ≡ true = (h.skips some).1 in cc);
       asks = asked (slice_index words) imar (nat_le (length (drop t bytes)) 2);
     }
-unit_behind words t imar skip bytes within (Some word) h =
+unit_following words t imar skip bytes within (Some word) h =
     record {
       few = omega (arith, long t skip word bytes, short bytes imar skip word h);
       skip = omega arith;
@@ -126,14 +126,14 @@ module _ (words words' : List ℕ) (p t imar skip : ℕ) (bytes : List ℕ) (low
       let e : p + (t + k) ≡ p + t + k = omega arith in
       get_or-drop t bytes k 0 ∙ s.bytes (t + k) inside ∙ same_byte words words' (p + (t + k)) (same.bytes (t + k) inside) ∙ ap (byte_in words') e
 
-  behind_none : StandsAt words p (unit bytes imar skip None) → HoldsSame words words' p (unit bytes imar skip None) →
+  after_none : StandsAt words p (unit bytes imar skip None) → HoldsSame words words' p (unit bytes imar skip None) →
       StandsAt words' (p + t) (edge words' t (unit bytes imar skip None))
   unfolding edge
-  behind_none s same =
+  after_none s same =
       let size : length (drop t bytes) ≡ length bytes - t = length-drop t bytes in
       let place : 4 * imar + skip ≡ p + length bytes = s.onward in
       record {
-        unit = unit_behind words' t imar skip bytes within None s.unit;
+        unit = unit_following words' t imar skip bytes within None s.unit;
         bytes = λ k h. kept None s same k (subst (λ (n : ℕ). k < n) size h);
         onward = omega (arith, size);
         pending = sample_is (slice_index words') imar (nat_le (length (drop t bytes)) 2);
@@ -153,12 +153,12 @@ module _ (words words' : List ℕ) (p t imar skip : ℕ) (bytes : List ℕ) (low
         ∙ ap (λ (x : ℕ). byte_of x (skip + j)) (s.pending ∙ sym (same.pending refl))
         ∙ sym (byte_there words' imar (skip + j) (p + t + k) inside at)
 
-    behind_some : StandsAt words' (p + t) (edge words' t (unit bytes imar skip (Some word)))
+    after_some : StandsAt words' (p + t) (edge words' t (unit bytes imar skip (Some word)))
     unfolding edge
-    behind_some =
+    after_some =
         let grown : next imar ≡ imar + 1 = next_small imar (omega (arith, short bytes imar skip word s.unit, s.onward)) in
         record {
-          unit = unit_behind words' t imar skip bytes within (Some word) s.unit;
+          unit = unit_following words' t imar skip bytes within (Some word) s.unit;
           bytes = λ k h. elim (cases_lt k (length bytes - t)) [
             | inl lower ↦
                 get_or_append_left (drop t bytes) (drop skip (bytes_of_word word)) 0 k (omega (arith, length-drop t bytes))
@@ -169,14 +169,14 @@ module _ (words words' : List ℕ) (p t imar skip : ℕ) (bytes : List ℕ) (low
           pending = sample_is (slice_index words') (next imar) (nat_le (length (drop t bytes ++ drop skip (bytes_of_word word))) 2);
         }
 
-  behind : (pending : Option ℕ) → StandsAt words p (unit bytes imar skip pending) → HoldsSame words words' p (unit bytes imar skip pending) →
+  following : (pending : Option ℕ) → StandsAt words p (unit bytes imar skip pending) → HoldsSame words words' p (unit bytes imar skip pending) →
       StandsAt words' (p + t) (edge words' t (unit bytes imar skip pending))
-  behind None s same = behind_none s same
-  behind (Some word) s same = behind_some word s same
+  following None s same = after_none s same
+  following (Some word) s same = after_some word s same
 
 pub edge_stands : (words words' : List ℕ) (p t : ℕ) (u : Prefetch) → p < 2 ^ 32 → t ≤ length u.bytes →
     StandsAt words p u → HoldsSame words words' p u → StandsAt words' (p + t) (edge words' t u)
-edge_stands words words' p t u low within s same = behind words words' p t u.imar u.skip u.bytes low within u.pending s same
+edge_stands words words' p t u low within s same = following words words' p t u.imar u.skip u.bytes low within u.pending s same
 
 pub jump_stands : (words : List ℕ) (p : ℕ) → StandsAt words p (jump words p)
 unfolding jump

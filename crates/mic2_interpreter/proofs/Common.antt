@@ -26,7 +26,7 @@ pub use Rattle.verifier_facts.specs.Prelude.{VerifiedView}
 pub use Rattle.ijvm_simulation.specs.Images.{first, lands, map}
 pub use Rattle.ijvm_simulation.specs.Places.{Counts, Place, byte_after, counts, entry_at, jumps, pair_after, place_at, place_on, signed_pair_at, wide_after}
 pub use Rattle.ijvm_simulation.specs.Prelude.{Boots, Fine, Grows, HaltsAndErrs, HasWord, IsMemory, IsNext, Loads, Moment, OnDone, Origin, Overran}
-pub use Rattle.ijvm_simulation.specs.Prelude.{RegistersStand, ShowsState, Went, address_behind, is_inside, jump, last, left_of, outcome_at, pass, pass_on}
+pub use Rattle.ijvm_simulation.specs.Prelude.{RegistersStand, ShowsState, Went, address_after, is_inside, jump, last, left_of, outcome_at, pass, pass_on}
 pub use Rattle.ijvm_simulation.specs.Prelude.{reset_moment, stalls_at}
 pub use Rattle.ijvm_simulation.specs.Words.{given_grows, grows_not}
 pub use Rattle.mic2_interpreter.specs.Prelude.{BootsWithStall, MovesWithStalls, OverrunsWithStalls, Stands, TakesWithStalls, stalls_of}

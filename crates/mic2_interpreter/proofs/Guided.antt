@@ -3,7 +3,7 @@ use Rattle.mic2_interpreter.proofs.Common.{ap, ap₂, ◌∙◌, ◌≡◌, ℕ,
 use Rattle.mic2_interpreter.proofs.Common.{arith, refl, sym, subst, add-zero, nat_lt, if◌then◌else◌, nat_tests, wrap, signed_byte, signed_pair, World, Refusal}
 use Rattle.mic2_interpreter.proofs.Common.{is_byte, is_pair, alu, shifted, BusSource, Mem, Write, Part, Placed, PlacedNext, Dispatch, Ports, Prefetch, edge}
 use Rattle.mic2_interpreter.proofs.Common.{edge_refusal, unit_at, have_after, text_from, QueueLaw, Held, Jumped, IsHeld, is_enough, held_after, Lack, IsWait}
-use Rattle.mic2_interpreter.proofs.Common.{held_waited, IsMemory, Moment, is_inside, outcome_at, stalls_at, last, pass, pass_on, address_behind, left_of}
+use Rattle.mic2_interpreter.proofs.Common.{held_waited, IsMemory, Moment, is_inside, outcome_at, stalls_at, last, pass, pass_on, address_after, left_of}
 use Rattle.micro_word.specs.declared.statement.BusSource.TheVariants as sources
 use Rattle.mic_clock.specs.Prelude.{Outcome, Done, Refused, number_of}
 use Rattle.mic_datapath.specs.Prelude.{NineRegisters, on_bus, loaded, ports_given, written, sampled, word_under_way, memory_refusal, first_refusal, outcome, next_address}
@@ -84,9 +84,9 @@ abbrev pub queue_after : Bool → ℕ → Held → Held
 queue_after true t q = Jumped
 queue_after false t q = held_after t q
 
-abbrev have_behind : Bool → ℕ → ℕ → ℕ → ℕ
-have_behind true pc t have = 0
-have_behind false pc t have = have_after pc have t
+abbrev have_following : Bool → ℕ → ℕ → ℕ → ℕ
+have_following true pc t have = 0
+have_following false pc t have = have_after pc have t
 
 -- a write does not reach below the stack
 abbrev pub IsAbove : Mem → ℕ → Type 0
@@ -103,7 +103,7 @@ module _ (origin : List ℕ) where
   guided s gs t =
       let x = text_result origin s.part t.state in
       record {
-        state = clock_by top s x (address_behind s.next gs) t.state.unit t.state t.world;
+        state = clock_by top s x (address_after s.next gs) t.state.unit t.state t.world;
         queue = queue_after (jumps s.part) (demand s) t.queue;
         world = world_by top s x t.state t.world;
         stalls = t.stalls;
@@ -116,7 +116,7 @@ module _ (origin : List ℕ) where
       let r = settled_by s x t.state in
       (is_enough (demand s) t.queue ≡ true)
       × (memory_refusal top s.part.mem r.mar ≡ None)
-      × (next_address s.next x (text_from origin t.state.pc (operand_bytes s.part)) ≡ address_behind s.next gs)
+      × (next_address s.next x (text_from origin t.state.pc (operand_bytes s.part)) ≡ address_after s.next gs)
       × IsAbove s.part.mem r.mar
       × (t.state.pc < 0x1FF00)
       × (r.pc < 0x1FF00)
@@ -169,7 +169,7 @@ module _ (origin : List ℕ) where
   module _ (queue : QueueLaw) where
     unit_is : (s : Placed) (m : Micro) (have x : ℕ) (words : List ℕ) (b : Bool) → jumps s.part ≡ b → demand s ≤ have → have ≤ 6 → IsMemory origin words →
         m.pc < 0x1FF00 → (settled_by s x m).pc < 0x1FF00 →
-        unit_after b words (settled_by s x m).pc (demand s) (unit_at origin m.pc have) ≡ unit_at origin (settled_by s x m).pc (have_behind b m.pc (demand s) have)
+        unit_after b words (settled_by s x m).pc (demand s) (unit_at origin m.pc have) ≡ unit_at origin (settled_by s x m).pc (have_following b m.pc (demand s) have)
     unit_is s m have x words true e h few ms l l2 = queue.jump_stands origin words (settled_by s x m).pc ms.kept l2
     unit_is s m have x words false e h few ms l l2 =
         let pc : (settled_by s x m).pc ≡ m.pc + demand s = pc_on s x m e (omega arith) in
@@ -188,7 +188,7 @@ module _ (origin : List ℕ) where
 
     -- the machine after a step that does not stall
     abbrev there_of : Placed → List ℕ → Short → ℕ → Moment Micro
-    there_of s gs t have = moment_of origin (guided s gs t) (have_behind (jumps s.part) t.state.pc (demand s) have)
+    there_of s gs t have = moment_of origin (guided s gs t) (have_following (jumps s.part) t.state.pc (demand s) have)
 
     written-memory : (mem : Mem) (p : Ports) (w : World) → IsAbove mem p.mar → IsMemory origin w.words → IsMemory origin (written top mem p w).words
     written-memory Write p w above h = memory_set origin w.words p.mar p.mdr above h
@@ -211,9 +211,9 @@ module _ (origin : List ℕ) where
         let none : refusal_by top s x (standing origin m have) ≡ None = ap₂ first_refusal c.1 unit in
         let byte : (0 < dispatch_bytes s.next → byte_at (unit_at origin m.pc have) (operand_bytes s.part) ≡ text_from origin m.pc (operand_bytes s.part)) =
         λ l. queue.front origin m.pc have (operand_bytes s.part) (omega arith) in
-        let next : next_address s.next x (byte_at (unit_at origin m.pc have) (operand_bytes s.part)) ≡ address_behind s.next gs = target_same s.next x _ _ byte ∙ c.2 in
+        let next : next_address s.next x (byte_at (unit_at origin m.pc have) (operand_bytes s.part)) ≡ address_after s.next gs = target_same s.next x _ _ byte ∙ c.2 in
         let after : unit_after (jumps s.part) (written top s.part.mem (ports_given (settled_by s x m)) w).words (settled_by s x m).pc (demand s) (unit_at origin m.pc have)
-        ≡ unit_at origin (settled_by s x m).pc (have_behind (jumps s.part) m.pc (demand s) have) =
+        ≡ unit_at origin (settled_by s x m).pc (have_following (jumps s.part) m.pc (demand s) have) =
         unit_is s m have x (written top s.part.mem (ports_given (settled_by s x m)) w).words (jumps s.part) refl les few
         (written-memory s.part.mem (ports_given (settled_by s x m)) w c.3 ms) c.4 c.5 in
         let stepped : (top' x' : ℕ) → Outcome Micro =
@@ -240,11 +240,11 @@ module _ (origin : List ℕ) where
         ∙ (λ i. outcome (none i) (record m { unit = unit i; begins = false }) t.world))
 
     held-guided : (s : Placed) (gs : List ℕ) (t : Short) (have : ℕ) → IsHeld t.queue t.state.pc have → IsClear s gs t →
-        IsHeld (guided s gs t).queue (guided s gs t).state.pc (have_behind (jumps s.part) t.state.pc (demand s) have)
+        IsHeld (guided s gs t).queue (guided s gs t).state.pc (have_following (jumps s.part) t.state.pc (demand s) have)
     held-guided s gs t have held c = by_jump (jumps s.part) refl
       where
         by_jump : (b : Bool) → jumps s.part ≡ b →
-            IsHeld (queue_after b (demand s) t.queue) (settled_by s (text_result origin s.part t.state) t.state).pc (have_behind b t.state.pc (demand s) have)
+            IsHeld (queue_after b (demand s) t.queue) (settled_by s (text_result origin s.part t.state) t.state).pc (have_following b t.state.pc (demand s) have)
         by_jump true e = refl
         by_jump false e =
             let few : have ≤ 6 = queue.few t.queue t.state.pc have held in
@@ -330,7 +330,7 @@ module _ (program : List ℕ) (has : Known program) (origin : List ℕ) (map : 0
       let l : t.state.mpc < 512 = grind (arith, nat_tests) in
       let les : demand s ≤ have = has.queue.enough (demand s) t.queue t.state.pc have c.0 held in
       record {
-        have = have_behind (jumps s.part) t.state.pc (demand s) have;
+        have = have_following (jumps s.part) t.state.pc (demand s) have;
         done = outcome_is (moment_of origin t have) l ∙ step-clear origin has.queue s gs t have map ms held c;
         stalls = stalls_are (moment_of origin t have) false l (not_stalled origin has.queue s t.state have les) ∙ add-zero t.stalls;
         held = held-guided origin has.queue s gs t have held c;

@@ -45,14 +45,14 @@ pub fn jumps(control: &Control) -> bool
 }
 
 #[inline(always)]
-fn is_turning(operand: Option<OperandSlot>, behind: Option<ResultSlot>) -> bool
-    ensures { result ≡ is_turning (computing operand) (retiring behind) }
+fn is_turning(operand: Option<OperandSlot>, after: Option<ResultSlot>) -> bool
+    ensures { result ≡ is_turning (computing operand) (retiring after) }
 {
     let before = match operand {
         Some(slot) => is_branch(&slot.control) || is_to_instruction(&slot.control),
         None => false,
     };
-    let last = match behind {
+    let last = match after {
         Some(slot) => is_to_instruction(&slot.control),
         None => false,
     };
@@ -97,10 +97,10 @@ fn awaits_operand(control: &Control, operand: Option<OperandSlot>) -> bool
 }
 
 #[inline(always)]
-fn awaits_result(control: &Control, behind: Option<ResultSlot>) -> bool
-    ensures { result ≡ awaits (spelled control.now).part (retiring behind) }
+fn awaits_result(control: &Control, after: Option<ResultSlot>) -> bool
+    ensures { result ≡ awaits (spelled control.now).part (retiring after) }
 {
-    match behind {
+    match after {
         Some(slot) => names_one_of(control, slot.control.destinations()),
         None => false,
     }
@@ -117,11 +117,11 @@ fn names_mdr(control: &Control) -> bool
 fn is_word_coming(
     word: Option<u32>,
     operand: Option<OperandSlot>,
-    behind: Option<ResultSlot>,
+    after: Option<ResultSlot>,
 ) -> bool
-    ensures { result ≡ is_word_coming word (computing operand) (retiring behind) }
+    ensures { result ≡ is_word_coming word (computing operand) (retiring after) }
 {
-    match behind {
+    match after {
         Some(slot) => word.is_some()
             || (operand.is_some() && mem_for(slot.control.word) == Mem::Read),
         None => word.is_some() && operand.is_some(),
@@ -140,10 +140,10 @@ fn will_jump(operand: Option<OperandSlot>) -> bool
 
 /// Whether the word that retires loads PC.
 #[inline(always)]
-pub fn jumps_now(behind: Option<ResultSlot>) -> bool
-    ensures { result ≡ is_jump_coming (retiring behind) }
+pub fn jumps_now(after: Option<ResultSlot>) -> bool
+    ensures { result ≡ is_jump_coming (retiring after) }
 {
-    match behind {
+    match after {
         Some(slot) => jumps(&slot.control),
         None => false,
     }
@@ -155,13 +155,13 @@ pub fn is_held_up(
     control: &Control,
     word: Option<u32>,
     operand: Option<OperandSlot>,
-    behind: Option<ResultSlot>,
+    after: Option<ResultSlot>,
 ) -> bool
-    ensures { result ≡ is_held_up (spelled control.now) word (computing operand) (retiring behind) }
+    ensures { result ≡ is_held_up (spelled control.now) word (computing operand) (retiring after) }
 {
-    is_turning(operand, behind)
+    is_turning(operand, after)
         || awaits_operand(control, operand)
-        || awaits_result(control, behind)
-        || (names_mdr(control) && is_word_coming(word, operand, behind))
-        || (control.lines.takes > 0 && (will_jump(operand) || jumps_now(behind)))
+        || awaits_result(control, after)
+        || (names_mdr(control) && is_word_coming(word, operand, after))
+        || (control.lines.takes > 0 && (will_jump(operand) || jumps_now(after)))
 }

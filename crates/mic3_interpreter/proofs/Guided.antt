@@ -97,9 +97,9 @@ abbrev pub queue_after : Bool → Turn → ℕ → Held → Held
 queue_after true k t q = Jumped
 queue_after false k t q = queue_by k t q
 
-abbrev pub have_behind : Bool → ℕ → ℕ → ℕ → ℕ
-have_behind true pc t have = 0
-have_behind false pc t have = have_after pc have t
+abbrev pub have_following : Bool → ℕ → ℕ → ℕ → ℕ
+have_following true pc t have = 0
+have_following false pc t have = have_after pc have t
 
 -- the registers after an edge, where this retires
 abbrev pub settled_by : Option Computed → Option Issued → Pipeline → NineRegisters
@@ -196,7 +196,7 @@ module _ (origin : List ℕ) where
         bytes_leaving i ≤ have → have ≤ 6 → IsMemory origin words →
         p.micro.pc < 0x1FF00 → (settled_by c i p).pc < 0x1FF00 →
         unit_after b words (settled_by c i p).pc (bytes_leaving i) (unit_at origin p.micro.pc have) ≡ unit_at origin (settled_by c i p).pc
-        (have_behind b p.micro.pc (bytes_leaving i) have)
+        (have_following b p.micro.pc (bytes_leaving i) have)
     unit_is c i p have words true e h few ms l l2 = queue.jump_stands origin words (settled_by c i p).pc ms.kept l2
     unit_is c i p have words false e h few ms l l2 =
         let pc : (settled_by c i p).pc ≡ p.micro.pc + bytes_leaving i = pc_on c i p e (omega arith) in
@@ -275,7 +275,7 @@ module _ (origin : List ℕ) where
         IsHeld t.queue t.state.micro.pc have → IsRight k s gs t →
         cycle s (standing origin t.state have) t.world
         ≡ Done (standing origin (stepped k s gs t).state
-        (have_behind (is_jump_coming (computed_in t.state.result)) t.state.micro.pc (bytes_leaving (issue_of origin k s gs t.state)) have)) (stepped k s gs t).world
+        (have_following (is_jump_coming (computed_in t.state.result)) t.state.micro.pc (bytes_leaving (issue_of origin k s gs t.state)) have)) (stepped k s gs t).world
     step-clear k s gs t have map ms held c =
         let p : Pipeline = t.state in
         let w : World = t.world in
@@ -289,7 +289,7 @@ module _ (origin : List ℕ) where
         let next : from_issued i (from_computed p.operand (from_retired p.result p.micro.mpc)) ≡ from_issued i
         (turned p.operand gs (from_retired p.result p.micro.mpc)) = ap (from_issued i) c.2 in
         let after : unit_after b (written top (mem_in p.result) (ports_given r) w).words r.pc (bytes_leaving i)
-        (unit_at origin p.micro.pc have) ≡ unit_at origin r.pc (have_behind b p.micro.pc (bytes_leaving i) have) =
+        (unit_at origin p.micro.pc have) ≡ unit_at origin r.pc (have_following b p.micro.pc (bytes_leaving i) have) =
         unit_is p.result i p have (written top (mem_in p.result) (ports_given r) w).words b refl les few
         (written-memory (mem_in p.result) (ports_given r) w c.3 ms) c.4 c.5 in
         ap₂ (λ (n : ℕ) (x : Option Issued). cycle_with n x (standing origin p have) w) ms.long (issued_is k s gs t have held c.0)
@@ -303,7 +303,7 @@ module _ (origin : List ℕ) where
 
     held-stepped : (k : Turn) (s : Placed) (gs : List ℕ) (t : Short) (have : ℕ) → IsHeld t.queue t.state.micro.pc have → IsRight k s gs t →
         IsHeld (stepped k s gs t).queue (stepped k s gs t).state.micro.pc
-        (have_behind (is_jump_coming (computed_in t.state.result)) t.state.micro.pc (bytes_leaving (issue_of origin k s gs t.state)) have)
+        (have_following (is_jump_coming (computed_in t.state.result)) t.state.micro.pc (bytes_leaving (issue_of origin k s gs t.state)) have)
     held-stepped k s gs t have held c = by_jump (is_jump_coming (computed_in t.state.result)) refl
       where
         by_turn : (l : Turn) → IsTurn l s gs t →
@@ -318,7 +318,7 @@ module _ (origin : List ℕ) where
 
         by_jump : (b : Bool) → is_jump_coming (computed_in t.state.result) ≡ b →
             IsHeld (queue_after b k (bytes_leaving (issue_of origin k s gs t.state)) t.queue) (settled (issue_of origin k s gs t.state) t.state).pc
-            (have_behind b t.state.micro.pc (bytes_leaving (issue_of origin k s gs t.state)) have)
+            (have_following b t.state.micro.pc (bytes_leaving (issue_of origin k s gs t.state)) have)
         by_jump true e = refl
         by_jump false e =
             let few : have ≤ 6 = queue.few t.queue t.state.micro.pc have held in
@@ -388,7 +388,7 @@ module _ (program : List ℕ) (has : Known program) (origin : List ℕ) (map : 0
       let clear : nat_lt t.state.micro.mpc 512 ≡ true = c.6 in
       let l : t.state.micro.mpc < 512 = grind (arith, nat_tests) in
       record {
-        have = have_behind (is_jump_coming (computed_in t.state.result)) t.state.micro.pc (bytes_leaving (issue_of origin k s gs t.state)) have;
+        have = have_following (is_jump_coming (computed_in t.state.result)) t.state.micro.pc (bytes_leaving (issue_of origin k s gs t.state)) have;
         done = outcome_is (moment_of origin t have) l ∙ step-clear origin has.queue k s gs t have map ms held c;
         stalls = stalls_are (moment_of origin t have) (issue_of origin k s gs t.state) l (issued_is origin has.queue k s gs t have held c.0)
             ∙ counted k s gs t.state t.stalls;

@@ -46,8 +46,8 @@ module _ {program : List ℕ} {o : Origin} {v : VerifiedView} {s : State} {q : M
   abbrev there : ℕ
   there = byte_in o.words (jump o.words s.at)
 
-  abbrev behind : ℕ
-  behind = byte_in o.words (s.at + 3)
+  abbrev following : ℕ
+  following = byte_in o.words (s.at + 3)
 
   -- The terms of the words of INVOKEVIRTUAL: the method's entry, and what the link word holds.
 
@@ -120,7 +120,7 @@ module _ {program : List ℕ} {o : Origin} {v : VerifiedView} {s : State} {q : M
       elim (cases_Bool (q.state.micro.tos == 0)) [
         | inl t ↦ arrives a (Ifeq z) 0x99 Issues (alone taken) (257 ∷ there ∷ []) n.reads.0 (b.taken t).0
             (assumption (ap branch t, ap spent (b.taken t).1, l.leaves (jump o.words s.at)))
-        | inr t ↦ arrives a (Ifeq z) 0x99 Issues (alone fallen) (1 ∷ behind ∷ []) n.reads.0 (b.falls t).0
+        | inr t ↦ arrives a (Ifeq z) 0x99 Issues (alone fallen) (1 ∷ following ∷ []) n.reads.0 (b.falls t).0
             (assumption (ap branch t, ap spent (b.falls t).1, l.leaves (s.at + 3)))
       ]
   goes (Iflt z) to fine n went =
@@ -132,7 +132,7 @@ module _ {program : List ℕ} {o : Origin} {v : VerifiedView} {s : State} {q : M
       elim (cases_Bool (is_negative q.state.micro.tos)) [
         | inl t ↦ arrives a (Iflt z) 0x9B Issues (alone taken) (257 ∷ there ∷ []) n.reads.0 (b.taken t).0
             (assumption (ap branch t, ap spent (b.taken t).1, l.leaves (jump o.words s.at)))
-        | inr t ↦ arrives a (Iflt z) 0x9B Issues (alone fallen) (1 ∷ behind ∷ []) n.reads.0 (b.falls t).0
+        | inr t ↦ arrives a (Iflt z) 0x9B Issues (alone fallen) (1 ∷ following ∷ []) n.reads.0 (b.falls t).0
             (assumption (ap branch t, ap spent (b.falls t).1, l.leaves (s.at + 3)))
       ]
   goes (IfIcmpeq z) to fine n went =
@@ -144,7 +144,7 @@ module _ {program : List ℕ} {o : Origin} {v : VerifiedView} {s : State} {q : M
       elim (cases_Bool (minus q.state.micro.tos (read_value (length o.words) q.world.words q.world.untaken (before q.state.micro.sp)) == 0)) [
         | inl t ↦ arrives a (IfIcmpeq z) 0x9F Issues (HeldUp ∷ HeldUp ∷ alone (Issues ∷ alone taken)) (257 ∷ there ∷ []) n.reads.0 (b.taken t).0
             (assumption (ap branch t, ap spent (b.taken t).1, l.leaves (jump o.words s.at)))
-        | inr t ↦ arrives a (IfIcmpeq z) 0x9F Issues (HeldUp ∷ HeldUp ∷ alone (Issues ∷ alone fallen)) (1 ∷ behind ∷ []) n.reads.0 (b.falls t).0
+        | inr t ↦ arrives a (IfIcmpeq z) 0x9F Issues (HeldUp ∷ HeldUp ∷ alone (Issues ∷ alone fallen)) (1 ∷ following ∷ []) n.reads.0 (b.falls t).0
             (assumption (ap branch t, ap spent (b.falls t).1, l.leaves (s.at + 3)))
       ]
   goes Ireturn to fine n went =

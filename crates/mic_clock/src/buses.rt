@@ -1,6 +1,6 @@
 //! The values on a machine's buses in one cycle.
 
-use mic1_alu::AluOut;
+use mic_alu::AluOut;
 
 /// What drives the operand buses. In a stalled cycle nothing does, and both are 0.
 #[derive(Clone, Copy, Debug, PartialEq, Eq)]

@@ -10,7 +10,7 @@ pub use Rattle.micro_word.specs.declared.statement.AluOp.{AluOp}
 pub use Rattle.micro_word.specs.declared.statement.BusSource.{BusSource}
 pub use Rattle.micro_word.specs.declared.statement.Mem.{Mem}
 pub use Rattle.micro_word.specs.declared.statement.PlacedNext.{PlacedNext}
-pub use Rattle.mic1_alu.specs.Prelude.{controls_of, enabled, gates}
+pub use Rattle.mic_alu.specs.Prelude.{controls_of, enabled, gates}
 pub use Rattle.console_port.specs.Prelude.{Untaken, World, after_write, console_at}
 unfoldable pub use Rattle.console_port.specs.Prelude.{given_after, read_refusal, untaken_after}
 pub use Rattle.mic_datapath.specs.Prelude.{LetsBytesWait, arrived, is_read, jammed, memory_refusal, next_address, sampled, written}

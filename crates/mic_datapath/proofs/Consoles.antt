@@ -4,14 +4,14 @@ use Rattle.mic_datapath.proofs.Common.{is_read, sampled, written, Ports}
 use Rattle.micro_word.specs.declared.statement.Mem.TheVariants as mems
 
 off : (n at : ℕ) → n ≤ at → nat_lt at n ≡ false
-off n at behind = grind (arith, nat_tests)
+off n at beyond = grind (arith, nat_tests)
 
 pub takes : (n : ℕ) (p : Ports) (mem : Mem) (w : World) → n ≤ p.mar → is_read mem ≡ true → (sampled n mem p (written n mem p w)).untaken ≡ drop 1 w.untaken
 unfolding untaken_after
-takes n p mems.Read w behind is = rw (off n p.mar behind)
-takes n p mems.Write w behind is = absurd (cc)
-takes n p mems.None w behind is = absurd (cc)
+takes n p mems.Read w beyond is = rw (off n p.mar beyond)
+takes n p mems.Write w beyond is = absurd (cc)
+takes n p mems.None w beyond is = absurd (cc)
 
 pub gives : (n : ℕ) (p : Ports) (w : World) → n ≤ p.mar → (written n mems.Write p w).given ≡ w.given ++ (p.mdr % 256) ∷ []
 unfolding given_after
-gives n p w behind = rw (off n p.mar behind)
+gives n p w beyond = rw (off n p.mar beyond)

@@ -13,8 +13,8 @@ not_slot c place k slot h not_named same =
     let no : true ≡ false = sym is ∙ not_named in absurd (cc)
 
 -- a place from 9 on is no slot, except the last
-behind_slot : (c place k : ℕ) → IsSlot c place → 9 ≤ k → k < 15 → k ≢ place
-behind_slot c place k slot low high same =
+after_slot : (c place k : ℕ) → IsSlot c place → 9 ≤ k → k < 15 → k ≢ place
+after_slot c place k slot low high same =
     let other : place ≢ 15 = omega (arith, same, high) in
     let no : ⊥ = omega (arith, (slot other).0, same, low) in no
 
@@ -74,5 +74,5 @@ module _ (c first second further v : ℕ) (old : List ℕ) (slots : AreSlots c f
             ]
 
   -- the places after the registers stay, except the last
-  pub behind_stay : (k : ℕ) → 9 ≤ k → k < 15 → slice_index (both_slots old first second v) k ≡ slice_index old k
-  behind_stay k low high = at_other k (behind_slot c first k slots.first_slot low high) (behind_slot c second k slots.second_slot low high)
+  pub after_stay : (k : ℕ) → 9 ≤ k → k < 15 → slice_index (both_slots old first second v) k ≡ slice_index old k
+  after_stay k low high = at_other k (after_slot c first k slots.first_slot low high) (after_slot c second k slots.second_slot low high)

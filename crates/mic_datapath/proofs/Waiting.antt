@@ -6,9 +6,9 @@ use Rattle.micro_word.specs.declared.statement.Mem.TheVariants as mems
 -- a read that is not refused, and not of the memory, is of the console
 at_console : (n at : ℕ) → read_refusal n at ≡ None → n ≤ at → IsTrue (at == console_at)
 unfolding read_refusal
-at_console n at clear behind = elim (cases_Bool (at == console_at)) [
+at_console n at clear beyond = elim (cases_Bool (at == console_at)) [
   | inl here ↦ here
-  | inr other ↦ absurd (grind (arith, nat_tests, clear, behind, other))
+  | inr other ↦ absurd (grind (arith, nat_tests, clear, beyond, other))
 ]
 
 some_or_none : (xs : List ℕ) → (xs ≡ []) ⊎ (xs ≢ [])
@@ -20,9 +20,9 @@ read_lets : {K : Type 0} (n at : ℕ) (kept : List ℕ) (sink sink' : K) → rea
 read_lets n at kept sink sink' clear memory empty = λ room.
     elim (cases_lt at n) [
       | inl inside ↦ inl (memory inside)
-      | inr behind ↦ elim (some_or_none kept) [
+      | inr beyond ↦ elim (some_or_none kept) [
         | inl none ↦ inl (empty none)
-        | inr some ↦ inr (record { some = some; reads = at_console n at clear behind; behind = behind; clear = refl })
+        | inr some ↦ inr (record { some = some; reads = at_console n at clear beyond; beyond = beyond; clear = refl })
       ]
     ]
 

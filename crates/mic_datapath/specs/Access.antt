@@ -66,7 +66,7 @@ pub record HasAccessed {T : Type 0} (why : Option Refusal) (mem : Mem) (mar : �
   pub refusal : (e : BusFault) → refused_by why ≡ Some e → result ≡ Err e
   pub refused : IfErr result (λ e. (IsFault e → ⊥) → refused_by why ≡ Some e)
   pub clear : IfErr result (λ e. IsFault e → why ≡ None)
-  pub behind : IfErr result (λ e. IsFault e → length bus.words ≤ mar)
+  pub beyond : IfErr result (λ e. IsFault e → length bus.words ≤ mar)
   pub stands : IfErr result (Stands left held bus left' held' bus')
   pub reads : IsErrOf result ReadFault → IsTrue (is_read mem && mar == console_at)
   pub uses : IsErrOf result WriteFault → IsTrue (is_access mem && mar == console_at)
@@ -75,7 +75,7 @@ pub record HasAccessed {T : Type 0} (why : Option Refusal) (mem : Mem) (mar : �
 pub record ReadsWaiting (stack_end : ℕ) (mem : Mem) (mar : ℕ) (refusal : Option Refusal) (kept : List ℕ) : Type 0 where
   pub some : kept ≢ []
   pub reads : IsTrue (is_read mem && mar == console_at)
-  pub behind : stack_end ≤ mar
+  pub beyond : stack_end ≤ mar
   pub clear : refusal ≡ None
 
 -- while the console has room for one byte more, the sink is left as it is by all but such a read

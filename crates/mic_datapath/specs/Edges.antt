@@ -163,9 +163,9 @@ module _ {State : Type 0} (m : Meaning State) (word : ℕ) (s : State) (left hel
           err = record {
             refused = λ no_fault w shows. refusal_here w shows ∙ a.refused no_fault;
             reads = λ is w shows.
-                let fault : IsFault e = subst IsFault (sym is) tt in reads_console law w shows (a.clear fault) (a.behind fault) (a.reads (cc));
+                let fault : IsFault e = subst IsFault (sym is) tt in reads_console law w shows (a.clear fault) (a.beyond fault) (a.reads (cc));
             uses = λ is w shows.
-                let fault : IsFault e = subst IsFault (sym is) tt in uses_console law w shows (a.clear fault) (a.behind fault) (a.uses (cc));
+                let fault : IsFault e = subst IsFault (sym is) tt in uses_console law w shows (a.clear fault) (a.beyond fault) (a.uses (cc));
           };
           state = refl;
           stands = a.stands;
@@ -176,7 +176,7 @@ module _ {State : Type 0} (m : Meaning State) (word : ℕ) (s : State) (left hel
     edge_waits law sink sink' lets room =
         elim (lets room) [
           | inl same ↦ inl same
-          | inr read ↦ inr (read.some, λ w shows. reads_console law w shows read.clear read.behind read.reads)
+          | inr read ↦ inr (read.some, λ w shows. reads_console law w shows read.clear read.beyond read.reads)
         ]
 
 -- an edge between a source and a sink that fails as its access did, with the result that a call returns for it

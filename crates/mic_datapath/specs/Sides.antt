@@ -3,7 +3,7 @@ use Rattle.std.specs.Prelude.{◌≡◌, ℕ, ◌/◌, ◌%◌, ◌==◌, Bool, 
 use Rattle.micro_word.specs.Prelude.{fits_side, row}
 use Rattle.micro_word.specs.declared.statement.AluOp.{AluOp}
 use Rattle.micro_word.specs.declared.statement.BusSource.{BusSource}
-use Rattle.mic1_alu.specs.Prelude.{enabled}
+use Rattle.mic_alu.specs.Prelude.{enabled}
 
 -- an operation finds 0 on the B bus where it does not use it
 abbrev pub PassesSideB : Type 0

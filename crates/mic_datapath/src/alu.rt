@@ -3,9 +3,9 @@
 ghost use Rattle.std.specs.Prelude.{◌≡◌, ◌/◌, ◌%◌, ◌==◌};
 ghost use Rattle.micro_word.specs.declared.statement.AluOp.{AluOp};
 ghost use Rattle.micro_word.specs.Prelude.{row, shift_of, alu, shifted, on_each_bit};
-ghost use Rattle.mic1_alu.specs.Prelude.{enabled};
+ghost use Rattle.mic_alu.specs.Prelude.{enabled};
 
-use mic1_alu::{alu_by_lines, each_row_computes, shift};
+use mic_alu::{alu_by_lines, each_row_computes, shift};
 use micro_word::{Lines, Shift};
 
 /// What the gates give for two buses. The B bus of an operation that does not use it has 0.

@@ -70,9 +70,9 @@ module _ {M State : Type 0} (state : M → State) (m : Meaning State) (book : Bo
       (led : IsLedTo state left0 held0 board0 left board (λ r rest. (n : ℕ) × IsUnderway state m book words breaks bound u times left held board rest text w n r))
       (said0 said said' : Option (List ℕ)) (prints : Got said0 text said) where
     -- after the turn, where a text is put
-    broken_behind : NoFault board.end board'.end → IsTurned state m left held board left' held' board' (Some bound) → GotInPart said (text_between state m book breaks u board board') said' →
+    broken_after : NoFault board.end board'.end → IsTurned state m left held board left' held' board' (Some bound) → GotInPart said (text_between state m book breaks u board board') said' →
         IsLedTo state left0 held0 board0 left' board' (λ r rest. (n : ℕ) × IsBroken state m book words breaks bound u times held' board' said0 said' n r)
-    broken_behind well turned front rest fits =
+    broken_after well turned front rest fits =
         let one = turned well rest fits in
         let far = led one.0 one.1 in (
           far.0,
@@ -81,21 +81,21 @@ module _ {M State : Type 0} (state : M → State) (m : Meaning State) (book : Bo
               let at = far.2 r s e in
               let n = at.0 in
               let before = after m book words breaks bound u n r in
-              let behind = after m book words breaks bound u (suc n) r in
+              let following = after m book words breaks bound u (suc n) r in
               let here = at.1.here in
               let next = one.2 before here at.1.untaken in
-              let is : turn m board.store.words (bounded m (Some bound) before) ≡ behind =
+              let is : turn m board.store.words (bounded m (Some bound) before) ≡ following =
               ap (λ (ws : List ℕ). turn m ws (bounded m (Some bound) before)) program ∙ sym (turns-suc m words (Some bound) r n) in
-              let shows : ShowsRun state left' held' board' behind = subst (λ (x : MicroRun State). ShowsRun state left' held' board' x) is next.0 in
-              let same_lines : turn_lines m book words breaks bound u before behind ≡ text_between state m book breaks u board board' =
+              let shows : ShowsRun state left' held' board' following = subst (λ (x : MicroRun State). ShowsRun state left' held' board' x) is next.0 in
+              let same_lines : turn_lines m book words breaks bound u before following ≡ text_between state m book breaks u board board' =
               λ i. turn_text book breaks u (m.registers (here.its_state i)).mpc (m.drives (word_at m (sym program i) (here.its_state i)) (here.its_state i)).stalled (shows.counts i) (m.registers (shows.its_state i)) (shows.world.words i) (shows.its_end i) in
               let so_far : passed m book words breaks bound u n r + w ≡ times = at.1.count in
               let all : text ++ text_between state m book breaks u board board' ≡ printed m book words breaks bound u (suc n) r = λ i. at.1.lines i ++ sym same_lines i in (
                 suc n,
                 record {
-                  here = stands_shown left' held' state board' behind shows;
+                  here = stands_shown left' held' state board' following shows;
                   going = going_more state m book words breaks bound u times n r at.1.going (here.its_end ∙ live) (omega arith);
-                  out = front_shown left' held' state board' behind shows;
+                  out = front_shown left' held' state board' following shows;
                   err = subst (λ (t : List ℕ). GotInPart said0 t said') all (puts_then {E = ℕ} said0 said said' text (text_between state m book breaks u board board') (Err 0) prints front);
                   told = λ k same.
                       told_last m book words breaks bound u r said0 said' said n k same (subst (λ (t : List ℕ). Got said0 t said) at.1.lines prints)
@@ -170,7 +170,7 @@ module _ {M State : Type 0} (state : M → State) (m : Meaning State) (book : Bo
     broken_more still unread turned write front silent =
         elim (write_or_not board'.end) [
           | inl ended ↦ broken_in still ended write (silent ended)
-          | inr well ↦ broken_behind (no_fault board.end board'.end (λ _. unread) (λ _. well)) turned (front well)
+          | inr well ↦ broken_after (no_fault board.end board'.end (λ _. unread) (λ _. well)) turned (front well)
         ]
 
 -- ---- plans

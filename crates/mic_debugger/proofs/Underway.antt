@@ -57,15 +57,15 @@ module _ {M State : Type 0} (state : M → State) (m : Meaning State) (book : Bo
               let at = far.2 r s e in
               let n = at.0 in
               let before = after m book words breaks bound u n r in
-              let behind = after m book words breaks bound u (suc n) r in
+              let following = after m book words breaks bound u (suc n) r in
               let here = at.1.here in
               let next = one.2 before here at.1.untaken in
-              let is : turn m board.store.words (bounded m (Some bound) before) ≡ behind =
+              let is : turn m board.store.words (bounded m (Some bound) before) ≡ following =
               ap (λ (ws : List ℕ). turn m ws (bounded m (Some bound) before)) program ∙ sym (turns-suc m words (Some bound) r n) in
-              let shows : ShowsRun state left' held' board' behind = subst (λ (x : MicroRun State). ShowsRun state left' held' board' x) is next.0 in
-              let same_lines : turn_lines m book words breaks bound u before behind ≡ text_between state m book breaks u board board' =
+              let shows : ShowsRun state left' held' board' following = subst (λ (x : MicroRun State). ShowsRun state left' held' board' x) is next.0 in
+              let same_lines : turn_lines m book words breaks bound u before following ≡ text_between state m book breaks u board board' =
               λ i. turn_text book breaks u (m.registers (here.its_state i)).mpc (m.drives (word_at m (sym program i) (here.its_state i)) (here.its_state i)).stalled (shows.counts i) (m.registers (shows.its_state i)) (shows.world.words i) (shows.its_end i) in
-              let same_count : counted_turn breaks u behind.counts behind.world.words behind.end ≡ counted_turn breaks u board'.counts board'.bus.words board'.end =
+              let same_count : counted_turn breaks u following.counts following.world.words following.end ≡ counted_turn breaks u board'.counts board'.bus.words board'.end =
               λ i. counted_turn breaks u (shows.counts i) (shows.world.words i) (shows.its_end i) in
               let so_far : passed m book words breaks bound u n r + w ≡ times = at.1.count in (
                 suc n,

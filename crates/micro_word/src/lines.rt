@@ -84,7 +84,7 @@ pub fn is_named(c: u16, place: u8) -> bool
 fn first_named(c: u16, from: u8) -> u8
     requires { from ≤ 9 }
     ensures within { result ≤ 9 }
-    ensures behind { from ≤ result }
+    ensures following { from ≤ result }
     ensures skipped { (place : ℕ) → from ≤ place → place < result → names c place ≡ false }
     ensures named { result < 9 → names c result ≡ true }
 {

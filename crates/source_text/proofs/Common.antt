@@ -12,7 +12,7 @@ pub use Rattle.std.specs.Ordering.{nat_cmp}
 pub use Rattle.std.specs.Str.{bytes_eq}
 pub use Rattle.std.specs.Str.Lines.{lines, lines_of_parts, strip_carriage_return}
 pub use Rattle.mic_base.specs.Prelude.{is_name_byte}
-pub use Rattle.source_text.specs.Prelude.{Agrees, AreBlank, ArePlaces, EndsLexeme, GoesOn, Grammar, IsLexeme, IsReadAsSpelled, IsRefused, IsRefusedBehind}
+pub use Rattle.source_text.specs.Prelude.{Agrees, AreBlank, ArePlaces, EndsLexeme, GoesOn, Grammar, IsLexeme, IsReadAsSpelled, IsRefused, IsRefusedAfter}
 pub use Rattle.source_text.specs.Prelude.{Leads, Makes, MayEnd, Parser, SayAll, SaysLine, Spells, SpellsProgram, StopsAt, StopsBy, Table, add_read, add_said}
 pub use Rattle.source_text.specs.Prelude.{before_more, begins_comment, contents, cut_at, extent, front_of, is_blank, is_pair, lex_blank, lex_token, parts}
 pub use Rattle.source_text.specs.Prelude.{place_of_name, quote_len, reach, run_all, run_passes, run_stops, step, token_of, walk, without_comment}

@@ -23,12 +23,12 @@ module _ {T : Type 0} (L : Table T) where
   is_done front (b ∷ rest) total none so_far = absurd (omega arith)
 
   -- a token, or none, and what is left
-  pub steps_on : (front : List T) (b : ℕ) (rest all : List ℕ) (n : ℕ) (text behind : List ℕ) (o : Option T) (total : Option (List T)) → all ≡ b ∷ rest → n ≡ extent L (b ∷ rest)
-      → text ≡ take n all → behind ≡ drop n all → is_blank b ≡ false → token_of L text ≡ o → onto front (lex L 0 all) ≡ total → option_and_then (λ t. onto (front ++ t ∷ []) (lex L 0 behind)) o ≡ total
-  steps_on front b rest all n text behind o total e en et eb h found so_far =
+  pub steps_on : (front : List T) (b : ℕ) (rest all : List ℕ) (n : ℕ) (text after : List ℕ) (o : Option T) (total : Option (List T)) → all ≡ b ∷ rest → n ≡ extent L (b ∷ rest)
+      → text ≡ take n all → after ≡ drop n all → is_blank b ≡ false → token_of L text ≡ o → onto front (lex L 0 all) ≡ total → option_and_then (λ t. onto (front ++ t ∷ []) (lex L 0 after)) o ≡ total
+  steps_on front b rest all n text after o total e en et eb h found so_far =
       let next = lex L 0 (drop (extent L (b ∷ rest)) (b ∷ rest)) in
       let c = subst (λ x. token_of L x ≡ o) (cut_at L b rest all n text e en et) found in
-      let d : behind ≡ drop (extent L (b ∷ rest)) (b ∷ rest) = eb ∙ (ap (λ k. drop k all) en ∙ ap (λ x. drop (extent L (b ∷ rest)) x) e) in
+      let d : after ≡ drop (extent L (b ∷ rest)) (b ∷ rest) = eb ∙ (ap (λ k. drop k all) en ∙ ap (λ x. drop (extent L (b ∷ rest)) x) e) in
       let one : lex L 0 all ≡ option_and_then (λ t. option_map (λ ts. t ∷ ts) next) o =
       ap (lex L 0) e ∙ (lex_token L b rest h ∙ ap (λ (o : Option T). option_and_then (λ t. option_map (λ ts. t ∷ ts) next) o) c) in
       ap (λ r. option_and_then (λ t. onto (front ++ t ∷ []) (lex L 0 r)) o) d ∙ (spread o next ∙ (ap (onto front) (sym one) ∙ so_far))
@@ -40,7 +40,7 @@ module _ {T : Type 0} (L : Table T) where
 module _ {T : Type 0} (L : Table T) where
   spells_blank : (b : ℕ) (rest : List ℕ) (ts : List T) → is_blank b ≡ true → Spells L rest ts → Spells L (b ∷ rest) ts
   spells_blank b rest [] h s = rw h s
-  spells_blank b rest (t ∷ ts) h (gap, lexeme, behind, e, blank, is, ends, more) = (b ∷ gap, lexeme, behind, ap (λ r. b ∷ r) e, rw h blank, is, ends, more)
+  spells_blank b rest (t ∷ ts) h (gap, lexeme, after, e, blank, is, ends, more) = (b ∷ gap, lexeme, after, ap (λ r. b ∷ r) e, rw h blank, is, ends, more)
 
   spells_token : (b : ℕ) (rest : List ℕ) (t : T) (ts : List T) → is_blank b ≡ false → token_of L (take (extent L (b ∷ rest)) (b ∷ rest)) ≡ Some t → Spells L (drop (extent L (b ∷ rest)) (b ∷ rest)) ts → Spells L (b ∷ rest) (t ∷ ts)
   spells_token b rest t ts w h s =
@@ -66,12 +66,12 @@ module _ {T : Type 0} (L : Table T) where
 
       go : (w : Bool) → is_blank b ≡ w → ((us : List T) → length rest ≤ n → lex L 0 rest ≡ Some us → Spells L rest us)
           → ((us : List T) → length (drop (extent L (b ∷ rest)) (b ∷ rest)) ≤ n → lex L 0 (drop (extent L (b ∷ rest)) (b ∷ rest)) ≡ Some us → Spells L (drop (extent L (b ∷ rest)) (b ∷ rest)) us) → Spells L (b ∷ rest) ts
-      go true w rest_is behind_is = spells_blank b rest ts w (rest_is ts (omega arith) (sym (lex_blank L b rest w) ∙ h))
-      go false w rest_is behind_is =
+      go true w rest_is after_is = spells_blank b rest ts w (rest_is ts (omega arith) (sym (lex_blank L b rest w) ∙ h))
+      go false w rest_is after_is =
           let some : 0 < extent L (b ∷ rest) = omega arith in
           let l = length-drop (extent L (b ∷ rest)) (b ∷ rest) in
           let short : length (drop (extent L (b ∷ rest)) (b ∷ rest)) ≤ n = omega (arith, l, some) in
-          head w (token_of L (take (extent L (b ∷ rest)) (b ∷ rest))) refl (sym (lex_token L b rest w) ∙ h) (λ us. behind_is us short)
+          head w (token_of L (take (extent L (b ∷ rest)) (b ∷ rest))) refl (sym (lex_token L b rest w) ∙ h) (λ us. after_is us short)
 
   -- the tokens that were read are spelled
   pub spelled : (text : List ℕ) (ts : List T) → lex L 0 text ≡ Some ts → Spells L text ts

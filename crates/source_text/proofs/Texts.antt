@@ -1,6 +1,6 @@
 -- What is read from a text is what it says, and a text says one thing.
 use Rattle.source_text.proofs.Common.{◌≡◌, ℕ, suc, ◌+◌, List, [], ◌∷◌, ◌++◌, Option, Some, None, length, refl, sym, ap, subst, ◌∙◌, arith, inl, inr}
-use Rattle.source_text.proofs.Common.{length-append, Result, Ok, Err, contents, Spells, Grammar, IsRefused, IsRefusedBehind, SayAll, SaysLine, SpellsProgram}
+use Rattle.source_text.proofs.Common.{length-append, Result, Ok, Err, contents, Spells, Grammar, IsRefused, IsRefusedAfter, SayAll, SaysLine, SpellsProgram}
 use Rattle.source_text.proofs.Common.{add_read, add_said, Agrees, IsReadAsSpelled, Makes, Parser, step, Leads, walk}
 use Rattle.source_text.proofs.Walking.{leads_walk, refused_walk}
 
@@ -37,18 +37,18 @@ module _ {T F C P E S : Type 0} (G : Grammar T F C P E) (X : Parser T F C P E S)
     said_line k ts c r w means at h =
         ap (add_read G.refusals X k s) ((a.tokens line ts).1 w) ∙ (ap (add_said G.refusals X k s) ((a.said cs s m ts c).1 (means, at)) ∙ h)
 
-    line_refused : (e : E) → next (1 + length cs) s line ≡ Err e → IsRefusedBehind G (1 + length cs) cs line e
+    line_refused : (e : E) → next (1 + length cs) s line ≡ Err e → IsRefusedAfter G (1 + length cs) cs line e
     line_refused x h = by_tokens (X.tokens line) refl h
       where
-        by_said : (ts : List T) (r : Result C F) → X.tokens line ≡ Some ts → X.said s ts ≡ r → add_said G.refusals X (1 + length cs) s r ≡ Err x → IsRefusedBehind G (1 + length cs) cs line x
+        by_said : (ts : List T) (r : Result C F) → X.tokens line ≡ Some ts → X.said s ts ≡ r → add_said G.refusals X (1 + length cs) s r ≡ Err x → IsRefusedAfter G (1 + length cs) cs line x
         by_said ts (Ok c) e f h = let w = (a.said cs s m ts c).0 f in inr (ts, (a.tokens line ts).0 e, inr (c, w.0, (a.misfit cs s m c x).0 (w.1, h)))
         by_said ts (Err y) e f h = let q : x ≡ G.refusals.at_line (1 + length cs) y = cc in inr (ts, (a.tokens line ts).0 e, inl (y, (a.fault cs s m ts y).0 f, q))
 
-        by_tokens : (o : Option (List T)) → X.tokens line ≡ o → add_read G.refusals X (1 + length cs) s o ≡ Err x → IsRefusedBehind G (1 + length cs) cs line x
+        by_tokens : (o : Option (List T)) → X.tokens line ≡ o → add_read G.refusals X (1 + length cs) s o ≡ Err x → IsRefusedAfter G (1 + length cs) cs line x
         by_tokens None e h = let q : x ≡ G.refusals.bad_token (1 + length cs) = cc in inl (λ ts w. absurd (let z = (a.tokens line ts).1 w in cc), q)
         by_tokens (Some ts) e h = by_said ts (X.said s ts) e refl h
 
-    refused_line : (e : E) → IsRefusedBehind G (1 + length cs) cs line e → next (1 + length cs) s line ≡ Err e
+    refused_line : (e : E) → IsRefusedAfter G (1 + length cs) cs line e → next (1 + length cs) s line ≡ Err e
     refused_line x (inl (none, e)) = unspelled (1 + length cs) s line none ∙ ap Err (sym e)
     refused_line x (inr (ts, w, inl (y, f, e))) =
         ap (add_read G.refusals X (1 + length cs) s) ((a.tokens line ts).1 w)
@@ -115,7 +115,7 @@ module _ {T F C P E S : Type 0} (G : Grammar T F C P E) (X : Parser T F C P E S)
   refused_comes text e (inl r) =
       let t = a.made r.before r.fit in
       let n = say_length r.front r.before r.say in
-      let refused = refused_line r.before t.0 t.1 r.line e (subst (λ n. IsRefusedBehind G (1 + n) r.before r.line e) (sym n) r.refused) in
+      let refused = refused_line r.before t.0 t.1 r.line e (subst (λ n. IsRefusedAfter G (1 + n) r.before r.line e) (sym n) r.refused) in
       ap whole (refused_walk next (contents text) 1 start e (
         t.0,
         record {
@@ -157,6 +157,6 @@ module _ {T F C P E S : Type 0} (G : Grammar T F C P E) (X : Parser T F C P E S)
           before = w.0;
           say = w.1;
           fit = a.fit w.0 s w.2;
-          refused = subst (λ n. IsRefusedBehind G (1 + n) w.0 r.line e) n refused;
+          refused = subst (λ n. IsRefusedAfter G (1 + n) w.0 r.line e) n refused;
         });
   }

@@ -11,7 +11,7 @@ unfoldable pub use Rattle.source_text.specs.Reading.{lex, read}
 pub use Rattle.source_text.specs.Runs.{begins_with, ends_with, quote_len}
 pub use Rattle.source_text.specs.Spelled.{ByTable, by_table, name_dark, named, not_of_name}
 pub use Rattle.source_text.specs.Table.{GoesOn, MayEnd, Table, begins_number, extent, front_of, is_pair, reach, token_of}
-pub use Rattle.source_text.specs.Text.{AtMostOneProgram, AtMostOneRefusal, Grammar, IsRefused, IsRefusedBehind, LineRefusals, NeverBoth, SayAll, SaysLine, SpellsProgram}
+pub use Rattle.source_text.specs.Text.{AtMostOneProgram, AtMostOneRefusal, Grammar, IsRefused, IsRefusedAfter, LineRefusals, NeverBoth, SayAll, SaysLine, SpellsProgram}
 pub use Rattle.source_text.specs.Tokens.{AreBlank, EndsLexeme, IsLexeme, Spells, is_blank}
 pub use Rattle.source_text.specs.Walk.{FailsBy, FirstRefused, Leads, StaysBy, Step, StopsAt, StopsBy, go_on}
 unfoldable pub use Rattle.source_text.specs.Walk.{walk}

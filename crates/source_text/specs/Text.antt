@@ -54,8 +54,8 @@ module _ {T F C P E : Type 0} (G : Grammar T F C P E) where
   -- ---- the first refusal
 
   -- after lines that say this, line `k` spells no tokens, its tokens have a fault, or what they say does not fit
-  abbrev pub IsRefusedBehind : ℕ → List C → List ℕ → E → Type 0
-  IsRefusedBehind k before line e = (((ts : List T) → Spells G.table line ts → ⊥) × (e ≡ G.refusals.bad_token k))
+  abbrev pub IsRefusedAfter : ℕ → List C → List ℕ → E → Type 0
+  IsRefusedAfter k before line e = (((ts : List T) → Spells G.table line ts → ⊥) × (e ≡ G.refusals.bad_token k))
       ⊎ ((ts : List T) × Spells G.table line ts × (((fault : F) × G.HasFault before ts fault × (e ≡ G.refusals.at_line k fault))
       ⊎ ((c : C) × G.Says ts c × G.IsMisfit k before c e)))
 
@@ -68,7 +68,7 @@ module _ {T F C P E : Type 0} (G : Grammar T F C P E) where
     pub before : List C
     pub say : SayAll front before
     pub fit : G.Fit before
-    pub refused : IsRefusedBehind (1 + length front) before line e
+    pub refused : IsRefusedAfter (1 + length front) before line e
 
   -- no line is refused, but all together are
   pub record IsRefusedAtEnd (text : List ℕ) (e : E) : Type 0 where

@@ -70,14 +70,14 @@ at_pair {fixed} {pairs} h p left s a stands inside is =
     (here, filled_kept (placed_of fixed pairs) (free_addresses (placed_of fixed pairs)) s a (placed_enough h.clear.within) here)
 
 -- where the targets of a remaining pair stand
-record StandsAt (fixed : List (Option ℕ)) (pairs : List Pair) (p : Pair) (a : ℕ) : Type 0 where
+record IsPlacedAt (fixed : List (Option ℕ)) (pairs : List Pair) (p : Pair) (a : ℕ) : Type 0 where
   given : paired_at fixed pairs p.no ≡ Some a
   low : step_address fixed pairs p.no ≡ a
   high : step_address fixed pairs p.yes ≡ a + 256
   low_placed : get_or (placed_of fixed pairs) p.no None ≡ Some a
   high_placed : get_or (placed_of fixed pairs) p.yes None ≡ Some (a + 256)
 
-stands_at : {fixed : List (Option ℕ)} {pairs : List Pair} → AreSteps fixed pairs → (p : Pair) → Among p (open_pairs fixed pairs) → (a : ℕ) × StandsAt fixed pairs p a
+stands_at : {fixed : List (Option ℕ)} {pairs : List Pair} → AreSteps fixed pairs → (p : Pair) → Among p (open_pairs fixed pairs) → (a : ℕ) × IsPlacedAt fixed pairs p a
 stands_at {fixed} {pairs} h p among =
     let left = open_from fixed pairs p among in
     let of = of_statements h.clear.within p left.among in

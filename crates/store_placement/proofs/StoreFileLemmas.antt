@@ -129,8 +129,8 @@ file_words s is small a inside =
     let at : (b : ℕ) → b < length s.words → slice_index read b ≡ number_at bytes (4 + 5 * b) = λ b less. get_or-map-range_with_len (λ c. number_at bytes (4 + 5 * c)) 0 (length s.words) b b 0 less (omega arith) in
     let size : length bytes ≡ 2564 = length-file s is in
     let flat : flat_map word_bytes read ≡ drop 4 bytes = rows read bytes 4 (omega arith) small (λ b less. at b (omega arith)) in
-    let behind : drop 4 bytes ≡ flat_map word_bytes s.words = elim s.machine as (λ m. drop 4 (magic m ++ flat_map word_bytes s.words) ≡ flat_map word_bytes s.words) [ Mic1 ↦ refl | Mic2 ↦ refl ] in
-    let same : read ≡ s.words = flat_same read s.words long (λ b less. let e = at b (omega arith) in let few = small_word bytes (4 + 5 * b) small in omega arith) (short_words s is) (flat ∙ behind) in
+    let after : drop 4 bytes ≡ flat_map word_bytes s.words = elim s.machine as (λ m. drop 4 (magic m ++ flat_map word_bytes s.words) ≡ flat_map word_bytes s.words) [ Mic1 ↦ refl | Mic2 ↦ refl ] in
+    let same : read ≡ s.words = flat_same read s.words long (λ b less. let e = at b (omega arith) in let few = small_word bytes (4 + 5 * b) small in omega arith) (short_words s is) (flat ∙ after) in
     sym (at a (omega arith)) ∙ ap (λ ws. slice_index ws a) same
 
 -- one more word is read

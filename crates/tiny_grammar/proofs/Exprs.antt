@@ -90,14 +90,14 @@ operator_moves levels o ts rest at = text_as (operator o ∷ []) (ap (λ x. x �
     (stays_at levels Steps (ATerm ∷ Steps ∷ []) at.token.kind ts at.token rest at.split refl
     (ap (option_map (λ o. ATerm ∷ Steps ∷ [])) at.is) (operator_stays at.token.kind o at.is))
 
-module _ (levels : ℕ) (ts rest after behind : List Token) (first : tree.Term) (steps : List Step) (o : Operator)
+module _ (levels : ℕ) (ts rest after following : List Token) (first : tree.Term) (steps : List Step) (o : Operator)
     (inv : Moves levels (AnExpr ∷ []) ts (spell_term first ++ spell_steps (steps_of (map step_tree steps))) levels (Steps ∷ []) rest)
     (at : OperatorAt o rest after) where
   pub step_stops : (e : Refusal) → Stops levels (ATerm ∷ []) after e → Stops levels (AnExpr ∷ []) ts e
   step_stops e s = then_stops e inv (then_stops e (operator_moves levels o rest after at) (frame_stops levels (ATerm ∷ []) after e (Steps ∷ []) s))
 
-  pub step_more : (t : Term) (s : Step) (new : List Step) → Reads levels ATerm after (spell_term (term_tree t)) behind → step_tree s ≡ (o, term_tree t) → new ≡ steps ++ s ∷ []
-      → Moves levels (AnExpr ∷ []) ts (spell_term first ++ spell_steps (steps_of (map step_tree new))) levels (Steps ∷ []) behind
+  pub step_more : (t : Term) (s : Step) (new : List Step) → Reads levels ATerm after (spell_term (term_tree t)) following → step_tree s ≡ (o, term_tree t) → new ≡ steps ++ s ∷ []
+      → Moves levels (AnExpr ∷ []) ts (spell_term first ++ spell_steps (steps_of (map step_tree new))) levels (Steps ∷ []) following
   step_more t s new read is pushed =
       let seen : map step_tree new ≡ map step_tree steps ++ (o, term_tree t) ∷ []
       = ap (map step_tree) pushed ∙ (map_push step_tree steps s ∙ ap (λ x. map step_tree steps ++ x ∷ []) is) in

@@ -31,18 +31,18 @@ unfolding lex
 line_end k s [] total e so_far = sym so_far
 line_end k s (b ∷ rest) total e so_far = absurd (omega (arith, e))
 
-pub line_token : ReadsSome → (k : ℕ) (s : HeldView) (b : ℕ) (rest all : List ℕ) (n : ℕ) (text behind : List ℕ) (t : Lexeme) (total : HeldView) → all ≡ b ∷ rest → n ≡ extent tiny (b ∷ rest)
-    → text ≡ take n all → behind ≡ drop n all → is_blank b ≡ false → token_of tiny text ≡ Some t → add_read k s (lex tiny 0 all) ≡ total → add_read k (add_one k s t) (lex tiny 0 behind) ≡ total
-line_token law k s b rest all n text behind t total e en et eb h found so_far =
+pub line_token : ReadsSome → (k : ℕ) (s : HeldView) (b : ℕ) (rest all : List ℕ) (n : ℕ) (text following : List ℕ) (t : Lexeme) (total : HeldView) → all ≡ b ∷ rest → n ≡ extent tiny (b ∷ rest)
+    → text ≡ take n all → following ≡ drop n all → is_blank b ≡ false → token_of tiny text ≡ Some t → add_read k s (lex tiny 0 all) ≡ total → add_read k (add_one k s t) (lex tiny 0 following) ≡ total
+line_token law k s b rest all n text following t total e en et eb h found so_far =
     let whole : add_read k s (lex tiny 0 (b ∷ rest)) ≡ total = subst (λ x. add_read k s (lex tiny 0 x) ≡ total) e so_far in
     let c = subst (λ x. token_of tiny x ≡ Some t) (cut_at tiny b rest all n text e en et) found in
-    let d : behind ≡ drop (extent tiny (b ∷ rest)) (b ∷ rest) = eb ∙ (ap (λ k. drop k all) en ∙ ap (λ x. drop (extent tiny (b ∷ rest)) x) e) in
-    let one : lex tiny 0 (b ∷ rest) ≡ option_map (λ ts. t ∷ ts) (lex tiny 0 behind) =
+    let d : following ≡ drop (extent tiny (b ∷ rest)) (b ∷ rest) = eb ∙ (ap (λ k. drop k all) en ∙ ap (λ x. drop (extent tiny (b ∷ rest)) x) e) in
+    let one : lex tiny 0 (b ∷ rest) ≡ option_map (λ ts. t ∷ ts) (lex tiny 0 following) =
     lex_token tiny b rest h ∙ (ap (λ (o : Option Lexeme). option_and_then (λ t. option_map (λ ts. t ∷ ts) (lex tiny 0 (drop (extent tiny (b ∷ rest)) (b ∷ rest)))) o) c
     ∙ ap (λ x. option_map (λ ts. t ∷ ts) (lex tiny 0 x)) (sym d)) in
-    go (some_lex law behind) (ap (add_read k s) (sym one) ∙ whole)
+    go (some_lex law following) (ap (add_read k s) (sym one) ∙ whole)
   where
-    go : (ls : List Lexeme) × (lex tiny 0 behind ≡ Some ls) → add_read k s (option_map (λ ts. t ∷ ts) (lex tiny 0 behind)) ≡ total → add_read k (add_one k s t) (lex tiny 0 behind) ≡ total
+    go : (ls : List Lexeme) × (lex tiny 0 following ≡ Some ls) → add_read k s (option_map (λ ts. t ∷ ts) (lex tiny 0 following)) ≡ total → add_read k (add_one k s t) (lex tiny 0 following) ≡ total
     go (ls, r) x = ap (add_read k (add_one k s t)) r ∙ (ap (λ o. add_read k s (option_map (λ ts. t ∷ ts) o)) (sym r) ∙ x)
 
 pub line_none : ReadsSome → (b : ℕ) (rest all : List ℕ) (n : ℕ) (text : List ℕ) → all ≡ b ∷ rest → n ≡ extent tiny (b ∷ rest) → text ≡ take n all → is_blank b ≡ false → token_of tiny text ≡ None → ⊥

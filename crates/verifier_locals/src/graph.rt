@@ -25,12 +25,12 @@ fn node_of(at: u32, row: Row) -> Node
     requires { at + size_of row ≤ 65536 }
     ensures { IsNodeOf at row result }
 {
-    let behind = Some(at + row.size());
+    let after = Some(at + row.size());
     let (next, jump) = match row.flow {
-        Flow::Next => (behind, None),
+        Flow::Next => (after, None),
         Flow::Jump(offset) => (Some(target_of(at, offset)), None),
-        Flow::Branch(offset) => (behind, Some(target_of(at, offset))),
-        Flow::Call(_) => (behind, None),
+        Flow::Branch(offset) => (after, Some(target_of(at, offset))),
+        Flow::Call(_) => (after, None),
         Flow::Return => (None, None),
         Flow::End => (None, None),
     };

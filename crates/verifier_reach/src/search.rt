@@ -133,16 +133,16 @@ impl Search {
             unit: here.unit,
             depth: here.depth - found.need + found.row.gives,
         };
-        let behind = at + found.row.size();
+        let following = at + found.row.size();
         match found.row.flow {
-            Flow::Next => self.arrive(image, next, behind),
+            Flow::Next => self.arrive(image, next, following),
             Flow::Jump(offset) => self.arrive(image, next, target_of(at, offset)),
             Flow::Branch(offset) => {
-                self.arrive(image, next, behind)?;
+                self.arrive(image, next, following)?;
                 self.arrive(image, next, target_of(at, offset))
             }
             Flow::Call(index) => {
-                self.arrive(image, next, behind)?;
+                self.arrive(image, next, following)?;
                 self.enter(image, here, at, found, index)
             }
             Flow::Return => Ok(()),

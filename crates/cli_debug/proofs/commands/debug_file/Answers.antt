@@ -1,4 +1,4 @@
-use Rattle.cli_boards.specs.Prelude.{Clocked, Unprepared}
+use Rattle.cli_clocked.specs.Prelude.{Clocked, Unprepared}
 use Rattle.cli_session.specs.Prelude.{HasInput, NoInput}
 use Rattle.cli_debug.proofs.commands.debug_file.Goals as goal
 

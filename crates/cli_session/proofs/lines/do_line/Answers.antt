@@ -22,7 +22,7 @@ pub returns-in-Ok-answer-clause-goes : goal.returns-in-Ok-answer-clause-goes
 returns-in-Ok-answer-clause-goes g c = λ n.
     let other : c.in-Ok.read ≢ reads.Nothing = search rules in
     let done = rw c.as_slice.ensures.value at c.in-Ok-answer.ensures.done in
-    rw (← c.outside.view_is, c.step_behind.ensures)
+    rw (← c.outside.view_is, c.step_after.ensures)
     (goes_one SourceFailed n c.read_line.new.line.items c.in-Ok.read c.in-Ok-answer.quits
     (rw c.as_slice.ensures.value at c.in-Ok-answer.ensures.quits) other
     (record {

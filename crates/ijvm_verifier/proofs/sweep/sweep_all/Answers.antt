@@ -1,5 +1,5 @@
 use Rattle.ijvm_verifier.proofs.Common.{◌≡◌, ◌*◌, ◌++◌, ◌∷◌, [], ◌∙◌, ℕ, arith, ap, subst, length, length-append, IsSwept}
-use Rattle.ijvm_verifier.proofs.Swept.{none_overlap, none_behind, kinds_push}
+use Rattle.ijvm_verifier.proofs.Swept.{none_overlap, none_after, kinds_push}
 use Rattle.ijvm_verifier.proofs.sweep.sweep_all.Goals as goal
 
 pub loop-at-preserved : goal.loop-at-preserved
@@ -20,5 +20,5 @@ pub returns-clause-kinds : goal.returns-clause-kinds
 returns-clause-kinds c = record {
   long = omega (arith, c.loop-at.invariant.long, c.requires.closed.long);
   each = c.loop-at.invariant.kinds;
-  beyond = λ at past. none_behind c.args.image.now c.args.seen.now at c.requires.closed past;
+  beyond = λ at past. none_after c.args.image.now c.args.seen.now at c.requires.closed past;
 }

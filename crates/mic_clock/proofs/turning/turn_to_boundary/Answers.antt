@@ -31,9 +31,9 @@ inside-init g c =
     let top : ℕ = first.counts.cycles in
     let ordered : last_cycles first.counts.boundary ≤ first.counts.cycles = search rules in
     let near : first.counts.cycles ≤ top + 1024 = omega arith in
-    let behind : last_cycles first.counts.boundary ≤ top = omega arith in
+    let after : last_cycles first.counts.boundary ≤ top = omega arith in
     let in_time : InTime top first.counts false first.end =
-    record { cycles = near; ordered = ordered; near = c.requires.parts.counts.since; last = λ _. inl behind } in
+    record { cycles = near; ordered = ordered; near = c.requires.parts.counts.since; last = λ _. inl after } in
     let led = leg-start state m words left0 held0 first in
     record {
       parts = search rules;

@@ -1,5 +1,5 @@
 use Rattle.std.proofs.Common.{◌∙◌, rules}
-use Rattle.mic_datapath.proofs.Slots.{all_loaded, behind_stay}
+use Rattle.mic_datapath.proofs.Slots.{all_loaded, after_stay}
 use Rattle.mic_datapath.proofs.c_bus.load.Goals as goal
 
 pub returns-clause-loaded : goal.returns-clause-loaded
@@ -10,4 +10,4 @@ returns-clause-loaded c =
 pub returns-clause-others : goal.returns-clause-others
 returns-clause-others c =
     let l = c.args.lines.now in
-    λ k low high. c.load_further.ensures.others k low ∙ behind_stay c.args.c l.first l.second l.further c.args.value c.args.places.now c.requires (search rules) k low high
+    λ k low high. c.load_further.ensures.others k low ∙ after_stay c.args.c l.first l.second l.further c.args.value c.args.places.now c.requires (search rules) k low high

@@ -7,5 +7,5 @@ invariant-places l =
       loaded : (k : ℕ) → l.fn.from ≤ k → k < l.place → slice_index l.places k ≡ (if names l.fn.c k then l.fn.value else slice_index l.initial.places k);
       before : (k : ℕ) → k < l.fn.from → slice_index l.places k ≡ slice_index l.initial.places k;
       others : (k : ℕ) → 9 ≤ k → slice_index l.places k ≡ slice_index l.initial.places k;
-      behind : (k : ℕ) → l.place ≤ k → slice_index l.places k ≡ slice_index l.initial.places k;
+      after : (k : ℕ) → l.place ≤ k → slice_index l.places k ≡ slice_index l.initial.places k;
     }

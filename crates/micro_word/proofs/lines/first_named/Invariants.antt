@@ -6,7 +6,7 @@ abbrev pub invariant-places : goal.invariant-places
 invariant-places l =
     record {
       within : l.place ≤ 9;
-      behind : l.fn.from ≤ l.place;
+      after : l.fn.from ≤ l.place;
       skipped : (place : ℕ) → l.fn.from ≤ place → place < l.place → names l.fn.c place ≡ false;
     }
 

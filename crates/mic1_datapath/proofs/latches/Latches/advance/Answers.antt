@@ -14,7 +14,7 @@ returns-clause-micro c =
     let v : c.args.c ≡ shifted s.part.shift (result_of s.part m) = c.requires.c ∙ ap (λ (x : ℕ). shifted s.part.shift x) c.requires.value in
     let became : registers_at c.settle.new.places ≡ loaded s.part.dests (shifted s.part.shift (result_of s.part m)) None (registers_in m) =
     c.settle.ensures.registers ∙ (λ i. loaded (c.destinations.ensures.value i) (v i) None (registers_in m)) in
-    let arrives = c.arrive_behind.ensures in
+    let arrives = c.arrive_after.ensures in
     let kept = λ (k : ℕ) (word : k ≢ 1) (low : k < 9). arrives.others k word (omega arith) (omega arith) in
     let mbr = arrives.mbru ∙ ap (λ (x : ℕ). arrived m.byte x) (c.settle.ensures.others 10 (omega arith) (omega arith)) in
     let addr = c.requires.lines.addr ∙ ap (λ (f : Fields). f.addr) spelled.fields in
@@ -44,8 +44,8 @@ returns-clause-latches c =
     let mbr = was 10 (omega arith) (omega arith) in
     record {
       mpc = c.goes_on-self.ensures.small;
-      mbr = c.arrive_behind.ensures.byte (subst (λ (x : ℕ). x < 256) (sym mbr) old.mbr);
-      signed = c.arrive_behind.ensures.mbr (was 9 (omega arith) (omega arith) ∙ old.signed ∙ ap signed_byte (sym mbr));
-      nothing = c.arrive_behind.ensures.others 13 (omega arith) (omega arith) (omega arith) ∙ was 13 (omega arith) (omega arith) ∙ old.nothing;
+      mbr = c.arrive_after.ensures.byte (subst (λ (x : ℕ). x < 256) (sym mbr) old.mbr);
+      signed = c.arrive_after.ensures.mbr (was 9 (omega arith) (omega arith) ∙ old.signed ∙ ap signed_byte (sym mbr));
+      nothing = c.arrive_after.ensures.others 13 (omega arith) (omega arith) (omega arith) ∙ was 13 (omega arith) (omega arith) ∙ old.nothing;
       before = c.requires.word;
     }

@@ -1,5 +1,0 @@
-use Rattle.cli_boards.proofs.Clocked.{clocked_through}
-use Rattle.cli_boards.proofs.laws.runs_are_clocked_from_reset.Goals as goal
-
-pub returns : goal.returns
-returns g c = clocked_through g.M.Clocked.state g.M.Clocked.meaning

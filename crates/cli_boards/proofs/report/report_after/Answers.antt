@@ -1,7 +1,0 @@
-use Rattle.cli_boards.proofs.Common.{◌≡◌, rules, report_on}
-use Rattle.cli_boards.proofs.report.report_after.Goals as goal
-
-pub returns : goal.returns
-returns g c =
-    let line_is : c.bytes.result.now ≡ report_on g.M.Clocked.state g.M.Clocked.meaning c.args.end c.args.board.now = search rules in
-    rw (line_is, c.status_of.ensures) at c.say_after.ensures
