@@ -17,14 +17,14 @@ pub fn target_of(at: u32, offset: i16) -> u32
 }
 
 /// Appends a space and a number.
-#[tactic(auto, using(mic_base::proofs::DigitLemmas::decimal_lengths))]
+#[tactic(auto, using(mic_base::specs::Decimals::decimal_lengths))]
 fn print_number(value: i64, line: &mut Line)
     requires { length line.old + 21 ≤ 512 }
     ensures text { line.new ≡ line.old ++ number_text value }
     ensures len { length line.new ≤ length line.old + 21 }
 {
     line.text(" ");
-    line.dec(value);
+    line.signed(value);
 }
 
 fn print_operands(operands: Operands, at: u32, line: &mut Line)

@@ -12,8 +12,7 @@ pub use Rattle.std.specs.Fmt.{decimal, signed_decimal}
 pub use Rattle.std.specs.List.{AllByRecursion, filter, list_all}
 pub use Rattle.mic_words.specs.declared.machine.Machine.{Machine}
 pub use Rattle.mic_words.specs.declared.machine.Machine.TheVariants.{Mic1, Mic2}
-pub use Rattle.mic_base.proofs.DigitLemmas.{signed_decimal_short}
-pub use Rattle.mic_base.specs.Prelude.{is_name_byte}
+pub use Rattle.mic_base.specs.Prelude.{is_name_byte, signed_decimal_short}
 unfoldable pub use Rattle.mic_base.specs.Prelude.{hex_text, number_of}
 pub use Rattle.source_text.specs.Prelude.{AreBlank, begins_with, ends_with, named}
 pub use Rattle.micro_word.specs.Prelude.{fits_side, has_operation, is_mixed, is_part, may_be_a, may_be_b, may_fetch, row}

@@ -59,7 +59,7 @@ fn print_number(spaced: bool, value: i64, line: &mut Line)
             line.text("0x");
             line.hex(u64::from(address), 3);
         }
-        _ => line.dec(value),
+        _ => line.signed(value),
     }
 }
 

@@ -1,6 +1,6 @@
 use Rattle.mic_base.proofs.Common.{◌≡◌, ℕ, zero, suc, ◌+◌, ◌-◌, ◌*◌, ◌/◌, ◌%◌, ◌^◌, ◌<◌, ◌≤◌, Bool, true, false, min, not, List, [], ◌∷◌, ◌++◌, length, None}
-use Rattle.mic_base.proofs.Common.{refl, arith, inl, inr, length-append, add-one, mul-le-mul_left, pow-suc, pow-zero, ℤ, pos, negsuc, FitsSigned, w64, ints}
-use Rattle.mic_base.proofs.Common.{decimal, signed_decimal, length-decimal-le, digit_char, digit_value, list_all, position, position_or_len, value_of, hex_text}
+use Rattle.mic_base.proofs.Common.{refl, arith, inl, inr, length-append, add-one, mul-le-mul_left, pow-suc, pow-zero}
+use Rattle.mic_base.proofs.Common.{digit_char, digit_value, list_all, position, position_or_len, value_of, hex_text}
 use Rattle.std.proofs.lemmas.Bool.{cases_lt, lt-ltb}
 
 push_arith : (x power value base digit : ℕ) → x * (power * base) + (value * base + digit) ≡ (x * power + value) * base + digit
@@ -60,16 +60,3 @@ hex_text-push (suc n) value some = let before : suc n - 1 ≡ n = omega arith in
 pub hex_text-zero : (value : ℕ) → hex_text 0 value ≡ []
 unfolding hex_text
 hex_text-zero value = refl
-
--- a number of 64 bits has at most 20 decimal digits
-pub decimal_short : (n : ℕ) → n < 2 ^ 64 → length (decimal n) ≤ 20
-decimal_short n small = length-decimal-le 20 n (omega arith) (omega arith) small
-
--- a signed number of 64 bits has, with its sign, at most 20 bytes
-pub signed_decimal_short : (z : ℤ) → FitsSigned w64 z → length (signed_decimal z) ≤ 20
-signed_decimal_short (pos n) fits = decimal_short n (omega (arith, ints, fits))
-signed_decimal_short (negsuc n) fits =
-    let short = length-decimal-le 19 (suc n) (omega arith) (omega (arith, ints, fits)) (omega (arith, ints, fits)) in
-    omega (arith, short)
-
-pub ruleset decimal_lengths = (decimal_short, signed_decimal_short)

@@ -19,4 +19,4 @@ pub use number::{Number, NumberError, hex_is_read_back};
 pub use plain::{PlainSink, PlainSource};
 pub use sink::{Sink, SinkFailed};
 pub use source::{Source, SourceFailed};
-pub use standard::{ReadAhead, StdFiles, StdSink, StdSource};
+pub use standard::{ReadAhead, StdFiles, StdSink, StdSource, words_of};

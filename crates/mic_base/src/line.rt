@@ -2,7 +2,7 @@
 
 ghost use Rattle.std.specs.Prelude.{List, ℕ, ◌≡◌, ◌+◌, ◌^◌, ◌<◌, ◌≤◌, ◌++◌, ◌∷◌, [], length};
 ghost use Rattle.std.specs.Char.{digit_char};
-ghost use Rattle.std.specs.Fmt.{signed_decimal};
+ghost use Rattle.std.specs.Fmt.{decimal, signed_decimal};
 ghost use Rattle.mic_base.specs.Digits.{hex_text};
 
 use arrayvec::ArrayString;
@@ -32,6 +32,39 @@ impl Line {
         Line {
             held: ArrayString::new(),
         }
+    }
+
+    /// A line of this text alone.
+    pub fn of(text: &str) -> Line
+        requires { length text.now ≤ 512 }
+        ensures text { result ≡ text.now }
+        ensures len { length result ≡ length text.now }
+    {
+        let mut line = Line::new();
+        line.text(text);
+        line
+    }
+
+    /// A line of a text and a number.
+    pub fn numbered(before: &str, value: u64) -> Line
+        requires { length before.now ≤ 400 }
+        ensures text { result ≡ before.now ++ decimal value }
+        ensures len { length result ≤ length before.now + 20 }
+    {
+        let mut line = Line::new();
+        line.number(before, value);
+        line
+    }
+
+    /// A line of a text and an address.
+    pub fn addressed(before: &str, at: u32) -> Line
+        requires { length before.now ≤ 400 }
+        ensures text { result ≡ before.now ++ hex_text 8 at }
+        ensures len { length result ≡ length before.now + 8 }
+    {
+        let mut line = Line::new();
+        line.word(before, at);
+        line
     }
 
     /// Appends a text.
@@ -66,9 +99,31 @@ impl Line {
         self.held.push(hex_digit(digit));
     }
 
-    /// Appends a value in decimal digits, after a `-` where it is below zero.
-    #[tactic(auto, using(crate::proofs::DigitLemmas::decimal_lengths))]
-    pub fn dec(&mut self, value: i64)
+    /// Appends a text and a word.
+    pub fn word(&mut self, before: &str, value: u32)
+        requires { length self.old + length before.now + 8 ≤ 512 }
+        ensures text { self.new ≡ self.old ++ before.now ++ hex_text 8 value }
+        ensures len { length self.new ≡ length self.old + length before.now + 8 }
+    {
+        self.text(before);
+        self.hex(u64::from(value), 8);
+    }
+
+    /// Appends a text and a number in decimal digits.
+    #[tactic(auto, using(crate::specs::Decimals::decimal_lengths))]
+    pub fn number(&mut self, before: &str, value: u64)
+        requires { length self.old + length before.now + 20 ≤ 512 }
+        ensures text { self.new ≡ self.old ++ before.now ++ decimal value }
+        ensures len { length self.new ≤ length self.old + length before.now + 20 }
+    {
+        self.text(before);
+        let mut buffer = Buffer::new();
+        self.text(buffer.format(value));
+    }
+
+    /// Appends a number in decimal digits, after a `-` where it is below zero.
+    #[tactic(auto, using(crate::specs::Decimals::decimal_lengths))]
+    pub fn signed(&mut self, value: i64)
         requires { length self.old + length (signed_decimal value) ≤ 512 }
         ensures text { self.new ≡ self.old ++ signed_decimal value }
         ensures len { length self.new ≡ length self.old + length (signed_decimal value) }
@@ -76,6 +131,14 @@ impl Line {
     {
         let mut buffer = Buffer::new();
         self.text(buffer.format(value));
+    }
+
+    /// What was appended, in order, as a text.
+    pub fn as_str(&self) -> &str
+        ensures value { result.now ≡ self.now }
+        ensures fits { length result.now ≤ 512 }
+    {
+        self.held.as_str()
     }
 
     /// What was appended, in order.

@@ -4,8 +4,10 @@ mod answers;
 pub mod files;
 pub mod sink;
 pub mod source;
+mod words;
 
 pub use ahead::ReadAhead;
 pub use files::StdFiles;
 pub use sink::StdSink;
 pub use source::StdSource;
+pub use words::words_of;

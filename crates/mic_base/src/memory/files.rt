@@ -15,6 +15,7 @@ use std::collections::BTreeMap;
 pub struct MemFiles {
     alloc: Global,
     files: BTreeMap<String, Vec<u8>>,
+    written: Vec<String>,
     calls: Calls,
 }
 
@@ -30,6 +31,7 @@ impl MemFiles {
         MemFiles {
             alloc,
             files: BTreeMap::new(alloc),
+            written: Vec::new(alloc),
             calls: Calls::new(failing),
         }
     }
@@ -56,6 +58,19 @@ impl MemFiles {
             None => None,
         }
     }
+
+    /// The names of the files that were written, also of those whose writes failed.
+    pub fn written(&self) -> &[String] {
+        &self.written
+    }
+}
+
+/// Adds a name, if it is not there.
+fn note(alloc: Global, names: &mut Vec<String>, name: &str) -> Result<(), AllocError> {
+    if !names.iter().any(|known| known.as_str() == name) {
+        names.push(String::from_str(alloc, name)?)?;
+    }
+    Ok(())
 }
 
 impl Files for MemFiles {
@@ -96,9 +111,13 @@ impl Files for MemFiles {
         ensures number { files_number self.new ≡ next_number (files_number self.old) }
         ensures kept { files_failing self.new ≡ files_failing self.old }
     {
+        let noted = note(self.alloc, &mut self.written, name);
         if self.calls.is_failing() {
             self.calls.fail();
             return Err(FileError::Failed);
+        }
+        if noted.is_err() {
+            return Err(FileError::OutOfMemory);
         }
         match self.add(name, bytes) {
             Ok(()) => Ok(()),
