@@ -2,7 +2,6 @@
 
 ghost use Rattle.std.specs.Prelude.{◌≡◌, ◌≤◌, length};
 
-use itoa::Buffer;
 use mic_base::Line;
 
 /// The most bytes of a line.
@@ -92,8 +91,8 @@ impl Brief {
 
     /// Appends a number in decimal digits.
     pub fn put_decimal(&mut self, value: u32) {
-        let mut digits = Buffer::new();
-        self.put(digits.format(value));
+        let digits = Line::numbered("", u64::from(value));
+        self.put(digits.as_str());
     }
 
     /// Appends a number in three, four or eight hexadecimal digits.

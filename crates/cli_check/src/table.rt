@@ -4,7 +4,6 @@ ghost use Rattle.std.specs.Prelude.{◌≡◌, ◌≤◌, ◌+◌, ◌++◌, len
 ghost use Rattle.cli_check.specs.Table.{boot_line, cost_text, instr_line, proved_text, row_line, rows_text};
 
 use crate::costs::{boot_cost, instr_cost};
-use cli_outside::number;
 use ijvm_instr::{Cost, INSTRUCTIONS, Instr, name};
 use mic_base::Line;
 use mic1_checker::Costs;
@@ -19,15 +18,15 @@ fn print_cost(line: &mut Line, cost: Cost)
     ensures len { length line.new ≤ length line.old + 75 }
 {
     match cost {
-        Cost::Always(cycles) => number(line, "", cycles),
+        Cost::Always(cycles) => line.number("", cycles),
         Cost::IfTaken { taken, not } => {
-            number(line, "", taken);
-            number(line, " taken, ", not);
+            line.number("", taken);
+            line.number(" taken, ", not);
             line.text(" not");
         }
         Cost::ByEntry { early, late } => {
-            number(line, "", early);
-            number(line, ", or ", late);
+            line.number("", early);
+            line.number(", or ", late);
             line.text(" where the entry mod 4 is 3");
         }
     }

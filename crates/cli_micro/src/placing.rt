@@ -7,7 +7,7 @@ ghost use Rattle.cli_micro.specs.Texts.{counts_line, placement_text, statement_l
 
 use crate::lines::{add_line, store_law, word_text};
 use crate::reasons::{mal_reason, place_reason};
-use cli_outside::{Refusal, number, numbered};
+use cli_outside::Refusal;
 use mal_parser::{MalProgram, parse_mal, print_labelled};
 use mic_base::Line;
 use micro_word::{Machine, Store};
@@ -37,9 +37,9 @@ fn counts_line(program: &MalProgram, constraints: &Constraints) -> Line
     requires { constraints.now ≡ demands_of program.now }
     ensures { result ≡ counts_line program.now }
 {
-    let mut line = numbered("statements ", u64::from(program.len()));
-    number(&mut line, " fixed ", u64::from(constraints.fixed_count()));
-    number(&mut line, " pairs ", u64::from(constraints.pair_count()));
+    let mut line = Line::numbered("statements ", u64::from(program.len()));
+    line.number(" fixed ", u64::from(constraints.fixed_count()));
+    line.number(" pairs ", u64::from(constraints.pair_count()));
     line
 }
 

@@ -4,7 +4,7 @@ ghost use Rattle.std.specs.Prelude.{◌≡◌, ◌<◌, ◌++◌, length, codes}
 ghost use Rattle.cli_micro.specs.Common.{hex_text, of_file};
 ghost use Rattle.cli_micro.specs.Reasons.{line_at, mal_reason, of_two_lines, place_reason, store_reason, NamesPlaces, NamesStatements};
 
-use cli_outside::{number, numbered, of_line, text_line};
+use cli_outside::of_line;
 use mal_parser::{MalError, MalProgram};
 use mic_base::Line;
 use store_placement::{PlaceError, StoreError};
@@ -23,7 +23,7 @@ pub fn mal_reason(error: MalError) -> Option<Line>
         MalError::TooMany(line) => Some(of_line(line, "more than 512 statements")),
         MalError::UnknownLabel(line) => Some(of_line(line, "unknown name")),
         MalError::LastFalls(line) => Some(of_line(line, "no statement follows")),
-        MalError::NoEntry => Some(text_line(": no Main1")),
+        MalError::NoEntry => Some(Line::of(": no Main1")),
         MalError::OutOfMemory => None,
     }
 }
@@ -39,8 +39,8 @@ fn line_at(program: &MalProgram, s: u16) -> u32
 fn of_two_lines(first: u32, second: u32) -> Line
     ensures { result ≡ of_two_lines first second }
 {
-    let mut line = numbered(": lines ", u64::from(first));
-    number(&mut line, " and ", u64::from(second));
+    let mut line = Line::numbered(": lines ", u64::from(first));
+    line.number(" and ", u64::from(second));
     line.text(" are forced to one address");
     line
 }
@@ -54,7 +54,7 @@ pub fn place_reason(program: &MalProgram, error: PlaceError) -> Line
         PlaceError::PairClash(s) => of_line(line_at(program, s), "stands in two pairs"),
         PlaceError::FixedWrongHalf(s) => of_line(line_at(program, s), "fixed in the wrong half"),
         PlaceError::FixedClash(s, t) => of_two_lines(line_at(program, s), line_at(program, t)),
-        PlaceError::NoRoom => text_line(": no room for the pairs"),
+        PlaceError::NoRoom => Line::of(": no room for the pairs"),
     }
 }
 
@@ -62,7 +62,7 @@ fn bad_word(address: u16) -> Line
     requires { address < 512 }
     ensures { result ≡ of_file (codes "bad word at " ++ hex_text 3 address) }
 {
-    let mut line = text_line(": bad word at ");
+    let mut line = Line::of(": bad word at ");
     line.hex(u64::from(address), 3);
     line
 }
@@ -73,8 +73,8 @@ pub(crate) fn store_reason(error: StoreError) -> Option<Line>
     ensures { result ≡ store_reason error }
 {
     match error {
-        StoreError::BadMagic => Some(text_line(": bad magic")),
-        StoreError::BadLength(length) => Some(numbered(": bad length ", length as u64)),
+        StoreError::BadMagic => Some(Line::of(": bad magic")),
+        StoreError::BadLength(length) => Some(Line::numbered(": bad length ", length as u64)),
         StoreError::BadWord(address) => Some(bad_word(address)),
         StoreError::OutOfMemory => None,
     }

@@ -3,13 +3,11 @@
 #![tactic(auto)]
 
 mod outside;
-mod parts;
 mod refusal;
 mod said;
 mod status;
 
 pub use outside::{Outside, close};
-pub use parts::{addressed, number, numbered, of_line, signed, text_line, word};
-pub use refusal::Refusal;
+pub use refusal::{Refusal, of_line};
 pub use said::{no_memory, put_after, say, say_of};
 pub use status::Status;

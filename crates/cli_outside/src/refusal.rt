@@ -1,6 +1,7 @@
 //! Why a command gets nothing from a file.
 
-ghost use Rattle.std.specs.Prelude.{◌≡◌};
+ghost use Rattle.std.specs.Prelude.{◌≡◌, ◌≤◌, ◌+◌, length};
+ghost use Rattle.cli_outside.specs.Messages.{of_line};
 ghost use Rattle.cli_outside.specs.Work.{refusal_by};
 
 use mic_base::Line;
@@ -34,4 +35,16 @@ impl From<AllocError> for Refusal {
     fn from(_: AllocError) -> Refusal {
         Refusal::OutOfMemory
     }
+}
+
+/// The reason for a refusal that is about one line of the file.
+pub fn of_line(line: u32, text: &str) -> Line
+    requires { length text.now ≤ 400 }
+    ensures text { result ≡ of_line line text.now }
+    ensures len { length result ≤ length text.now + 23 }
+{
+    let mut said = Line::numbered(":", u64::from(line));
+    said.text(": ");
+    said.text(text);
+    said
 }

@@ -6,7 +6,6 @@ ghost use Rattle.ijvm_instr.specs.Prelude.{instr_at};
 ghost use Rattle.verifier_facts.specs.Prelude.{IsKind};
 ghost use Rattle.cli_program_texts.specs.Listing.{AddsLineAt, AddsLines, Lists, byte_line, constant_line, header_line, instr_line, pool_text};
 
-use cli_outside::{addressed, number, numbered};
 use ijvm_instr::{Instr, decode_at, print_instr};
 use ijvm_verifier::{Kind, VerifiedImage};
 use mic_base::Line;
@@ -15,7 +14,7 @@ use std::alloc::{AllocError, Global};
 fn constant_line(index: usize, value: u32) -> Line
     ensures { result ≡ constant_line index value }
 {
-    let mut line = numbered("pool ", index as u64);
+    let mut line = Line::numbered("pool ", index as u64);
     line.text(" ");
     line.hex(u64::from(value), 8);
     line.text("\n");
@@ -35,7 +34,7 @@ fn push_pool(listing: &mut Vec<u8>, pool: &[u32]) -> Result<(), AllocError>
 fn push_instr(listing: &mut Vec<u8>, instr: Instr, at: u32) -> Result<(), AllocError>
     ensures { OnOk result (listing.new.items ≡ listing.old.items ++ instr_line instr at) }
 {
-    let mut line = addressed("", at);
+    let mut line = Line::addressed("", at);
     line.text(" ");
     print_instr(instr, at, &mut line);
     listing.extend_from_slice(line.bytes())?;
@@ -63,9 +62,9 @@ fn header_line(text: &[u8], at: u32) -> Line
     requires { at < 65536 }
     ensures { result ≡ header_line text.now at }
 {
-    let mut line = addressed("", at);
-    number(&mut line, " method ", half_at(text, at as usize));
-    number(&mut line, " ", half_at(text, at as usize + 2));
+    let mut line = Line::addressed("", at);
+    line.number(" method ", half_at(text, at as usize));
+    line.number(" ", half_at(text, at as usize + 2));
     line.text("\n");
     line
 }
@@ -73,7 +72,7 @@ fn header_line(text: &[u8], at: u32) -> Line
 fn byte_line(text: &[u8], at: u32) -> Line
     ensures { result ≡ byte_line text.now at }
 {
-    let mut line = addressed("", at);
+    let mut line = Line::addressed("", at);
     line.text(" byte ");
     line.hex(u64::from(byte_at(text, at as usize)), 2);
     line.text("\n");

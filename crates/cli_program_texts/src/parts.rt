@@ -4,7 +4,6 @@ ghost use Rattle.std.specs.Prelude.{◌≡◌, ◌≤◌, ◌+◌, ◌++◌, len
 ghost use Rattle.std.specs.Fmt.{decimal};
 ghost use Rattle.cli_program_texts.specs.Refusals.{of_byte};
 
-use cli_outside::{addressed, number, numbered};
 use mic_base::Line;
 
 /// What is printed of the byte at an address.
@@ -12,7 +11,7 @@ pub fn at_byte(at: u32, text: &str) -> Line
     requires { length text.now ≤ 400 }
     ensures { result ≡ of_byte at ++ text.now }
 {
-    let mut line = addressed(": ", at);
+    let mut line = Line::addressed(": ", at);
     line.text(text);
     line
 }
@@ -23,8 +22,8 @@ pub fn numbered_at(at: u32, text: &str, value: u64) -> Line
     ensures text { result ≡ of_byte at ++ text.now ++ decimal value }
     ensures len { length result ≤ length text.now + 30 }
 {
-    let mut line = addressed(": ", at);
-    number(&mut line, text, value);
+    let mut line = Line::addressed(": ", at);
+    line.number(text, value);
     line
 }
 
@@ -33,7 +32,7 @@ pub fn number_between(before: &str, value: u64, after: &str) -> Line
     requires { length before.now + length after.now ≤ 400 }
     ensures { result ≡ before.now ++ decimal value ++ after.now }
 {
-    let mut line = numbered(before, value);
+    let mut line = Line::numbered(before, value);
     line.text(after);
     line
 }

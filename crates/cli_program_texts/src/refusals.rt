@@ -5,7 +5,7 @@ ghost use Rattle.std.specs.Fmt.{decimal};
 ghost use Rattle.cli_program_texts.specs.Refusals.{image_reason, link_reason, of_byte, source_reason, verify_reason};
 
 use crate::parts::{at_byte, number_between, numbered_at};
-use cli_outside::{addressed, number, numbered, of_line, signed, text_line};
+use cli_outside::of_line;
 use ijvm_asm::AsmError;
 use ijvm_image::ImageError;
 use ijvm_verifier::VerifyError;
@@ -17,11 +17,11 @@ pub fn image_reason(error: ImageError) -> Option<Line>
     ensures { result ≡ image_reason error }
 {
     match error {
-        ImageError::Truncated(place) => Some(numbered(": truncated at ", place as u64)),
-        ImageError::BadMagic => Some(text_line(": bad magic")),
-        ImageError::BadOrigin(value) => Some(addressed(": bad origin ", value)),
-        ImageError::BadSize(value) => Some(numbered(": bad size ", u64::from(value))),
-        ImageError::Trailing(place) => Some(numbered(": trailing bytes at ", place as u64)),
+        ImageError::Truncated(place) => Some(Line::numbered(": truncated at ", place as u64)),
+        ImageError::BadMagic => Some(Line::of(": bad magic")),
+        ImageError::BadOrigin(value) => Some(Line::addressed(": bad origin ", value)),
+        ImageError::BadSize(value) => Some(Line::numbered(": bad size ", u64::from(value))),
+        ImageError::Trailing(place) => Some(Line::numbered(": trailing bytes at ", place as u64)),
         ImageError::OutOfMemory => None,
     }
 }
@@ -39,12 +39,13 @@ pub fn source_reason(error: AsmError) -> Option<Line>
         AsmError::TooManyNames(line) => Some(of_line(line, "too many names")),
         AsmError::MissingEnd(line) => Some(of_line(line, "section is not ended")),
         AsmError::UnknownName(line) => Some(of_line(line, "unknown name")),
-        AsmError::NoMain => Some(text_line(": no main")),
+        AsmError::NoMain => Some(Line::of(": no main")),
         AsmError::OutOfMemory => None,
     }
 }
 
 /// Why a source program has no image, unless memory ran out.
+#[tactic(auto, using(mic_base::specs::Decimals::decimal_lengths))]
 pub fn link_reason(error: LinkError) -> Option<Line>
     ensures { result ≡ link_reason error }
 {
@@ -55,7 +56,7 @@ pub fn link_reason(error: LinkError) -> Option<Line>
         }
         LinkError::JumpTooFar(line, far) => {
             let mut line = of_line(line, "jump of ");
-            signed(&mut line, far);
+            line.signed(i64::from(far));
             line.text(" is too far");
             Some(line)
         }
@@ -75,7 +76,7 @@ fn too_few_arguments(at: u32, have: u32, need: u32) -> Line
     ensures { result ≡ of_byte at ++ codes " has " ++ decimal have ++ codes " of " ++ decimal need ++ codes " arguments" }
 {
     let mut line = numbered_at(at, " has ", u64::from(have));
-    number(&mut line, " of ", u64::from(need));
+    line.number(" of ", u64::from(need));
     line.text(" arguments");
     line
 }
@@ -84,7 +85,7 @@ fn depth_differs(at: u32, less: u32, more: u32) -> Line
     ensures { result ≡ of_byte at ++ codes " depth " ++ decimal less ++ codes " and " ++ decimal more }
 {
     let mut line = numbered_at(at, " depth ", u64::from(less));
-    number(&mut line, " and ", u64::from(more));
+    line.number(" and ", u64::from(more));
     line
 }
 

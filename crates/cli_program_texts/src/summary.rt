@@ -3,7 +3,6 @@
 ghost use Rattle.std.specs.Prelude.{◌≡◌, length};
 ghost use Rattle.cli_program_texts.specs.Summary.{Summarizes, sizes, summary};
 
-use cli_outside::{number, numbered};
 use ijvm_image::Image;
 use ijvm_verifier::VerifiedImage;
 use mic_base::Line;
@@ -12,10 +11,10 @@ use mic_base::Line;
 fn counts(text: usize, pool: usize, methods: u32, main: u32) -> Line
     ensures { result ≡ summary text pool methods main }
 {
-    let mut line = numbered("ok text ", text as u64);
-    number(&mut line, " pool ", pool as u64);
-    number(&mut line, " methods ", u64::from(methods));
-    number(&mut line, " main ", u64::from(main));
+    let mut line = Line::numbered("ok text ", text as u64);
+    line.number(" pool ", pool as u64);
+    line.number(" methods ", u64::from(methods));
+    line.number(" main ", u64::from(main));
     line.text("\n");
     line
 }
@@ -37,8 +36,8 @@ pub fn summary_of(program: &VerifiedImage) -> Line
 pub fn sizes_of(image: &Image) -> Line
     ensures { result ≡ sizes (length image.now.text) (length image.now.pool) }
 {
-    let mut line = numbered("text ", image.text().len() as u64);
-    number(&mut line, " pool ", image.pool().len() as u64);
+    let mut line = Line::numbered("text ", image.text().len() as u64);
+    line.number(" pool ", image.pool().len() as u64);
     line.text("\n");
     line
 }

@@ -3,7 +3,7 @@
 ghost use Rattle.std.specs.Prelude.{◌≡◌};
 ghost use Rattle.cli_programs.specs.TinyRefusals.{tiny_reason};
 
-use cli_outside::{of_line, text_line};
+use cli_outside::of_line;
 use cli_program_texts::link_reason;
 use method_linker::LinkError;
 use mic_base::Line;
@@ -23,7 +23,7 @@ pub fn tiny_reason(error: TinyError) -> Option<Line>
         TinyError::BadCall(line) => Some(of_line(line, "bad call")),
         TinyError::ReturnInMain(line) => Some(of_line(line, "return in main")),
         TinyError::TooManyNames(line) => Some(of_line(line, "too many names")),
-        TinyError::NoMain => Some(text_line(": no main")),
+        TinyError::NoMain => Some(Line::of(": no main")),
         TinyError::PoolTooLong(count) => link_reason(LinkError::PoolTooLong(count)),
         TinyError::TextTooLong(size) => link_reason(LinkError::TextTooLong(size)),
         TinyError::JumpTooFar(line, far) => link_reason(LinkError::JumpTooFar(line, far)),

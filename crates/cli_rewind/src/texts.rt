@@ -3,7 +3,6 @@
 ghost use Rattle.std.specs.Prelude.{◌≡◌, ◌≤◌, ◌+◌, length};
 ghost use Rattle.cli_rewind.specs.Lines.{back_text, cycle_line, forward_text, refusal_text};
 
-use cli_outside::{numbered, text_line};
 use cli_run_texts::end_name;
 use cli_session::CommandError;
 use mic_base::Line;
@@ -16,7 +15,7 @@ fn cycle_line<M: Clocked>(rewind: &Rewind<M>) -> Line
     ensures text { result ≡ cycle_line rewind.now.history.here.moment }
     ensures len { length result ≤ 64 }
 {
-    let mut line = numbered("cycle ", rewind.counts().cycles);
+    let mut line = Line::numbered("cycle ", rewind.counts().cycles);
     line.text(" mpc ");
     line.hex(u64::from(rewind.registers().mpc), 3);
     line.text("\n");
@@ -53,7 +52,7 @@ pub(crate) fn refusal_text(error: CommandError) -> Line
     ensures { result ≡ refusal_text error }
 {
     match error {
-        CommandError::BadCommand => text_line("? bad command\n"),
-        CommandError::BadNumber => text_line("? bad number\n"),
+        CommandError::BadCommand => Line::of("? bad command\n"),
+        CommandError::BadNumber => Line::of("? bad number\n"),
     }
 }

@@ -3,7 +3,7 @@
 ghost use Rattle.std.specs.Prelude.{◌≡◌, ◌≤◌, ◌+◌, ◌++◌, length};
 ghost use Rattle.cli_run_texts.specs.Ends.{clocked_end, end_name, status_of};
 
-use cli_outside::{Status, word};
+use cli_outside::Status;
 use ijvm_reference::PlainEnd;
 use mic_base::Line;
 use mic_clock::End;
@@ -21,7 +21,7 @@ pub fn end_name(line: &mut Line, end: End)
         End::StackLimit => line.text("stack-limit"),
         End::ReadFault => line.text("read-fault"),
         End::WriteFault => line.text("write-fault"),
-        End::OutOfMap(at) => word(line, "out-of-map at ", at),
+        End::OutOfMap(at) => line.word("out-of-map at ", at),
         End::Adrift => line.text("adrift"),
     }
 }

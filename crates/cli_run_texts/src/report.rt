@@ -4,7 +4,6 @@ ghost use Rattle.std.specs.Prelude.{◌≡◌, ◌≤◌, ◌<◌, ◌+◌, ◌+
 ghost use Rattle.cli_run_texts.specs.Report.{boundary_line, clocked_head, counts_text, cycles_of, head, left_report, plain_head, quit_report, report};
 
 use crate::ends::{clocked_end, end_name};
-use cli_outside::{number, text_line, word};
 use ijvm_reference::PlainReport;
 use mic_base::Line;
 use mic_clock::{Boundary, Counts, End, Registers, print_state};
@@ -17,10 +16,10 @@ fn boundary_line(line: &mut Line, boundary: Option<Boundary>)
     match boundary {
         None => line.text("boundary none\n"),
         Some(boundary) => {
-            number(line, "boundary ", boundary.cycles);
-            word(line, " at ", boundary.at);
-            word(line, " sp ", boundary.sp);
-            word(line, " lv ", boundary.lv);
+            line.number("boundary ", boundary.cycles);
+            line.word(" at ", boundary.at);
+            line.word(" sp ", boundary.sp);
+            line.word(" lv ", boundary.lv);
             line.text("\n");
         }
     }
@@ -32,8 +31,8 @@ fn add_counts(line: &mut Line, cycles: u64, instructions: u64, boundary: Option<
     ensures text { line.new ≡ line.old ++ counts_text cycles instructions boundary }
     ensures len { length line.new ≤ length line.old + 130 }
 {
-    number(line, "\ncycles ", cycles);
-    number(line, " instructions ", instructions);
+    line.number("\ncycles ", cycles);
+    line.number(" instructions ", instructions);
     line.text("\n");
     boundary_line(line, boundary);
 }
@@ -97,7 +96,7 @@ fn quit_report(counts: &Counts, registers: &Registers) -> Line
     requires { registers.now.mpc < 512 }
     ensures { result ≡ quit_report counts.now registers.now }
 {
-    let mut line = text_line("end quit");
+    let mut line = Line::of("end quit");
     add_counts(
         &mut line,
         counts.cycles,

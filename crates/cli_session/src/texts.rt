@@ -3,7 +3,6 @@
 ghost use Rattle.std.specs.Prelude.{◌≡◌, ◌<◌};
 ghost use Rattle.cli_session.specs.Texts.{end_line, state_text, word_text};
 
-use cli_outside::word;
 use cli_run_texts::end_name;
 use mic_base::Line;
 use mic_clock::{End, Registers, print_state};
@@ -13,8 +12,7 @@ use mic_clock::{End, Registers, print_state};
 pub fn end_line(end: End) -> Line
     ensures { result ≡ end_line end }
 {
-    let mut line = Line::new();
-    line.text("end ");
+    let mut line = Line::of("end ");
     end_name(&mut line, end);
     line.text("\n");
     line
@@ -35,9 +33,8 @@ pub fn state_text(registers: &Registers) -> Line
 pub fn word_text(at: u32, value: u32) -> Line
     ensures { result ≡ word_text at value }
 {
-    let mut line = Line::new();
-    word(&mut line, "", at);
-    word(&mut line, " ", value);
+    let mut line = Line::addressed("", at);
+    line.word(" ", value);
     line.text("\n");
     line
 }

@@ -4,7 +4,6 @@ ghost use Rattle.std.specs.Prelude.{◌≡◌, ◌≤◌, ◌<◌, ◌+◌, ◌^
 ghost use Rattle.mem_cache.specs.Prelude.{Access, Counts};
 ghost use Rattle.cli_watchers.specs.Cached.{CountsAll, access_at, access_in, accesses_by, after_access, after_write, at_mar, at_pc, cache_line, has_room};
 
-use cli_outside::number;
 use mem_cache::{CacheCounts, CachedBus};
 use mic_base::{Line, PlainSink, Sink, SinkFailed};
 use mic_clock::Registers;
@@ -168,10 +167,9 @@ impl Watcher for CacheWatcher {
 pub fn cache_line(lines: u16, counts: CacheCounts) -> Line
     ensures { result ≡ cache_line lines counts }
 {
-    let mut line = Line::new();
-    number(&mut line, "cache lines ", u64::from(lines));
-    number(&mut line, " hits ", counts.hits);
-    number(&mut line, " misses ", counts.misses);
+    let mut line = Line::numbered("cache lines ", u64::from(lines));
+    line.number(" hits ", counts.hits);
+    line.number(" misses ", counts.misses);
     line.text("\n");
     line
 }

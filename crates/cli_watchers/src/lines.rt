@@ -5,7 +5,6 @@ ghost use Rattle.store_placement.specs.Prelude.{Places, demands_of};
 ghost use Rattle.cli_watchers.specs.Lines.{ShowsWord, bus_line, cycle_line, flag_text, state_lines};
 
 use crate::names::print_word;
-use cli_outside::{numbered, word};
 use mal_parser::MalProgram;
 use mic_base::Line;
 use mic_clock::{Computed, Drive, print_state};
@@ -18,7 +17,7 @@ pub fn cycle_line(program: &MalProgram, placement: &Placement, cycle: &Cycle) ->
     requires mpc { cycle.now.mpc < 512 }
     ensures { ShowsWord program.now placement.now cycle.now.mpc (cycle_line cycle.now) result }
 {
-    let mut line = numbered("", cycle.counts.cycles);
+    let mut line = Line::numbered("", cycle.counts.cycles);
     line.text(" ");
     line.hex(u64::from(cycle.mpc), 3);
     line.text(" ");
@@ -48,10 +47,10 @@ pub fn bus_line(drive: &Drive, computed: &Computed, line: &mut Line)
     ensures text { line.new ≡ line.old ++ bus_line drive.now computed.now }
     ensures len { length line.new ≤ length line.old + 68 }
 {
-    word(line, "  a ", drive.a);
-    word(line, " b ", drive.b);
-    word(line, " alu ", computed.alu.value);
-    word(line, " c ", computed.c);
+    line.word("  a ", drive.a);
+    line.word(" b ", drive.b);
+    line.word(" alu ", computed.alu.value);
+    line.word(" c ", computed.c);
     print_flag(line, " n ", computed.alu.n);
     print_flag(line, " z ", computed.alu.z);
     line.text("\n");

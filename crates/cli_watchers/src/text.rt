@@ -6,7 +6,7 @@ ghost use Rattle.cli_watchers.specs.Profile.{count_line, profile_in, profile_tex
 
 use crate::profiler::{Profiler, RowCount, complete};
 use crate::rows::row_name;
-use cli_outside::{number, put_after};
+use cli_outside::put_after;
 use mic_base::{Line, Sink, SinkFailed};
 use mic_clock::{Counts, End};
 
@@ -15,9 +15,8 @@ fn count_line(name: &str, value: u64) -> Line
     requires { length name.now ≤ 64 }
     ensures { result ≡ count_line name.now value }
 {
-    let mut line = Line::new();
-    line.text(name);
-    number(&mut line, " ", value);
+    let mut line = Line::of(name);
+    line.number(" ", value);
     line.text("\n");
     line
 }
@@ -29,8 +28,8 @@ fn row_line(row: usize, tally: &RowCount) -> Line
     let mut line = Line::new();
     if tally.count > 0 {
         line.text(row_name(row));
-        number(&mut line, " ", tally.count);
-        number(&mut line, " ", tally.cycles);
+        line.number(" ", tally.count);
+        line.number(" ", tally.cycles);
         line.text("\n");
     }
     line

@@ -6,10 +6,10 @@ ghost use Rattle.cli_watchers.specs.Lines.{AreLinesOf, IsBoundaryLine, PutsOneAf
 
 use crate::lines::{cycle_line, state_lines};
 use crate::names::instruction_text;
-use cli_outside::{addressed, put_after};
+use cli_outside::put_after;
 use ijvm_verifier::VerifiedImage;
 use mal_parser::MalProgram;
-use mic_base::{Sink, SinkFailed};
+use mic_base::{Line, Sink, SinkFailed};
 use mic_watched::{Cycle, Watcher};
 use store_placement::Placement;
 
@@ -37,7 +37,7 @@ fn put_boundary<E: Sink>(
     match boundary {
         None => said,
         Some(at) => {
-            let mut line = addressed("at ", at);
+            let mut line = Line::addressed("at ", at);
             line.text(" ");
             let said = put_after(said, err, line.bytes());
             let said = put_after(said, err, instruction_text(image, at).bytes());

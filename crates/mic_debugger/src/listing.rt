@@ -6,7 +6,6 @@ ghost use Rattle.mic_debugger.specs.Book.{BeginsAt, ByBook, unused_text};
 ghost use Rattle.mic_debugger.specs.Lines.{clocked_line, cycle_text, place_line, place_text, next_line};
 ghost use Rattle.mic_debugger.specs.View.{listing_of};
 
-use cli_outside::number;
 use ijvm_instr::{Instr, decode_at, print_instr};
 use ijvm_verifier::{Kind, VerifiedImage};
 use mal_parser::{MalProgram, print_fallback, print_statement};
@@ -126,7 +125,7 @@ impl Listing {
         ensures { ByBook self.now (λ book. result ≡ clocked_line book cycles mpc stalled) }
     {
         let mut line = Line::new();
-        number(&mut line, "", cycles);
+        line.number("", cycles);
         line.text(" ");
         line.hex(u64::from(mpc), 3);
         line.text(" ");
@@ -167,7 +166,7 @@ impl Listing {
         requires { length line.old ≤ 64 }
         ensures { ByBook self.now (λ book. line.new ≡ line.old ++ place_line book counts.now) }
     {
-        number(line, "cycle ", counts.cycles);
+        line.number("cycle ", counts.cycles);
         line.text(" at ");
         self.place(counts.boundary, line);
     }
