@@ -1,8 +1,6 @@
 //! What is printed of a microprogram that is not shown to interpret IJVM.
 
 ghost use Rattle.std.specs.Prelude.{◌≡◌, ◌++◌, ℕ, List, codes, IfOk};
-ghost use Rattle.store_placement.specs.Placement.{Places};
-ghost use Rattle.store_placement.specs.Program.{demands_of};
 ghost use Rattle.cli_check.specs.CheckEnds.{IsNotShownText};
 
 use crate::brief::Brief;
@@ -121,9 +119,7 @@ fn finding_line(
     program: &MalProgram,
     placement: &Placement,
     alloc: Global,
-) -> Result<Brief, AllocError>
-    requires { Places (demands_of program.now) placement.now }
-{
+) -> Result<Brief, AllocError> {
     let mut text = Brief::new();
     put_asked(&mut text, finding.asked);
     put_shape(&mut text, finding.shape);
@@ -168,9 +164,7 @@ fn rest_of(
     program: &MalProgram,
     placement: &Placement,
     alloc: Global,
-) -> Result<Vec<u8>, AllocError>
-    requires { Places (demands_of program.now) placement.now }
-{
+) -> Result<Vec<u8>, AllocError> {
     let mut text = Vec::new(alloc);
     match reason {
         NotShown::Differs {
@@ -195,7 +189,6 @@ pub(crate) fn not_shown_text(
     program: &MalProgram,
     placement: &Placement,
 ) -> Result<Vec<u8>, AllocError>
-    requires { Places (demands_of program.now) placement.now }
     ensures { IfOk result (λ text. IsNotShownText text.items) }
 {
     let rest = rest_of(reason, program, placement, alloc)?;

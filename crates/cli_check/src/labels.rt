@@ -1,11 +1,8 @@
 //! The statements of a path by their labels.
 
-ghost use Rattle.store_placement.specs.Placement.{Places};
-ghost use Rattle.store_placement.specs.Program.{demands_of};
-
 use crate::brief::Brief;
 use mal_parser::MalProgram;
-use store_placement::{Placement, statement_at};
+use store_placement::Placement;
 
 /// The most statements that are named, and how many at the front and at the end where there are more.
 const MOST: usize = 12;
@@ -18,10 +15,8 @@ const END: usize = 4;
 const BYTES: u16 = 95;
 
 /// Appends the label of the statement at an address, or the address where it has none.
-fn put_label(text: &mut Brief, program: &MalProgram, placement: &Placement, address: u16)
-    requires { Places (demands_of program.now) placement.now }
-{
-    if let Some(s) = statement_at(program, placement, address) {
+fn put_label(text: &mut Brief, program: &MalProgram, placement: &Placement, address: u16) {
+    if let Some(s) = placement.statement_at(address) {
         if s < program.len() {
             if let Some(label) = program.statement(s).label {
                 text.put(label.text());
@@ -33,9 +28,7 @@ fn put_label(text: &mut Brief, program: &MalProgram, placement: &Placement, addr
     text.put_hex(u32::from(address));
 }
 
-fn put_labels(text: &mut Brief, program: &MalProgram, placement: &Placement, addresses: &[u16])
-    requires { Places (demands_of program.now) placement.now }
-{
+fn put_labels(text: &mut Brief, program: &MalProgram, placement: &Placement, addresses: &[u16]) {
     for (place, address) in addresses.iter().enumerate() {
         if place > 0 {
             text.put(" ");
@@ -59,9 +52,7 @@ pub(crate) fn put_path(
     program: &MalProgram,
     placement: &Placement,
     addresses: &[u16],
-)
-    requires { Places (demands_of program.now) placement.now }
-{
+) {
     let named = after_entry(addresses);
     if named.is_empty() {
         return;

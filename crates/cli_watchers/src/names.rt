@@ -8,7 +8,7 @@ use ijvm_instr::{Instr, decode_at, print_instr};
 use ijvm_verifier::{Kind, VerifiedImage};
 use mal_parser::{MalProgram, print_fallback, print_statement};
 use mic_base::Line;
-use store_placement::{Placement, statement_at};
+use store_placement::Placement;
 
 /// Appends the label of a statement, or a dash where it has none.
 fn print_label(program: &MalProgram, s: u16, line: &mut Line)
@@ -81,7 +81,7 @@ pub fn print_word(
     ensures text { AddsWord program.now placement.now mpc stalled line.old line.new }
     ensures len { length line.new ≤ length line.old + 321 }
 {
-    match statement_at(program, placement, mpc) {
+    match placement.statement_at(mpc) {
         Some(s) => print_placed_word(program, s, stalled, line),
         None => print_unused_word(program, stalled, line),
     }

@@ -12,7 +12,7 @@ use mal_parser::{MalProgram, print_fallback, print_statement};
 use mic_base::Line;
 use mic_clock::{Boundary, Counts};
 use std::marker::Model;
-use store_placement::{Placement, statement_at};
+use store_placement::Placement;
 
 /// A placed microprogram, and the program that it runs.
 #[derive(Drop)]
@@ -71,7 +71,7 @@ impl Listing {
         ensures text { ByBook self.now (λ book. line.new ≡ line.old ++ book.label mpc) }
         ensures len { length line.new ≤ length line.old + 64 }
     {
-        match statement_at(&self.program, &self.placement, mpc) {
+        match self.placement.statement_at(mpc) {
             Some(s) => match self.program.statement(s).label {
                 Some(label) => line.text(label.text()),
                 None => line.text("-"),
@@ -86,7 +86,7 @@ impl Listing {
         ensures text { ByBook self.now (λ book. line.new ≡ line.old ++ book.text mpc) }
         ensures len { length line.new ≤ length line.old + 256 }
     {
-        match statement_at(&self.program, &self.placement, mpc) {
+        match self.placement.statement_at(mpc) {
             Some(s) => print_statement(&self.program, s, line),
             None => self.unused_text(line),
         }

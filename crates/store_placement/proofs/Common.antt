@@ -30,7 +30,7 @@ pub use Rattle.micro_word.specs.declared.statement.Placed.{Placed}
 pub use Rattle.micro_word.specs.declared.statement.PlacedNext.{PlacedNext}
 pub use Rattle.mal_line.specs.declared.next.Next.{Next}
 pub use Rattle.mal_parser.specs.declared.statement.Statement.{Statement}
-pub use Rattle.store_placement.specs.Prelude.{AreTaken, AreWithin, Demands, HasPlacement, IsChosen, IsChosenList, IsFilled, IsFirst, IsFirstTwo, IsListed}
+pub use Rattle.store_placement.specs.Prelude.{AreApart, AreTaken, AreWithin, Demands, HasPlacement, IsChosen, IsChosenList, IsFilled, IsFirst, IsFirstTwo, IsListed}
 pub use Rattle.store_placement.specs.Prelude.{IsOfStatements, IsPlacement, IsReadFrom, LeadsInside, Never, NeverTwo, NeverWith, Places, Refuses, are_different}
 pub use Rattle.store_placement.specs.Prelude.{are_split, demands, fixed_at, given, given_by, has_split, is_bad, is_false_target, is_free, is_free_low, is_kept}
 pub use Rattle.store_placement.specs.Prelude.{is_marked, is_opened_by, is_pair_of, is_true_target, is_wrong, magic, may_collide, number_at, opened_by}

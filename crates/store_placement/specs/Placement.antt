@@ -15,3 +15,7 @@ HasPlacement d = (address : ℕ → ℕ) × IsPlacement d address
 pub record Places (d : Demands) (addresses : List ℕ) : Type 0 where
   pub count : length addresses ≡ length d.fixed
   pub places : IsPlacement d (slice_index addresses)
+
+-- no two statements have one address
+abbrev pub AreApart : List ℕ → Type 0
+AreApart addresses = (s t : ℕ) → s < length addresses → t < length addresses → slice_index addresses s ≡ slice_index addresses t → s ≡ t

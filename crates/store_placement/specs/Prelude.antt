@@ -7,7 +7,7 @@ unfoldable pub use Rattle.store_placement.specs.First.{below}
 pub use Rattle.store_placement.specs.Forced.{given, given_by, same_address}
 unfoldable pub use Rattle.store_placement.specs.Forced.{all_forced, forced}
 pub use Rattle.store_placement.specs.Listed.{IsListed, are_different, is_kept}
-pub use Rattle.store_placement.specs.Placement.{HasPlacement, IsPlacement, Places}
+pub use Rattle.store_placement.specs.Placement.{AreApart, HasPlacement, IsPlacement, Places}
 pub use Rattle.store_placement.specs.Program.{Decodes, IsAtNone, IsFilled, IsOnlyAt, LeadsInside, goto_end, pair_of, placed_default, placed_next, placed_statement, statement_pair}
 unfoldable pub use Rattle.store_placement.specs.Program.{demands_of}
 pub use Rattle.store_placement.specs.Reading.{pair_address, with_free}

@@ -1,10 +1,10 @@
 //! The control store of a placed program.
-ghost use Rattle.std.specs.Prelude.{◌≡◌, ◌<◌, length, slice_index, IsTrue, MatchOption};
+ghost use Rattle.std.specs.Prelude.{◌≡◌, ◌<◌, length, slice_index, IsTrue};
 ghost use Rattle.mic_words.specs.declared.machine.Machine.{Machine};
 ghost use Rattle.micro_word.specs.Prelude.{is_valid};
 ghost use Rattle.mal_parser.specs.Prelude.{IsMalProgram};
 ghost use Rattle.store_placement.specs.Placement.{Places};
-ghost use Rattle.store_placement.specs.Program.{demands_of, placed_next, LeadsInside, IsPlacedAs, goto_end, placed_default, IsFilled, IsAtNone, IsOnlyAt};
+ghost use Rattle.store_placement.specs.Program.{demands_of, placed_next, LeadsInside, IsPlacedAs, goto_end, placed_default, IsFilled};
 
 use crate::placement::Placement;
 use mal_parser::{MalNext, MalProgram};
@@ -82,12 +82,4 @@ pub fn fill(program: &MalProgram, placement: &Placement) -> Store
         );
     }
     store
-}
-
-/// The statement at an address.
-pub fn statement_at(_program: &MalProgram, placement: &Placement, address: u16) -> Option<u16>
-    requires { Places (demands_of _program.now) placement.now }
-    ensures { MatchOption result (IsAtNone placement.now address) (IsOnlyAt placement.now address) }
-{
-    placement.statement_at(address)
 }

@@ -22,7 +22,7 @@ mod taken;
 pub use chosen::place;
 pub use constraints::Constraints;
 pub use demands::constraints_of;
-pub use filling::{fill, statement_at};
+pub use filling::fill;
 pub use laws::chosen_law;
 pub use placement::Placement;
 pub use refusal::PlaceError;

@@ -1,6 +1,8 @@
 //! A placement: an address for each statement, no two the same, which its type keeps.
 
-ghost use Rattle.std.specs.Prelude.{◌≡◌, ◌≢◌, ◌<◌, ℕ, List, length, slice_index, IfSome, IfNone};
+ghost use Rattle.std.specs.Prelude.{◌≡◌, ◌<◌, ℕ, List, length, slice_index, MatchOption};
+ghost use Rattle.store_placement.specs.Placement.{AreApart};
+ghost use Rattle.store_placement.specs.Program.{IsAtNone, IsOnlyAt};
 
 use arrayvec::ArrayVec;
 use std::marker::Model;
@@ -12,13 +14,19 @@ pub struct Placement {
 }
 
 impl Model for Placement {
+    ghost use Rattle.std.specs.Prelude.{List, ℕ};
+    ghost use Rattle.store_placement.specs.Placement.{AreApart};
+
     ghost Value = { List ℕ };
 
     ghost view = { λ p. p.addresses.items };
+
+    ghost invariant = { λ p. AreApart p.addresses.items };
 }
 
 impl Placement {
     pub(crate) fn of(addresses: ArrayVec<u16, 512>) -> Placement
+        requires { AreApart addresses.items }
         ensures { result ≡ addresses.items }
     {
         Placement { addresses }
@@ -32,10 +40,9 @@ impl Placement {
         self.addresses[s as usize]
     }
 
-    /// The first statement at the address.
-    pub(crate) fn statement_at(&self, address: u16) -> Option<u16>
-        ensures none { IfNone result ((s : ℕ) → s < length self.now → slice_index self.now s ≢ address) }
-        ensures some { IfSome result (λ s. (s < length self.now) × (slice_index self.now s ≡ address)) }
+    /// The statement at the address.
+    pub fn statement_at(&self, address: u16) -> Option<u16>
+        ensures { MatchOption result (IsAtNone self.now address) (IsOnlyAt self.now address) }
     {
         for s in 0..self.addresses.len() as u16 {
             if self.addresses[s as usize] == address {

@@ -1,5 +1,5 @@
-use Rattle.store_placement.proofs.Common.{◌≡◌, ℕ, Option, Err, List, slice_index, subst, ap, ◌∙◌, err_from_is_err_and, Pair, PlaceError, IsChosenList}
-use Rattle.store_placement.proofs.Common.{AreWithin, Demands, demands, Refuses}
+use Rattle.store_placement.proofs.Common.{◌≡◌, ℕ, Option, Err, List, slice_index, subst, ap, arith, ◌∙◌, err_from_is_err_and, Pair, PlaceError, IsChosenList}
+use Rattle.store_placement.proofs.Common.{AreApart, AreWithin, Demands, Places, demands, Refuses}
 use Rattle.store_placement.proofs.NoPlacement.{refused}
 use Rattle.store_placement.proofs.OneRefusal.{one_refusal}
 use Rattle.store_placement.proofs.chosen.place.Goals as goal
@@ -10,6 +10,12 @@ same_demands d fixed f pairs p same_f same_p is = ap (λ x. demands x p) same_f 
 
 within : (d : Demands) (fixed : List (Option ℕ)) (pairs : List Pair) → AreWithin fixed pairs → demands fixed pairs ≡ d → AreWithin d.fixed d.pairs
 within d fixed pairs h is = let W : Demands → Type 0 = λ e. AreWithin e.fixed e.pairs in subst W is h
+
+apart : (d : Demands) (addresses : List ℕ) → Places d addresses → AreApart addresses
+apart d addresses h s t s_in t_in same = h.places.apart s t (omega (arith, h.count, s_in)) (omega (arith, h.count, t_in)) same
+
+pub of-requires : goal.of-requires
+of-requires c = apart _ c.in_ok-addresses.addresses.items c.in_ok-addresses.ensures.ok.places
 
 pub returns-clause-err : goal.returns-clause-err
 returns-clause-err c =
