@@ -1,11 +1,10 @@
 //! A case's call is made, with files, console and streams in memory.
 
-use crate::case::{Answer, Case, Program};
-use crate::noted::NotedFiles;
+use crate::case::{Answer, Case, CaseFile, Program};
 use cli_call::mic_main;
 use cli_check::check_main;
 use cli_outside::Status;
-use mic_base::{MemSink, MemSource};
+use mic_base::{MemFiles, MemSink, MemSource};
 use std::alloc::{AllocError, Global};
 
 /// The most bytes that `out` and `err` take.
@@ -15,7 +14,7 @@ const ROOM: u32 = 1_200_000;
 fn call(
     alloc: Global,
     case: &Case,
-    files: &mut NotedFiles,
+    files: &mut MemFiles,
     console: &mut MemSource,
     out: &mut MemSink,
     err: &mut MemSink,
@@ -26,12 +25,26 @@ fn call(
     }
 }
 
+/// The files that were written, as they are now.
+fn written_in(alloc: Global, files: &MemFiles) -> Result<Vec<CaseFile>, AllocError> {
+    let mut written = Vec::new(alloc);
+    for name in files.written() {
+        if let Some(bytes) = files.find(name) {
+            written.push(CaseFile {
+                name: name.clone()?,
+                bytes: Vec::from_slice(alloc, bytes)?,
+            })?;
+        }
+    }
+    Ok(written)
+}
+
 /// What comes of the case's call.
 pub fn answer_of(alloc: Global, case: &Case) -> Result<Answer, AllocError> {
     let failing = &case.failing;
-    let mut files = NotedFiles::new(alloc, Vec::from_slice(alloc, &failing.files)?);
+    let mut files = MemFiles::new(alloc, Vec::from_slice(alloc, &failing.files)?);
     for file in &case.files {
-        files.add(file)?;
+        files.add(&file.name, &file.bytes)?;
     }
     let mut console = MemSource::new(
         Vec::from_slice(alloc, &case.console)?,
@@ -45,6 +58,6 @@ pub fn answer_of(alloc: Global, case: &Case) -> Result<Answer, AllocError> {
         out: Vec::from_slice(alloc, out.bytes())?,
         err: Vec::from_slice(alloc, err.bytes())?,
         left: Vec::from_slice(alloc, console.left())?,
-        written: files.written()?,
+        written: written_in(alloc, &files)?,
     })
 }

@@ -54,9 +54,8 @@ fn text_of(alloc: Global, rest: &str, ending: &str) -> Result<Vec<u8>, Refusal> 
 
 /// A text with the number of its turn in place of each `{n}`, `{3x}` and `{8x}`.
 fn numbered(alloc: Global, text: &str, turn: u32) -> Result<String, Refusal> {
-    let mut line = Line::new();
-    line.hex(u64::from(turn), 8);
-    let digits = str::from_utf8(line.bytes()).unwrap_or("");
+    let line = Line::addressed("", turn);
+    let digits = line.as_str();
     let mut text = text.replace(alloc, "{n}", &format!(in alloc; "{turn}")?)?;
     text = text.replace(alloc, "{8x}", digits)?;
     if let Some(three) = digits.strip_prefix("00000") {

@@ -1,6 +1,5 @@
 //! The names of the cases: one a line, in groups under headings that begin with `#`.
 
-use crate::names::has_name;
 use std::alloc::{AllocError, Global};
 use std::{fs, io};
 
@@ -13,6 +12,10 @@ pub fn read_index(alloc: Global, text: &str) -> Result<Vec<String>, AllocError> 
         }
     }
     Ok(names)
+}
+
+fn has_name(names: &[String], name: &str) -> bool {
+    names.iter().any(|known| known.as_str() == name)
 }
 
 /// How deep folders of cases may lie.

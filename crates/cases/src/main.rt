@@ -8,8 +8,6 @@ mod content;
 mod difference;
 mod hex;
 mod index;
-mod names;
-mod noted;
 mod part;
 mod reading;
 mod shown;

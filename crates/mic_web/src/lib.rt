@@ -9,7 +9,6 @@ ghost use Rattle.mic_web.specs.Given.{IsCallGiven};
 mod call;
 mod failing;
 mod given;
-mod noted;
 mod outside;
 mod program;
 mod told;

@@ -1,20 +1,19 @@
 //! The outside of a call, in memory: files, a console and two sinks.
 
 ghost use Rattle.std.specs.Prelude.{◌≡◌, ◌≢◌, Err, [], map, All, IfOk, IsErrOf};
-ghost use Rattle.mic_base.specs.Memory.{sink_bytes, sink_faults, sink_passed};
+ghost use Rattle.mic_base.specs.Memory.{files_contents, files_faults, sink_bytes, sink_faults, sink_passed};
 ghost use Rattle.mic_web.specs.Called.{Filled, IsGiven};
 ghost use Rattle.mic_web.specs.Given.{IsFileAt, file_given};
-ghost use Rattle.mic_web.specs.Seen.{noted_contents, noted_faults, seen};
+ghost use Rattle.mic_web.specs.Seen.{seen};
 
 use crate::failing::Failing;
 use crate::given::{FileSpans, NotMade, bytes_of, text_of};
-use crate::noted::NotedFiles;
-use mic_base::{MemSink, MemSource};
+use mic_base::{MemFiles, MemSink, MemSource};
 use std::alloc::Global;
 
 #[derive(Drop)]
 pub(crate) struct PageOutside {
-    pub(crate) files: NotedFiles,
+    pub(crate) files: MemFiles,
     pub(crate) console: MemSource,
     pub(crate) out: MemSink,
     pub(crate) err: MemSink,
@@ -26,12 +25,12 @@ fn files_of(
     given: &[u8],
     spans: &[FileSpans],
     failing: &[u64],
-) -> Result<NotedFiles, NotMade>
-    ensures filled { IfOk result (λ files. Filled (map (file_given given.now) spans.now) (noted_contents files)) }
-    ensures faults { IfOk result (λ files. noted_faults files ≡ 0) }
+) -> Result<MemFiles, NotMade>
+    ensures filled { IfOk result (λ files. Filled (map (file_given given.now) spans.now) (files_contents files)) }
+    ensures faults { IfOk result (λ files. files_faults files ≡ 0) }
     ensures no_call { IsErrOf result NotMade.NoCall → ¬ (All (IsFileAt given.now) spans.now) }
 {
-    let mut files = NotedFiles::new(alloc, Vec::from_slice(alloc, failing)?);
+    let mut files = MemFiles::new(alloc, Vec::from_slice(alloc, failing)?);
     for span in spans {
         let name = text_of(given, span.name)?;
         let contents = bytes_of(given, span.contents)?;

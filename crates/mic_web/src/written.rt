@@ -1,11 +1,11 @@
 //! The files that a call has written, for the page: names and contents one after another, and a table of where they lie.
 
 ghost use Rattle.std.specs.Prelude.{◌≡◌, ◌<◌, ◌≤◌, ◌+◌, length, take, All, IfNone, IfSome};
-ghost use Rattle.mic_web.specs.Seen.{noted_contents};
+ghost use Rattle.mic_base.specs.Memory.{files_contents};
 ghost use Rattle.mic_web.specs.Written.{AreRows, AreTooMany, IsPut, IsRowOf};
 
 use crate::given::{FileSpans, Span};
-use crate::noted::NotedFiles;
+use mic_base::MemFiles;
 
 /// Writes the bytes to the front, and returns how many they are. There is none where they do not fit.
 pub(crate) fn put_front(to: &mut [u8], bytes: &[u8]) -> Option<usize>
@@ -48,17 +48,17 @@ fn put_file(to: &mut [u8], start: usize, name: &[u8], contents: &[u8]) -> Option
 
 /// Writes the files that were written, and returns how many they are. There is none where they do not fit.
 pub(crate) fn put_files(
-    files: &NotedFiles,
+    files: &MemFiles,
     written: &mut [u8],
     table: &mut [FileSpans],
 ) -> Option<usize>
     ensures count { IfSome result (λ count. count ≤ length table.new) }
-    ensures rows { IfSome result (λ count. AreRows (noted_contents files.now) written.new (length written.new) (take count table.new)) }
-    ensures none { IfNone result (AreTooMany (noted_contents files.now) (length table.new) (length written.new)) }
+    ensures rows { IfSome result (λ count. AreRows (files_contents files.now) written.new (length written.new) (take count table.new)) }
+    ensures none { IfNone result (AreTooMany (files_contents files.now) (length table.new) (length written.new)) }
 {
     let mut count = 0;
     let mut end = 0;
-    for name in files.names() {
+    for name in files.written() {
         if let Some(contents) = files.find(name) {
             if count == table.len() {
                 return None;

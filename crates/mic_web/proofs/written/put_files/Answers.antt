@@ -1,6 +1,6 @@
 use Rattle.std.proofs.Common.{◌≡◌, ◌∙◌, Option, None, Some, IfNone, inl, inr, arith, ap, sym}
 use Rattle.mic_base.specs.Files.{file_in}
-use Rattle.mic_web.specs.Seen.{noted_contents}
+use Rattle.mic_base.specs.Memory.{files_contents}
 use Rattle.mic_web.proofs.Rows.{laid_more, too_many}
 use Rattle.mic_web.proofs.written.put_files.Goals as goal
 use Rattle.mic_web.proofs.written.put_files.Goals.{in-Some+else-count-table+in_ok-row, in_default}
@@ -18,7 +18,7 @@ returns-in_err-row-clause-none c =
     let named : c.as_bytes.result.now ≡ c.deref.result.now = cc (c.as_bytes.ensures.value, c.deref.ensures) in
     when_none _ _
     (too_many _ c.as_bytes.result.now c.in-Some.contents.now c.loop-name.count c.loop-name.end _ _ c.loop-name.invariant.are
-    (ap (file_in (noted_contents c.args.files.now)) named ∙ sym c.in-Some.ensures) (inr c.in_err-row.ensures.none))
+    (ap (file_in (files_contents c.args.files.now)) named ∙ sym c.in-Some.ensures) (inr c.in_err-row.ensures.none))
 
 pub loop-name-preserved : goal.loop-name-preserved
 loop-name-preserved c = elim c.match-find.branch [
@@ -26,6 +26,6 @@ loop-name-preserved c = elim c.match-find.branch [
       let named : w.as_bytes.result.now ≡ c.deref.result.now = cc (w.as_bytes.ensures.value, c.deref.ensures) in
       rw (w.written-is, w.table-is, w.count-is, w.end-is)
       (laid_more _ _ _ w.as_bytes.result.now w.in-Some.contents.now _ _ _ _ c.loop-name.invariant (omega arith) w.in_ok-row.ensures.row
-      (ap (file_in (noted_contents c.args.files.now)) named ∙ sym w.in-Some.ensures))
+      (ap (file_in (files_contents c.args.files.now)) named ∙ sym w.in-Some.ensures))
   | in_default w ↦ rw (w.written-is, w.table-is, w.count-is, w.end-is) c.loop-name.invariant
 ]
