@@ -24,17 +24,13 @@ use told::Told;
 /// Makes the call of a program that lies in `given`, and returns 0. Status and lengths are then in `told`, what was printed
 /// in the fronts of `out` and `err`, and the files that were written in `written`, as the front of `table` says. It returns
 /// 1 where memory runs out before the call, 2 where what is given is no call, and 3 where the written files do not fit.
-/// The calls of each part of the outside that are numbered in `fail_files`, `fail_console`, `fail_out` and `fail_err` fail.
 fn call_of<P: Program>(
     alloc: Global,
     given: &[u8],
     words: &[Span],
     files: &[FileSpans],
     console: &[u8],
-    fail_files: &[u64],
-    fail_console: &[u64],
-    fail_out: &[u64],
-    fail_err: &[u64],
+    failing: Failing<'_>,
     out: &mut [u8],
     err: &mut [u8],
     written: &mut [u8],
@@ -48,12 +44,6 @@ fn call_of<P: Program>(
     ensures untold { result ≢ 0 → told.new ≡ told.old }
     ensures others { result ≤ 3 }
 {
-    let failing = Failing {
-        files: fail_files,
-        console: fail_console,
-        out: fail_out,
-        err: fail_err,
-    };
     match Call::new(
         alloc,
         given,
@@ -76,7 +66,8 @@ fn call_of<P: Program>(
     }
 }
 
-/// Makes the call of `mic` that lies in `given`, as `call_of` says.
+/// Makes the call of `mic` that lies in `given`, as `call_of` says. The calls of each part of the outside that are numbered
+/// in `fail_files`, `fail_console`, `fail_out` and `fail_err` fail.
 #[unsafe(no_mangle)]
 pub extern "C" fn mic_web_call(
     alloc: Global,
@@ -107,10 +98,12 @@ pub extern "C" fn mic_web_call(
         words,
         files,
         console,
-        fail_files,
-        fail_console,
-        fail_out,
-        fail_err,
+        Failing {
+            files: fail_files,
+            console: fail_console,
+            out: fail_out,
+            err: fail_err,
+        },
         out,
         err,
         written,
@@ -119,7 +112,7 @@ pub extern "C" fn mic_web_call(
     )
 }
 
-/// Makes the call of `mic-check` that lies in `given`, as `call_of` says.
+/// Makes the call of `mic-check` that lies in `given`, as `mic_web_call` makes that of `mic`.
 #[unsafe(no_mangle)]
 pub extern "C" fn mic_check_call(
     alloc: Global,
@@ -150,10 +143,12 @@ pub extern "C" fn mic_check_call(
         words,
         files,
         console,
-        fail_files,
-        fail_console,
-        fail_out,
-        fail_err,
+        Failing {
+            files: fail_files,
+            console: fail_console,
+            out: fail_out,
+            err: fail_err,
+        },
         out,
         err,
         written,
