@@ -3,19 +3,10 @@
 
 use cli_check::{check_main, misused};
 use cli_outside::no_memory;
-use mic_base::{ReadAhead, StdFiles, StdSink, StdSource};
+use mic_base::{ReadAhead, StdFiles, StdSink, StdSource, words_of};
+use std::io;
 use std::io::Lock;
 use std::process::ExitCode;
-use std::{env, io};
-
-/// The words after the program's name.
-fn words_of(rt: &HostRuntime) -> io::Result<Vec<String>> {
-    let mut words = Vec::new(rt.alloc());
-    for word in env::args(rt)?.skip(1) {
-        words.push(word)?;
-    }
-    Ok(words)
-}
 
 fn main(rt: HostRuntime) -> ExitCode {
     let mut err = StdSink::new(rt.stderr());
