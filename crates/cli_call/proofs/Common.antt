@@ -26,7 +26,6 @@ pub use Rattle.mic_clock.specs.declared.end.End.{End}
 pub use Rattle.mic_clock.specs.declared.registers.Registers.{Registers}
 pub use Rattle.mic_datapath.specs.Prelude.{arrived, byte_under_way, flag, next_address, outcome, ports_given, sampled, written}
 pub use Rattle.mic_datapath.specs.declared.ports.Ports.{Ports}
-pub use Rattle.mic_image_board.specs.Prelude.{IsAtReset, reset_run}
 pub use Rattle.mic_watched.specs.Prelude.{ShowsCycles}
 pub use Rattle.mic_watched.specs.declared.cycle.Cycle.{Cycle}
 pub use Rattle.mic1_datapath.specs.Prelude.{IsReady, Micro, clock, mic1_meaning, micro_of, microstep, refusal, registers_of, result_of, settled, world_after}
@@ -43,7 +42,7 @@ pub use Rattle.ijvm_meaning.specs.declared.run.RunEnd.{RunEnd}
 pub use Rattle.ijvm_reference.specs.Prelude.{Reports}
 pub use Rattle.ijvm_reference.specs.declared.plain.PlainReport.{PlainReport}
 pub use Rattle.verifier_facts.specs.Prelude.{IsAccepted, VerifiedView}
-pub use Rattle.ijvm_simulation.specs.Prelude.{EndsAsDefined, HasRun, IsCutByRead, IsCutByWrite, MeetNoBound, board_end, boundary_of, program, told_of}
+pub use Rattle.ijvm_simulation.specs.Prelude.{EndsAsDefined, HasRun, IsAtReset, IsCutByRead, IsCutByWrite, MeetNoBound, board_end, boundary_of, program, reset_run, told_of}
 pub use Rattle.mic3_interpreter.specs.Prelude.{mic3_timing}
 pub use Rattle.tiny_tree.specs.Prelude.{Ended, Program, meaning}
 pub use Rattle.tiny_parser.specs.declared.error.TinyError.{TinyError}

@@ -8,7 +8,6 @@ pub use Rattle.mic_clock.specs.Prelude.{BoardView, Meaning, MicroRun, state_line
 pub use Rattle.mic_clock.specs.declared.counts.Counts.{Counts}
 pub use Rattle.mic_clock.specs.declared.end.End.{End}
 pub use Rattle.mic_clock.specs.declared.registers.Registers.{Registers}
-pub use Rattle.mic_image_board.specs.Prelude.{reset_run}
 pub use Rattle.mic_watched.specs.Prelude.{cycles_of}
 pub use Rattle.mic_watched.specs.declared.cycle.Cycle.{Cycle}
 pub use Rattle.mic1_datapath.specs.Prelude.{IsReady, Micro, mic1_meaning, micro_of, registers_of}
@@ -19,7 +18,7 @@ pub use Rattle.mal_shipped.specs.Prelude.{HasShipped, listed_program}
 pub use Rattle.ijvm_meaning.specs.Prelude.{Timing, timing_of}
 pub use Rattle.ijvm_reference.specs.declared.plain.PlainReport.{PlainReport}
 pub use Rattle.verifier_facts.specs.Prelude.{VerifiedView}
-pub use Rattle.ijvm_simulation.specs.Prelude.{HasRun, IsCutByRead, IsCutByWrite, board_end, told_of}
+pub use Rattle.ijvm_simulation.specs.Prelude.{HasRun, IsCutByRead, IsCutByWrite, board_end, reset_run, told_of}
 pub use Rattle.mic3_interpreter.specs.Prelude.{mic3_timing}
 pub use Rattle.tiny_tree.specs.Prelude.{Ended, Program, meaning}
 pub use Rattle.tiny_parser.specs.Prelude.{Spells}

@@ -14,12 +14,12 @@ pub use Rattle.mic_clock.specs.Prelude.{counts_at, counts_between, end_before, l
 pub use Rattle.mic_clock.specs.declared.counts.Counts.{Counts}
 pub use Rattle.mic_clock.specs.declared.end.End.{End}
 pub use Rattle.mic_clock.specs.declared.registers.Registers.{Registers}
-pub use Rattle.mic_image_board.specs.Prelude.{IsAtReset}
 pub use Rattle.mic_watched.specs.Prelude.{CanRun, LeadsOver, PrintsOf, ShowsCycles, cycle_between, cycles_of, kept_of, shown, shown_where}
 pub use Rattle.mic_watched.specs.declared.cycle.Cycle.{Cycle}
 pub use Rattle.mal_parser.specs.Prelude.{MalView}
 pub use Rattle.mal_shipped.specs.declared.loaded.Loaded.{Loaded}
 pub use Rattle.verifier_facts.specs.Prelude.{VerifiedView}
+pub use Rattle.ijvm_simulation.specs.Prelude.{IsAtReset}
 pub use Rattle.cli_outside.specs.Prelude.{Got, GotInPart, IsHad, IsNotHad, LentView, OutsideView, Over, Said, Says, SinkState, Unsaid, refusal_by, sink_of}
 pub use Rattle.cli_watchers.specs.Prelude.{AreClockedAfter, CacheKept, IsClockedAfter, Profile, SaysNothing, Silent, accesses_of, cache_line, counts_of}
 pub use Rattle.cli_watchers.specs.Prelude.{kept_after, kept_of_cycles, profile_after, profile_of_cycles, profile_text, start_profile}

@@ -8,10 +8,10 @@ use crate::microprogram::Microprogram;
 use crate::preparing::Prepared;
 use cli_outside::{Outside, Status};
 use cli_run_texts::{clocked_report, status_of};
+use ijvm_simulation::reset_board;
 use mal_shipped::Loaded;
 use mic_base::{Files, Sink, Source};
 use mic_clock::Clocked;
-use mic_image_board::reset_board;
 use std::alloc::Global;
 
 /// Clocks an accepted program with a microprogram to its end, and reports.

@@ -9,10 +9,10 @@ use crate::preparing::Prepared;
 use crate::report::report_after;
 use cli_outside::{Outside, Status};
 use cli_watchers::Tracer;
+use ijvm_simulation::reset_board;
 use mal_shipped::Loaded;
 use mic_base::{Files, Sink, Source};
 use mic_clock::Clocked;
-use mic_image_board::reset_board;
 use mic_watched::run_watched;
 use std::alloc::Global;
 

@@ -9,11 +9,11 @@ use cli_clocked::{Microprogram, Prepared};
 use cli_outside::{Outside, Status};
 use cli_run_texts::left_report;
 use cli_session::{Step, do_lines};
+use ijvm_simulation::reset_board;
 use mal_shipped::Loaded;
 use mic_base::{Files, PlainSource, Sink, Source};
 use mic_clock::{Board, Clocked};
 use mic_debugger::Session;
-use mic_image_board::reset_board;
 use std::alloc::{AllocError, Global};
 
 /// A session over an accepted program at its reset.

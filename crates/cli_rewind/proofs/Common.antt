@@ -13,8 +13,8 @@ pub use Rattle.mic_clock.specs.Prelude.{BoardView, Done, IsCutByFault, IsTurned,
 pub use Rattle.mic_clock.specs.Prelude.{after_end_or_step, after_step, bounded, end_before, turn, turn_by, turns, word_at}
 pub use Rattle.mic_clock.specs.declared.counts.Counts.{Counts}
 pub use Rattle.mic_clock.specs.declared.end.End.{End}
-pub use Rattle.mic_image_board.specs.Prelude.{reset_run}
 pub use Rattle.mic_rewind.specs.Prelude.{GoesBack, HistoryView, Keeps, RewindView, Snapshot, appended, state_of}
+pub use Rattle.ijvm_simulation.specs.Prelude.{reset_run}
 pub use Rattle.cli_outside.specs.Prelude.{FilesState, Got, OutsideView, SinkState, SourceState, files_of, files_state, outside_view, sink_of, source_of}
 pub use Rattle.cli_outside.specs.Prelude.{source_state}
 pub use Rattle.cli_session.specs.Prelude.{Gone, IsCutShort, IsFrontOf, OnlyGives, Place, front_given, front_lost, front_same, front_then, held_front, in_part}

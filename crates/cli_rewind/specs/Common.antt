@@ -6,12 +6,12 @@ pub use Rattle.console_port.specs.Prelude.{IsMap, Shows, StaysFlushed, World}
 pub use Rattle.mic_clock.specs.Prelude.{Meaning, MicroRun, ShowsRun, UsesConsole, tick_of, turns, word_at}
 pub use Rattle.mic_clock.specs.declared.counts.Counts.{Counts}
 pub use Rattle.mic_clock.specs.declared.end.End.{End}
-pub use Rattle.mic_image_board.specs.Prelude.{reset_run}
 pub use Rattle.mic_rewind.specs.Prelude.{HistoryView, RewindView, Snapshot, snapshot_of}
 pub use Rattle.mic_rewind.specs.declared.moment.Moment.{Moment}
 pub use Rattle.mal_parser.specs.Prelude.{MalView}
 pub use Rattle.mal_shipped.specs.declared.loaded.Loaded.{Loaded}
 pub use Rattle.verifier_facts.specs.Prelude.{VerifiedView}
+pub use Rattle.ijvm_simulation.specs.Prelude.{reset_run}
 pub use Rattle.cli_outside.specs.Prelude.{FilesState, Got, GotInPart, LentView, OutsideView, Over, SinkState, SourceState, TellsOnErr, name_in, out_of_memory}
 pub use Rattle.cli_outside.specs.Prelude.{outside_view, sink_of}
 pub use Rattle.cli_clocked.specs.Prelude.{EndsPrepared, IsFirstBoard, job_in}

@@ -9,10 +9,10 @@ use crate::rewinding::Rewinding;
 use cli_clocked::{Microprogram, Prepared};
 use cli_outside::{Outside, Status};
 use cli_session::{Step, do_lines};
+use ijvm_simulation::reset_board;
 use mal_shipped::Loaded;
 use mic_base::{Files, PlainSource, Sink, Source};
 use mic_clock::Clocked;
-use mic_image_board::reset_board;
 use mic_rewind::Rewind;
 use std::alloc::{AllocError, Global};
 

@@ -20,7 +20,6 @@ pub use Rattle.mic_clock.specs.Prelude.{word_at}
 pub use Rattle.mic_clock.specs.declared.counts.Boundary.{Boundary}
 pub use Rattle.mic_clock.specs.declared.counts.Counts.{Counts}
 pub use Rattle.mic_clock.specs.declared.end.End.{End}
-pub use Rattle.mic_image_board.specs.Prelude.{IsAtReset, reset_run}
 pub use Rattle.ijvm_instr.specs.Prelude.{begun_at, byte_below, operand_bytes, prefix, row_of, size_of, whole, word_of}
 unfoldable pub use Rattle.ijvm_instr.specs.Prelude.{instr_at, of_bytes}
 pub use Rattle.ijvm_instr.specs.declared.instr.Instr.{Instr}
@@ -28,3 +27,4 @@ pub use Rattle.ijvm_image.specs.Prelude.{ImageView, IsImage, method_at}
 pub use Rattle.ijvm_image.specs.declared.method.Method.{Method}
 pub use Rattle.ijvm_meaning.specs.declared.run.RunEnd.{RunEnd}
 pub use Rattle.verifier_facts.specs.Prelude.{Accepts, Finds, IsAccepted, IsMainCount, KeepsSound, VerifiedView}
+pub use Rattle.ijvm_simulation.specs.Reset.{IsAtReset, reset_run}

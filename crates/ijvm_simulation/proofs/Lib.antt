@@ -1,4 +1,5 @@
 pub mod Common
+pub mod Parts
 pub mod Passes
 pub mod Turns
 pub mod Instruction

@@ -12,7 +12,6 @@ pub use Rattle.mic_clock.specs.Prelude.{BoardView, Done, HasEndCause, IsClocking
 pub use Rattle.mic_clock.specs.Prelude.{ShowsRun, UsesConsole, number_of, turns, word_at}
 pub use Rattle.mic_clock.specs.declared.counts.Boundary.{Boundary}
 pub use Rattle.mic_clock.specs.declared.end.End.{End}
-pub use Rattle.mic_image_board.specs.Prelude.{IsAtReset, reset_run}
 pub use Rattle.ijvm_instr.specs.Prelude.{instr_at, target, word_of}
 pub use Rattle.ijvm_instr.specs.declared.instr.Instr.{Instr}
 pub use Rattle.ijvm_image.specs.Prelude.{ImageView, IsImage, method_at}

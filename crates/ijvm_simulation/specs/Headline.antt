@@ -2,7 +2,8 @@
 -- stands for the definition's run, and the board that is left shows where that run ended, or where a fault cut it.
 use Rattle.std.specs.Prelude.{◌≡◌, ◌⊎◌, ℕ, List, [], ◌++◌, replicate, Option, Some, IfSome, IsSome, unwrap_or, false}
 use Rattle.ijvm_simulation.specs.Common.{HasTextWords, IsLoaded, Untaken, LosesLast, World, Meaning, ReadsConsole, UsesConsole, BoardView, MicroRun, turns}
-use Rattle.ijvm_simulation.specs.Common.{word_at, IsClocking, reset_run, Timing, Finish, first_point, EndsBy, VerifiedView}
+use Rattle.ijvm_simulation.specs.Common.{word_at, IsClocking, Timing, Finish, first_point, EndsBy, VerifiedView}
+use Rattle.ijvm_simulation.specs.Reset.{reset_run}
 use Rattle.ijvm_simulation.specs.Stands.{IsAt}
 use Rattle.ijvm_simulation.specs.Simulates.{Simulates, IsEnd}
 use Rattle.ijvm_simulation.specs.Verified.{program}

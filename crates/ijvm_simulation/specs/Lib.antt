@@ -1,4 +1,5 @@
 pub mod Common
+pub mod Reset
 pub mod Stands
 pub mod Guesses
 pub mod Passes

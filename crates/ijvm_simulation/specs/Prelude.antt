@@ -12,6 +12,7 @@ pub use Rattle.ijvm_simulation.specs.Methods.{Arguments, IsConstant, IsMethod}
 pub use Rattle.ijvm_simulation.specs.Outcomes.{Fits, IsOutcome, Overflows, Overran, Returns, Stores, Went, WithConstant, WithLocal, WithMethod, WithTop, WithTwo, push}
 pub use Rattle.ijvm_simulation.specs.Passes.{Moment, is_inside, last, onward, outcome_at, pass, pass_on, stalls_at}
 pub use Rattle.ijvm_simulation.specs.Promises.{Interprets, Promises}
+pub use Rattle.ijvm_simulation.specs.Reset.{IsAtReset, reset_run}
 pub use Rattle.ijvm_simulation.specs.Simulates.{IsBoundary, IsEnd, Simulates, below, board_end, boundary_of, going_on, nth_point}
 pub use Rattle.ijvm_simulation.specs.Stack.{Top, Two, frame_with, place_after}
 pub use Rattle.ijvm_simulation.specs.Stalls.{Following, Booted, HasStalled, LimitsStall, MovesWithStalls, OverrunsWithStalls, RunsStall, StoppedWithin, TakesWithStalls}

@@ -1,7 +1,8 @@
 -- How many of its cycles stall: what a machine promises of its boot and of each instruction, and what its clock then has counted at each boundary of a run.
 use Rattle.std.specs.Prelude.{◌≡◌, ℕ, ◌+◌, ◌<◌, ◌≤◌, List, Some}
 use Rattle.ijvm_simulation.specs.Common.{World, Meaning, MicroRun, turns, ImageView, Instr, instr_at, State, start_of, Goes, Limits, step_outcome, TimedImage}
-use Rattle.ijvm_simulation.specs.Common.{Point, point_after, first_point, Timing, cost, VerifiedView, reset_run}
+use Rattle.ijvm_simulation.specs.Common.{Point, point_after, first_point, Timing, cost, VerifiedView}
+use Rattle.ijvm_simulation.specs.Reset.{reset_run}
 use Rattle.mic_clock.specs.declared.end.End.TheVariants as clocked
 use Rattle.ijvm_simulation.specs.Interpretation.{Interpretation}
 use Rattle.ijvm_simulation.specs.Stands.{Origin, IsAt}

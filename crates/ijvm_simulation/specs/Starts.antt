@@ -1,7 +1,7 @@
 -- How a run ends from its reset over a verified image, with the store that ships, no matter what clocks it.
 use Rattle.std.specs.Prelude.{◌≡◌, ℕ, List, Option, Some, false}
 use Rattle.ijvm_simulation.specs.Common.{Untaken, End, Meaning, BoardView, IsLedTo, Leads, ShowsRun, Timing, Finish, first_point, EndsBy, VerifiedView}
-use Rattle.ijvm_simulation.specs.Common.{IsAtReset}
+use Rattle.ijvm_simulation.specs.Reset.{IsAtReset}
 use Rattle.ijvm_simulation.specs.Simulates.{board_end}
 use Rattle.ijvm_simulation.specs.Verified.{program}
 

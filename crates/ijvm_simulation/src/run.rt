@@ -1,18 +1,19 @@
 //! The run of a verified image on a machine, from its reset to its end.
 
 ghost use Rattle.std.specs.Prelude.{◌≡◌, ◌<◌, ◌≤◌, ◌^◌, Some, IfOk, OnErr, IsSome};
-ghost use Rattle.ijvm_simulation.specs.Common.{SinkGoesOn, IsAtReset};
+ghost use Rattle.ijvm_simulation.specs.Common.{SinkGoesOn};
 ghost use Rattle.ijvm_simulation.specs.Interpretation.{interpretation, interpretation_with, Reading};
 ghost use Rattle.ijvm_simulation.specs.Answers.{RunsAsDefined, IsCutWhereReadFails, IsCutWhereWriteFails, EndsByCause};
 ghost use Rattle.ijvm_simulation.specs.Promises.{Interprets};
+ghost use Rattle.ijvm_simulation.specs.Reset.{IsAtReset};
 
 use crate::interpreter::Interpreter;
 use crate::readiness::Readiness;
+use crate::reset::reset_board;
 use ijvm_meaning::runs_keep_words;
 use ijvm_verifier::VerifiedImage;
 use mic_base::{Sink, Source};
 use mic_clock::{Board, Clocked, End};
-use mic_image_board::reset_board;
 use micro_word::Store;
 use std::alloc::{AllocError, Global};
 use verifier_facts::accepted_images_keep_sound;

@@ -3,11 +3,11 @@
 ghost use Rattle.std.specs.Prelude.{◌≡◌, ◌<◌, IfOk};
 ghost use Rattle.mic_words.specs.declared.machine.Machine.TheVariants as machines;
 ghost use Rattle.mic3_datapath.specs.Prelude.{mic3_meaning, pipeline_of};
-ghost use Rattle.mic_image_board.specs.Prelude.{IsAtReset};
+ghost use Rattle.ijvm_simulation.specs.Prelude.{IsAtReset};
 
+use ijvm_simulation::reset_board;
 use ijvm_verifier::VerifiedImage;
 use mic_clock::Board;
-use mic_image_board::reset_board;
 use mic3_datapath::Mic3;
 use micro_word::Store;
 use std::alloc::{AllocError, Global};

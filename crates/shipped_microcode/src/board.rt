@@ -6,11 +6,11 @@ ghost use Rattle.mic1_datapath.specs.Prelude.{mic1_meaning};
 ghost use Rattle.mic1_datapath.specs.View.{micro_of as micro_of1};
 ghost use Rattle.mic2_datapath.specs.Prelude.{mic2_meaning};
 ghost use Rattle.mic2_datapath.specs.View.{micro_of as micro_of2};
-ghost use Rattle.mic_image_board.specs.Prelude.{IsAtReset};
+ghost use Rattle.ijvm_simulation.specs.Prelude.{IsAtReset};
 
+use ijvm_simulation::reset_board;
 use ijvm_verifier::VerifiedImage;
 use mic_clock::Board;
-use mic_image_board::reset_board;
 use mic1_datapath::Mic1;
 use mic2_datapath::Mic2;
 use micro_word::Store;

@@ -1,7 +1,7 @@
 use Rattle.std.proofs.Common.{◌∙◌, ap}
 use Rattle.ijvm_image.specs.Prelude.{ImageView}
-use Rattle.mic_image_board.proofs.Parts.{image_by_parts}
-use Rattle.mic_image_board.proofs.reset.is_image.Goals as goal
+use Rattle.ijvm_simulation.proofs.Parts.{image_by_parts}
+use Rattle.ijvm_simulation.proofs.reset.is_image.Goals as goal
 
 pub returns : goal.returns
 returns c =

@@ -2,7 +2,7 @@
 
 ghost use Rattle.std.specs.Prelude.{◌≡◌, ◌<◌, length, IfOk};
 ghost use Rattle.ijvm_image.specs.Prelude.{IsWithinLimits, IsImage};
-ghost use Rattle.mic_image_board.specs.Reset.{IsAtReset};
+ghost use Rattle.ijvm_simulation.specs.Reset.{IsAtReset};
 
 use console_port::{Bus, FRAME};
 use ijvm_verifier::VerifiedImage;

@@ -1,2 +1,0 @@
-pub mod Reset
-pub mod Prelude
