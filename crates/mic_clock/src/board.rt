@@ -81,6 +81,7 @@ impl<M: Clocked> Board<M> {
             (S.left source.old) (K.held sink.old) self.old.bus sink.old sink.new }
     {
         turn_once(
+            true,
             &mut self.machine,
             &self.store,
             &mut self.bus,
@@ -182,6 +183,42 @@ impl<M: Clocked> Board<M> {
         self.running.end
     }
 
+    // One turn of a run. Where `tries` says so, its cycle is first tried as one that needs neither the source nor the sink.
+    #[inline(always)]
+    fn turn_by<S: Source, K: Sink>(
+        &mut self,
+        tries: bool,
+        bound: u64,
+        source: &mut S,
+        sink: &mut K,
+    ) -> Option<End>
+        requires { self.old.counts.cycles ≤ 2 ^ 62 + 4096 }
+        ensures turn { IsTurned M.state M.meaning (S.left source.old) (K.held sink.old) self.old (S.left source.new) (K.held sink.new) self.new (Some bound) }
+        ensures read { RunIsCutByRead M.state M.meaning (S.left source.old) (K.held sink.old) self.old
+            (S.left source.new) (K.held sink.new) self.new (Some bound) }
+        ensures write { TurnIsCut M.state M.meaning bound (S.left source.old) (K.held sink.old) self.old (S.left source.new) (K.held sink.new) self.new }
+        ensures value { result ≡ self.new.end }
+        ensures goes_on { GoesOn S.left S.faults K.held K.passed K.faults source.old sink.old self.old source.new sink.new self.new }
+        ensures below { self.new.end ≡ None → IsBelow M.state M.meaning bound self.old }
+        ensures counted { IsCountedTurn M.state M.meaning self.old self.new }
+        ensures in_time { KeepsInTime M.state M.meaning self.old self.new bound }
+    {
+        if let Some(end) = self.stop_at(bound, sink) {
+            return Some(end);
+        }
+        turn_once(
+            tries,
+            &mut self.machine,
+            &self.store,
+            &mut self.bus,
+            &mut self.running,
+            &mut self.tally,
+            source,
+            sink,
+        );
+        self.running.end
+    }
+
     /// One turn of a run: the test of the bound, and where it does not end the board, a cycle.
     #[inline(always)]
     pub fn turn<S: Source, K: Sink>(
@@ -201,11 +238,7 @@ impl<M: Clocked> Board<M> {
         ensures counted { IsCountedTurn M.state M.meaning self.old self.new }
         ensures in_time { KeepsInTime M.state M.meaning self.old self.new bound }
     {
-        if let Some(end) = self.stop_at(bound, sink) {
-            return Some(end);
-        }
-        self.cycle(source, sink);
-        self.running.end
+        self.turn_by(true, bound, source, sink)
     }
 
     // Turns that need neither the source nor the sink. In a function of its own, so that only they are in its loop.
@@ -225,7 +258,7 @@ impl<M: Clocked> Board<M> {
         );
     }
 
-    // The turns that need neither the source nor the sink, and then one turn of any kind.
+    // The turns that need neither the source nor the sink, and then one that is not tried as such a turn once more.
     fn stride<S: Source, K: Sink>(&mut self, bound: u64, source: &mut S, sink: &mut K)
         requires running { self.old.end ≡ None }
         requires cycles { (bound ≤ 2 ^ 62) × (self.old.counts.cycles ≤ 2 ^ 62 + 2048) }
@@ -241,7 +274,7 @@ impl<M: Clocked> Board<M> {
         ensures onward { self.new.end ≡ None → self.old.counts.cycles < self.new.counts.cycles }
     {
         self.run_inside(bound);
-        self.turn(bound, source, sink);
+        self.turn_by(false, bound, source, sink);
     }
 
     /// Turns until the run ends, with the test of the bound before each, and then the flush.

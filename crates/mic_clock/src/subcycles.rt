@@ -6,7 +6,7 @@ ghost use Rattle.mic_clock.specs.Edge.{IsEdgeOver};
 
 use crate::buses::{Computed, Drive};
 use crate::clocked::Clocked;
-use crate::cycle::{decoded_at, edge};
+use crate::cycle::decoded_at;
 use crate::phase::Phase;
 use crate::registers::Start;
 use console_port::{Bus, BusFault};
@@ -125,8 +125,7 @@ impl<M: Clocked> Subcycles<M> {
             bus.new source.new sink.new result }
     {
         self.phase = Phase::AtRest;
-        edge(
-            &mut self.machine,
+        self.machine.edge(
             self.word,
             &self.lines,
             self.drive,

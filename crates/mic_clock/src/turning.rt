@@ -27,10 +27,12 @@ fn ticked(stalled: bool) -> Tick
     }
 }
 
-/// One turn without the test of the bound: an end that comes before a cycle, or a cycle.
+/// One turn without the test of the bound: an end that comes before a cycle, or a cycle. Where `tries` says so, it is first
+/// tried as one that needs neither the source nor the sink.
 #[inline(always)]
 #[tactic(auto, using(crate::proofs::Rules::ends_as_ruled, crate::proofs::Rules::ended_as_ruled, crate::proofs::Rules::counted_as_ruled))]
 pub fn turn_once<M: Clocked, S: Source, K: Sink>(
+    tries: bool,
     machine: &mut M,
     store: &Store,
     bus: &mut Bus,
@@ -61,7 +63,7 @@ pub fn turn_once<M: Clocked, S: Source, K: Sink>(
         end_here(running, tally, end);
         return Tick::Ended(end);
     }
-    match clock(machine, store, bus, source, sink) {
+    match clock(tries, machine, store, bus, source, sink) {
         Ok(stalled) => {
             count(running, tally, stalled, machine);
             ticked(stalled)
@@ -163,9 +165,9 @@ pub fn turn_to_boundary<M: Clocked, S: Source, K: Sink>(
         cycles: running.cycles,
         end: None,
     };
-    turn_once(machine, store, bus, &mut here, tally, source, sink);
+    turn_once(true, machine, store, bus, &mut here, tally, source, sink);
     'inside: while here.end.is_none() && !machine.at_boundary() {
-        turn_once(machine, store, bus, &mut here, tally, source, sink);
+        turn_once(true, machine, store, bus, &mut here, tally, source, sink);
     }
     running.cycles = here.cycles;
     running.end = here.end;

@@ -1,49 +1,20 @@
-use Rattle.mic_clock.proofs.Common.{ℕ, ap, ◌∙◌, Drive}
-use Rattle.mic_clock.specs.Prelude.{buses_in}
-use Rattle.mic_clock.proofs.Whole.{at_edge, decoded_there, drove_there, over_failed, over_told, word_there}
+use Rattle.mic_clock.proofs.Common.{inl, refl, subst, BusView}
+use Rattle.mic_clock.specs.Prelude.{IsEdgeOver, word_at}
+use Rattle.mic_clock.proofs.Whole.{over_told}
 use Rattle.mic_clock.proofs.cycle.clock.Goals as goal
 
-pub drive-drive-requires : goal.drive-drive-requires
-drive-drive-requires g c = decoded_there g.M.Clocked.meaning (g.M.Clocked.state c.args.machine.now) _ _ _ c.requires c.decoded_at-word.ensures.decoded
-
-pub compute-computed-requires-clause-decoded : goal.compute-computed-requires-clause-decoded
-compute-computed-requires-clause-decoded g c = decoded_there g.M.Clocked.meaning (g.M.Clocked.state c.args.machine.now) _ _ _ c.requires c.decoded_at-word.ensures.decoded
-
-pub compute-computed-requires-clause-drive : goal.compute-computed-requires-clause-drive
-compute-computed-requires-clause-drive g c =
-    drove_there g.M.Clocked.meaning (g.M.Clocked.state c.args.machine.now) _ _ _ c.requires c.decoded_at-word.ensures.decoded _ c.drive-drive.ensures.state _ c.drive-drive.ensures.value
-
-pub edge-requires : goal.edge-requires
-edge-requires g c =
-    at_edge g.M.Clocked.meaning (g.M.Clocked.state c.args.machine.now) _ _ _ c.requires c.decoded_at-word.ensures.decoded
-    _ c.drive-drive.ensures.state _ c.drive-drive.ensures.value _ c.compute-computed.ensures
-
-pub returns-clause-stalled : goal.returns-clause-stalled
-returns-clause-stalled g c =
+pub returns-in-Some-clause-edge : goal.returns-in-Some-clause-edge
+returns-in-Some-clause-edge g c =
     let m = g.M.Clocked.meaning in
     let s = g.M.Clocked.state c.args.machine.now in
-    ap (λ (d : Drive). d.stalled) c.drive-drive.ensures.value
-    ∙ ap (λ (w : ℕ). (m.drives w s).stalled) (word_there m s c.args.store.now.words _ _ c.decoded_at-word.ensures.word c.mpc.ensures.value)
+    over_told m g.S.Source.left g.K.Sink.held _ _ s s refl refl c.args.bus.now c.args.source.now c.args.sink.now
+    (g.M.Clocked.state c.clock_inside.new.machine) c.clock_inside.new.bus c.args.source.now c.args.sink.now c.in-Some.stalled
+    (record { edge = c.in-Some.ensures.edge (g.S.Source.left c.args.source.now) (g.K.Sink.held c.args.sink.now); waits = λ room. inl refl })
 
-pub returns-clause-seen : goal.returns-clause-seen
-returns-clause-seen g c =
+pub returns-in-None-clause-edge : goal.returns-in-None-clause-edge
+returns-in-None-clause-edge g c =
     let m = g.M.Clocked.meaning in
-    let s = g.M.Clocked.state c.args.machine.now in
-    let there = word_there m s c.args.store.now.words _ _ c.decoded_at-word.ensures.word c.mpc.ensures.value in
-    c.in_ok-edge.ensures.seen ∙ (λ i. buses_in m (there i) (c.drive-drive.ensures.state i))
-
-pub returns-clause-edge : goal.returns-clause-edge
-returns-clause-edge g c =
-    let m = g.M.Clocked.meaning in
-    let s = g.M.Clocked.state c.args.machine.now in
-    over_told m g.S.Source.left g.K.Sink.held _ _ _ _ (word_there m s c.args.store.now.words _ _ c.decoded_at-word.ensures.word c.mpc.ensures.value)
-    c.drive-drive.ensures.state c.args.bus.now c.args.source.now c.args.sink.now
-    (g.M.Clocked.state c.edge.new.machine) c.edge.new.bus c.edge.new.source c.edge.new.sink _ c.in_ok-edge.ensures.edge
-
-pub returns-in_err-edge-clause-edge : goal.returns-in_err-edge-clause-edge
-returns-in_err-edge-clause-edge g c =
-    let m = g.M.Clocked.meaning in
-    let s = g.M.Clocked.state c.args.machine.now in
-    over_failed m g.S.Source.left g.K.Sink.held _ _ _ _ (word_there m s c.args.store.now.words _ _ c.decoded_at-word.ensures.word c.mpc.ensures.value)
-    c.drive-drive.ensures.state c.args.bus.now c.args.source.now c.args.sink.now
-    (g.M.Clocked.state c.edge.new.machine) c.edge.new.bus c.edge.new.source c.edge.new.sink c.in_err-edge.field-0.0 _ c.from_residual.ensures.1 c.in_err-edge.ensures.edge
+    let same = c.in-None.ensures.none in
+    let Over : g.M.Clocked.State → BusView → Type 0 = λ s b. IsEdgeOver m g.S.Source.left g.K.Sink.held (word_at m c.args.store.now.words s) s b c.args.source.now c.args.sink.now
+    (g.M.Clocked.state c.clock_outside-in-None.new.machine) c.clock_outside-in-None.new.bus c.clock_outside-in-None.new.source c.clock_outside-in-None.new.sink c.clock_outside-in-None.result in
+    subst (λ (s : g.M.Clocked.State). Over s c.args.bus.now) same.0 (subst (Over (g.M.Clocked.state c.clock_inside.new.machine)) same.2 c.clock_outside-in-None.ensures.edge)
