@@ -34,23 +34,20 @@ constant_at g n s None = refl
 constant_at g n s (Some v) = pushed_at g n s v (s.at + 3)
 
 loaded_at : (g : List ℕ) (n : ℕ) (s : State) (v : Option (Option ℕ)) (to : ℕ) → loaded n (following g s) v to ≡ lifted g (loaded n s v to)
-loaded_at g n s None to = refl
-loaded_at g n s (Some None) to = refl
 loaded_at g n s (Some (Some v)) to = pushed_at g n s v to
+loaded_at g n s _ to = refl
 
 stored_by : (g : List ℕ) (a b : Bool) (to : State) → (if a then (if b then Goes (following g to) else Stuck) else Stuck) ≡ lifted g (if a then (if b then Goes to else Stuck) else Stuck)
 stored_by g true true to = refl
-stored_by g true false to = refl
-stored_by g false b to = refl
+stored_by g _ _ to = refl
 
 stored_at : (g : List ℕ) (s : State) (k : ℕ) (operands : List ℕ) (to : ℕ) → stored (following g s) k operands to ≡ lifted g (stored s k operands to)
 stored_at g s k [] to = refl
 stored_at g s k (v ∷ rest) to = stored_by g (is_own s.running.back k) (nat_lt k (length s.running.locals)) (with_local s k v rest to)
 
 increased_at : (g : List ℕ) (s : State) (k : ℕ) (b : ℤ) (v : Option (Option ℕ)) (to : ℕ) → increased (following g s) k b v to ≡ lifted g (increased s k b v to)
-increased_at g s k b None to = refl
-increased_at g s k b (Some None) to = refl
 increased_at g s k b (Some (Some v)) to = refl
+increased_at g s k b _ to = refl
 
 popped_at : (g : List ℕ) (s : State) (operands : List ℕ) → popped (following g s) operands ≡ lifted g (popped s operands)
 popped_at g s [] = refl
@@ -61,29 +58,24 @@ doubled_at g n s [] = refl
 doubled_at g n s (y ∷ rest) = pushed_at g n s y (s.at + 1)
 
 swapped_at : (g : List ℕ) (s : State) (operands : List ℕ) → swapped (following g s) operands ≡ lifted g (swapped s operands)
-swapped_at g s [] = refl
-swapped_at g s (y ∷ []) = refl
 swapped_at g s (y ∷ x ∷ rest) = refl
+swapped_at g s _ = refl
 
 combined_at : (g : List ℕ) (f : ℕ → ℕ → ℕ) (s : State) (operands : List ℕ) → combined f (following g s) operands ≡ lifted g (combined f s operands)
-combined_at g f s [] = refl
-combined_at g f s (y ∷ []) = refl
 combined_at g f s (y ∷ x ∷ rest) = refl
+combined_at g f s _ = refl
 
 branched_at : (g : List ℕ) (test : ℕ → Bool) (s : State) (o : ℤ) (operands : List ℕ) → branched test (following g s) o operands ≡ lifted g (branched test s o operands)
 branched_at g test s o [] = refl
 branched_at g test s o (y ∷ rest) = refl
 
 compared_at : (g : List ℕ) (s : State) (o : ℤ) (operands : List ℕ) → compared (following g s) o operands ≡ lifted g (compared s o operands)
-compared_at g s o [] = refl
-compared_at g s o (y ∷ []) = refl
 compared_at g s o (y ∷ x ∷ rest) = refl
+compared_at g s o _ = refl
 
 returned_at : (g : List ℕ) (s : State) (back : Option ℕ) (callers : List Frame) (operands : List ℕ) → returned (following g s) back callers operands ≡ lifted g (returned s back callers operands)
-returned_at g s None callers operands = refl
-returned_at g s (Some back) [] operands = refl
-returned_at g s (Some back) (f ∷ fs) [] = refl
 returned_at g s (Some back) (f ∷ fs) (y ∷ rest) = refl
+returned_at g s _ _ _ = refl
 
 entered_by : (g : List ℕ) (t : Bool) (n : ℕ) (s to : State) → (if t then limited n (following g s) (following g to) else Stuck) ≡ lifted g (if t then limited n s to else Stuck)
 entered_by g true n s to = limited_at g n s to

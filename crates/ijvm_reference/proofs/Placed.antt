@@ -1,7 +1,7 @@
 -- Frames keep their places.
-use Rattle.std.proofs.Common.{◌≡◌, ◌≤◌, ◌<◌, ◌^◌, ◌++◌, reverse, ℕ, ◌+◌, ◌-◌, take, drop, replicate, Bool, true, false, List, [], ◌∷◌, length, Option, Some}
-use Rattle.std.proofs.Common.{None, slice_set, sym, ap, ◌∙◌, subst, arith, length-set, length-drop, length-take-le}
-use Rattle.std.proofs.lemmas.List.{reverse-append, length-replicate}
+use Rattle.std.proofs.Common.{◌≡◌, ◌≤◌, ◌<◌, ◌^◌, ℕ, ◌+◌, ◌-◌, take, drop, replicate, Bool, true, false, List, [], ◌∷◌, length, Option, Some}
+use Rattle.std.proofs.Common.{None, slice_set, sym, ap, ap₂, ◌∙◌, subst, arith, length-set, length-drop, length-take-le}
+use Rattle.std.proofs.lemmas.List.{length-replicate}
 use Rattle.ijvm_meaning.specs.Prelude.{Frame, base, kept_words, called, onto}
 use Rattle.ijvm_reference.specs.Prelude.{ArePlaced, Pops, Stores, Swaps}
 
@@ -41,36 +41,27 @@ length-onto (p ∷ ps) locals =
     let later : length (onto ps (Some p ∷ locals)) ≡ length ps + length (Some p ∷ locals) = length-onto ps (Some p ∷ locals) in
     omega arith
 
+-- the frames after a call take this many words more
+pub base_call : (running : Frame) (callers : List Frame) (n others back : ℕ) → n + 1 ≤ length running.operands →
+    base (called (take n running.operands) others back ∷ record running { operands = drop (n + 1) running.operands } ∷ callers)
+    ≡ base (running ∷ callers) + (others + 2)
+base_call running callers n others back enough =
+    let rest : length (drop (n + 1) running.operands) ≡ length running.operands - (n + 1) = length-drop (n + 1) running.operands in
+    let many : length (take n running.operands) ≡ n = length-take-le n running.operands (let e : n ≤ length running.operands = omega arith in e) in
+    let own : length (onto (take n running.operands) (replicate {A = Option ℕ} others None)) ≡ length (take n running.operands) + length (replicate {A = Option ℕ} others None) =
+    length-onto (take n running.operands) (replicate others None) in
+    let unset : length (replicate {A = Option ℕ} others None) ≡ others = length-replicate others None in
+    omega arith
+
 -- a called method's frame begins where the caller's operands now end
 pub placed_call : (stack_end lv lv' n others back : ℕ) (running caller frame : Frame) (callers : List Frame) → n + 1 ≤ length running.operands →
     base (running ∷ callers) + others + 2 ≤ stack_end → caller ≡ record running { operands = drop (n + 1) running.operands } →
     frame ≡ called (take n running.operands) others back → lv' ≡ lv + (length caller.locals + kept_words caller.back + length caller.operands) →
     ArePlaced stack_end lv running callers → ArePlaced stack_end lv' frame (caller ∷ callers)
 placed_call stack_end lv lv' n others back running caller frame callers enough room is_caller is_frame begins h =
-    let locals : length caller.locals ≡ length running.locals = ap (λ (f : Frame). length f.locals) is_caller in
-    let kept : kept_words caller.back ≡ kept_words running.back = ap (λ (f : Frame). kept_words f.back) is_caller in
-    let fewer : length caller.operands ≡ length (drop (n + 1) running.operands) = ap (λ (f : Frame). length f.operands) is_caller in
-    let rest : length (drop (n + 1) running.operands) ≡ length running.operands - (n + 1) = length-drop (n + 1) running.operands in
-    let many : length (take n running.operands) ≡ n = length-take-le n running.operands (let e : n ≤ length running.operands = omega arith in e) in
-    let own : length (onto (take n running.operands) (replicate {A = Option ℕ} others None)) ≡ length (take n running.operands) + length (replicate {A = Option ℕ} others None) =
-    length-onto (take n running.operands) (replicate others None) in
-    let unset : length (replicate {A = Option ℕ} others None) ≡ others = length-replicate others None in
-    let size : length (called (take n running.operands) others back).locals ≡ 1 + n + others = omega arith in
-    let frame_size : length frame.locals ≡ 1 + n + others = ap (λ (f : Frame). length f.locals) is_frame ∙ size in
-    let frame_kept : kept_words frame.back ≡ 2 = ap (λ (f : Frame). kept_words f.back) is_frame in
-    let frame_empty : length frame.operands ≡ 0 = ap (λ (f : Frame). length f.operands) is_frame in
-    let old : base callers + length running.locals + kept_words running.back + length running.operands + others + 2 ≤ stack_end = room in
-    let at : lv ≡ base callers = h.begins in
-    let sum : base callers + length caller.locals + kept_words caller.back + length caller.operands + length frame.locals + kept_words frame.back + length frame.operands ≤ stack_end = omega arith in
-    record {
-      begins = begins ∙ (let e : lv + (length caller.locals + kept_words caller.back + length caller.operands)
-          ≡ base callers + length caller.locals + kept_words caller.back + length caller.operands = omega arith in e);
-      fits = sum;
-      word = h.word;
-    }
-
-pub reverse_end : (fs : List Frame) (f : Frame) → reverse (fs ++ f ∷ []) ≡ f ∷ reverse fs
-reverse_end fs f = reverse-append fs (f ∷ [])
+    let size : base (frame ∷ caller ∷ callers) ≡ base (running ∷ callers) + (others + 2) =
+    ap₂ (λ (f g : Frame). base (f ∷ g ∷ callers)) is_frame is_caller ∙ base_call running callers n others back enough in
+    record { begins = omega (arith, h.begins, begins); fits = omega (arith, room, size); word = h.word }
 
 -- what is known of a caller
 pub caller_words : (stack_end lv : ℕ) (running f : Frame) (callers fs : List Frame) → callers ≡ f ∷ fs → ArePlaced stack_end lv running callers →

@@ -8,22 +8,13 @@ use Rattle.ijvm_reference.specs.declared.frames.StepError.TheVariants as errors
 use Rattle.ijvm_meaning.specs.declared.run.RunEnd.TheVariants as defined
 use Rattle.ijvm_reference.specs.declared.plain.PlainEnd.TheVariants as ends
 use Rattle.ijvm_meaning.specs.Prelude.{State, StepOutcome, Goes, Halts, Errs, Limits, step_outcome, limits-same, same_frames, timing_of, next_cost, TimedImage, Point, Finish, point_after, completed, stopped, after_outcome, after_test, finish_from, EndsBy, Passes, Start, More}
-use Rattle.ijvm_reference.specs.Prelude.{MachineView, KeepsProgram, state_of, IsLedOn, Does, IsCutOff, IsMetBy, HasKept, program_of, point_at, RunEndsWith, EndsIn, IsAllBut, IsAtBoundary, IsCut, ComesFurther, StoppedBy, IsShown, ShownBy, LedTo, TurnsTo, GoesOn, counts_after, stop_by, Reaches, Begins, Onward, cut_by}
+use Rattle.ijvm_reference.specs.Prelude.{MachineView, KeepsProgram, state_of, IsLedOn, Does, IsCutOff, IsMetBy, HasKept, program_of, point_at, EndsIn, IsAllBut}
+use Rattle.ijvm_reference.specs.Prelude.{IsAtBoundary, IsCut, ComesFurther, StoppedBy, IsShown, ShownBy, LedTo, TurnsTo, GoesOn, counts_after, stop_by, Reaches}
+use Rattle.ijvm_reference.specs.Prelude.{Begins, Onward, cut_by}
 use Rattle.ijvm_reference.proofs.Costs.{next_cost-least}
 use Rattle.ijvm_reference.proofs.SafeLemmas.{some_untaken, some_given}
 use Rattle.ijvm_reference.proofs.Keeping.{next_kept}
-
--- what a step leads to may be replaced by what follows from it
-pub led_as : (left held : Option (List ℕ)) (c : ConsoleView) (left' held' : Option (List ℕ)) (c' : ConsoleView) (P Q : List ℕ → List ℕ → List ℕ → List ℕ → Type 0) →
-    IsLedOn left held c left' held' c' P → ((u g u' g' : List ℕ) → Untaken left c.ended u → P u g u' g' → Q u g u' g') → LedTo Given left held c left' held' c' Q
-led_as left held c left' held' c' P Q led told = λ rest here.
-    let first = led rest here in (
-      first.0,
-      first.1,
-      λ given shown.
-          let next = first.2 given shown in
-          (next.0, next.1, told first.0 given rest next.0 first.1 next.2),
-    )
+use Rattle.ijvm_reference.proofs.Turned.{led_as}
 
 -- the run ends at this boundary, by the outcome of its instruction
 ends_by : (p : TimedImage) (bound : ℕ) (at : Point) (o : StepOutcome) (f : Finish) → at.cycles < bound → step_outcome p.image p.stack_end at.state ≡ o →
@@ -43,11 +34,13 @@ completed_ends o end bound machine old new counts cost u g u' g' under boundary 
       record {
         finish = completed p at end;
         ends = ends_by p bound at o (completed p at end) under does (then_ p at);
-        boundary = sym boundary;
-        cycles = ap (λ (k : ℕ). counts.cycles + k) (sym is);
-        instructions = refl;
-        last = same_frames at.state;
-        left = sym same;
+        stands = record {
+          boundary = sym boundary;
+          all = ap (λ (k : ℕ). counts.cycles + k) (sym is);
+          completed = refl;
+          frames = same_frames at.state;
+          left_is = sym same;
+        };
       },
       refl,
     )
@@ -61,11 +54,13 @@ limit_ends bound machine old new counts u g u' g' under boundary does =
       record {
         finish = stopped at defined.StackLimit left;
         ends = ends_by p bound at (Limits left) (stopped at defined.StackLimit left) under does refl;
-        boundary = sym boundary;
-        cycles = refl;
-        instructions = refl;
-        last = (limits-same p.image p.stack_end at.state left does).frames;
-        left = refl;
+        stands = record {
+          boundary = sym boundary;
+          all = refl;
+          completed = refl;
+          frames = (limits-same p.image p.stack_end at.state left does).frames;
+          left_is = refl;
+        };
       },
       refl,
     )
@@ -101,11 +96,7 @@ bound_ends told c held bound machine m cycles instructions r u g over boundary a
       record {
         finish = stopped at defined.Bound at.state;
         ends = (suc zero, ap (after_test (finish_from p bound zero) p at) (le-leb bound cycles over));
-        boundary = sym boundary;
-        cycles = sym all;
-        instructions = sym one;
-        last = same_frames at.state;
-        left = refl;
+        stands = record { boundary = sym boundary; all = sym all; completed = sym one; frames = same_frames at.state; left_is = refl };
       },
       refl,
     )
@@ -114,17 +105,23 @@ cut_here : (e : StepError) (told : Bool) (c : ConsoleView) (held : Option (List 
     IsMetBy e (instr_at old.image.text old.at) c → (e ≡ errors.WriteFault → IsAllBut held c.kept g) → r.boundary ≡ cycles → r.cycles ≡ cycles → r.instructions ≡ instructions →
     IsCut e told c held (program_of old machine) bound (point_at old cycles instructions u g) r new u g
 cut_here e told c held bound machine old new cycles instructions r u g same under met lost boundary all one =
+    let at : Point = point_at old cycles instructions u g in
     record {
-      at = point_at old cycles instructions u g;
+      at = at;
       console = c;
-      reaches = Begins _ c refl refl;
-      under = under;
-      met = met;
-      boundary = sym boundary;
-      cycles = sym all;
-      instructions = sym one;
-      state = ap (λ (m : MachineView). state_of m u g) (sym same);
-      lost = lost;
+      reaches = Begins at c refl refl;
+      cut = record {
+        under = under;
+        met = met;
+        stands = record {
+          boundary = sym boundary;
+          all = sym all;
+          completed = sym one;
+          frames = same_frames at.state;
+          left_is = ap (λ (m : MachineView). state_of m u g) (sym same);
+        };
+        lost = lost;
+      };
     }
 
 cut_reported : (e : StepError) (told : Bool) (c : ConsoleView) (held : Option (List ℕ)) (p : TimedImage) (bound : ℕ) (from : Point) (r : Counts) (new : MachineView) (u g : List ℕ) →
@@ -221,43 +218,25 @@ reaches_on told p bound from c0 at c to d first (Begins a b same is) =
     subst (λ (x : Point). Reaches told p bound from c0 x d) (sym same) (subst (λ (v : ConsoleView). Reaches told p bound from c0 at v) (sym is) first)
 reaches_on told p bound from c0 at c to d first (Onward b next e e' more on) = Onward b next e e' (reaches_on told p bound from c0 at c b e first more) on
 
-abbrev cut_on : (e : StepError) (told : Bool) (held : Option (List ℕ)) (p : TimedImage) (bound : ℕ) (from at : Point) (c0 c : ConsoleView) (r : Counts) (new : MachineView) (u g : List ℕ) →
+cut_on : (e : StepError) (told : Bool) (held : Option (List ℕ)) (p : TimedImage) (bound : ℕ) (from at : Point) (c0 c : ConsoleView) (r : Counts) (new : MachineView) (u g : List ℕ) →
     Reaches told p bound from c0 at c → IsCut e told c held p bound at r new u g → IsCut e told c0 held p bound from r new u g
-cut_on e told held p bound from at c0 c r new u g first cut =
-    record {
-      at = cut.at;
-      console = cut.console;
-      reaches = reaches_on told p bound from c0 at c cut.at cut.console first cut.reaches;
-      under = cut.under;
-      met = cut.met;
-      boundary = cut.boundary;
-      cycles = cut.cycles;
-      instructions = cut.instructions;
-      state = cut.state;
-      lost = cut.lost;
-    }
+cut_on e told held p bound from at c0 c r new u g first h =
+    record { at = h.at; console = h.console; reaches = reaches_on told p bound from c0 at c h.at h.console first h.reaches; cut = h.cut }
 
-abbrev ends_on : (p : TimedImage) (bound : ℕ) (from at : Point) (r : Counts) (new : MachineView) (u g : List ℕ) → Passes p bound from at → RunEndsWith p bound at r new u g → RunEndsWith p bound from r new u g
-ends_on p bound from at r new u g first e =
-    record {
-      finish = e.finish;
-      ends = finish_passes p bound from at e.finish first e.ends;
-      boundary = e.boundary;
-      cycles = e.cycles;
-      instructions = e.instructions;
-      last = e.last;
-      left = e.left;
-    }
+ends_on : (end : RunEnd) (told : Bool) (p : TimedImage) (bound : ℕ) (from at : Point) (c0 c : ConsoleView) (r : Counts) (new : MachineView)
+    (u g : List ℕ) → Reaches told p bound from c0 at c → EndsIn end p bound at r new u g → EndsIn end p bound from r new u g
+ends_on end told p bound from at c0 c r new u g first (e, is) =
+    (record { finish = e.finish; ends = finish_passes p bound from at e.finish (passed told p bound from c0 at c first) e.ends; stands = e.stands }, is)
 
 reported_on : (end : Result PlainEnd AllocError) (told : Bool) (held : Option (List ℕ)) (p : TimedImage) (bound : ℕ) (from at : Point) (c0 c : ConsoleView) (r : Counts) (new : MachineView) (u g : List ℕ) →
     Reaches told p bound from c0 at c → StoppedBy told c held end p bound at r new u g → StoppedBy told c0 held end p bound from r new u g
 reported_on (Ok ends.ReadFault) told held p bound from at c0 c r new u g first h = cut_on errors.ReadFault told held p bound from at c0 c r new u g first h
 reported_on (Err e) told held p bound from at c0 c r new u g first h = cut_on errors.OutOfMemory told held p bound from at c0 c r new u g first h
 reported_on (Ok ends.WriteFault) told held p bound from at c0 c r new u g first h = cut_on errors.WriteFault told held p bound from at c0 c r new u g first h
-reported_on (Ok ends.Halt) told held p bound from at c0 c r new u g first h = (ends_on p bound from at r new u g (passed told p bound from c0 at c first) h.0, h.1)
-reported_on (Ok ends.Err) told held p bound from at c0 c r new u g first h = (ends_on p bound from at r new u g (passed told p bound from c0 at c first) h.0, h.1)
-reported_on (Ok ends.Bound) told held p bound from at c0 c r new u g first h = (ends_on p bound from at r new u g (passed told p bound from c0 at c first) h.0, h.1)
-reported_on (Ok ends.StackLimit) told held p bound from at c0 c r new u g first h = (ends_on p bound from at r new u g (passed told p bound from c0 at c first) h.0, h.1)
+reported_on (Ok ends.Halt) told held p bound from at c0 c r new u g first h = ends_on defined.Halt told p bound from at c0 c r new u g first h
+reported_on (Ok ends.Err) told held p bound from at c0 c r new u g first h = ends_on defined.Err told p bound from at c0 c r new u g first h
+reported_on (Ok ends.Bound) told held p bound from at c0 c r new u g first h = ends_on defined.Bound told p bound from at c0 c r new u g first h
+reported_on (Ok ends.StackLimit) told held p bound from at c0 c r new u g first h = ends_on defined.StackLimit told p bound from at c0 c r new u g first h
 
 -- one after the other
 led_on : (shown : Option (List ℕ) → List ℕ → List ℕ → Type 0) (l0 h0 : Option (List ℕ)) (c0 : ConsoleView) (l1 h1 : Option (List ℕ)) (c1 : ConsoleView) (l2 h2 : Option (List ℕ)) (c2 : ConsoleView)

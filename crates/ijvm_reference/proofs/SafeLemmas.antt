@@ -1,8 +1,8 @@
 -- A run that never gets stuck goes on so after each step.
-use Rattle.ijvm_reference.proofs.Common.{◌≡◌, ℕ, List, [], ◌++◌, Bool, true, false, Option, Some, None, IsSome, refl, sym, subst, ◌∙◌, ConsoleView, Untaken}
+use Rattle.ijvm_reference.proofs.Common.{◌≡◌, ℕ, List, [], ◌++◌, Bool, true, false, Option, Some, None, IsSome, refl, sym, ap, subst, ◌∙◌, ConsoleView, Untaken}
 use Rattle.ijvm_reference.proofs.Common.{Given, StepEnd, ImageView}
 use Rattle.ijvm_reference.specs.declared.frames.StepEnd.TheVariants as ends
-use Rattle.ijvm_meaning.specs.Prelude.{State, Goes, step_outcome, limits-same, SameFrames, ComesTo, Here, On, NeverStuck}
+use Rattle.ijvm_meaning.specs.Prelude.{State, limits-same, SameFrames, ComesTo, Here, On, NeverStuck}
 use Rattle.ijvm_reference.specs.Prelude.{MachineView, KeepsProgram, state_of, IsLedOn, Does, Turns}
 
 same_on : (s t u : State) → SameFrames s t → SameFrames t u → SameFrames s u
@@ -17,10 +17,9 @@ comes_on : (image : ImageView) (stack_end : ℕ) (s t to : State) → ComesTo im
 comes_on image stack_end s t to first (Here v same) = comes_as image stack_end s t v first same
 comes_on image stack_end s t to first (On a b v more step same) = On a b v (comes_on image stack_end s t a first more) step same
 
--- a run that never gets stuck does not get stuck after a step
-pub never_stuck_on : (image : ImageView) (stack_end : ℕ) (s t u v : State) → NeverStuck image stack_end s → SameFrames s t → step_outcome image stack_end t ≡ Goes u → SameFrames u v →
-    NeverStuck image stack_end v
-never_stuck_on image stack_end s t u v never same step more = λ to comes. never to (comes_on image stack_end s v to (On t u v (Here t same) step more) comes)
+-- a run that never gets stuck goes on so from each state that it comes to
+never_on : (image : ImageView) (stack_end : ℕ) (s t : State) → NeverStuck image stack_end s → ComesTo image stack_end s t → NeverStuck image stack_end t
+never_on image stack_end s t never comes = λ to more. never to (comes_on image stack_end s t to comes more)
 
 pub some_untaken : (left : Option (List ℕ)) (ended : Bool) → (rest : List ℕ) × Untaken left ended rest
 some_untaken left true = ([], refl)
@@ -48,28 +47,15 @@ pub some_of : {A : Type 0} (o : Option A) → (o ≡ None → ⊥) → IsSome o
 some_of (Some x) some = refl
 some_of None some = absurd (some refl)
 
--- other frames that are the same
-never_as : (image : ImageView) (stack_end : ℕ) (s t : State) → NeverStuck image stack_end s → SameFrames s t → NeverStuck image stack_end t
-never_as image stack_end s t never same = λ to comes. never to (comes_on image stack_end s t to (Here t same) comes)
-
-same_as : (s t u v : State) → SameFrames s t → t ≡ u → SameFrames u v → SameFrames s v
-same_as s t u v first is last = same_on s u v (subst (λ (w : State). SameFrames s w) is first) last
-
-never_by : (end : StepEnd) (old new : MachineView) (u g u' g' : List ℕ) → NeverStuck old.image old.stack_end (state_of old [] []) → Does end old new u g u' g' →
-    NeverStuck old.image old.stack_end (state_of new [] [])
-never_by ends.Went old new u g u' g' never does =
-    never_stuck_on old.image old.stack_end (state_of old [] []) (state_of old u g) (state_of new u' g') (state_of new [] []) never (same_frames old [] [] u g) does (same_frames new u' g' [] [])
-never_by ends.Halt old new u g u' g' never does =
-    never_as old.image old.stack_end (state_of old [] []) (state_of new [] []) never
-    (same_as (state_of old [] []) (state_of old u g) (state_of new u' g') (state_of new [] []) (same_frames old [] [] u g) (sym does.1) (same_frames new u' g' [] []))
-never_by ends.Err old new u g u' g' never does =
-    never_as old.image old.stack_end (state_of old [] []) (state_of new [] []) never
-    (same_as (state_of old [] []) (state_of old u g) (state_of new u' g') (state_of new [] []) (same_frames old [] [] u g) (sym does.1) (same_frames new u' g' [] []))
-never_by ends.StackLimit old new u g u' g' never does =
-    let stays : SameFrames (state_of old u g) (state_of new u' g') =
-    (limits-same old.image old.stack_end (state_of old u g) (state_of new u' g') does).frames in
-    never_as old.image old.stack_end (state_of old [] []) (state_of new [] []) never
-    (same_on (state_of old [] []) (state_of new u' g') (state_of new [] []) (same_on (state_of old [] []) (state_of old u g) (state_of new u' g') (same_frames old [] [] u g) stays) (same_frames new u' g' [] []))
+comes_by : (end : StepEnd) (old new : MachineView) (u g u' g' : List ℕ) → Does end old new u g u' g' →
+    ComesTo old.image old.stack_end (state_of old [] []) (state_of new [] [])
+comes_by ends.Went old new u g u' g' does =
+    On (state_of old u g) (state_of new u' g') (state_of new [] []) (Here _ (same_frames old [] [] u g)) does (same_frames new u' g' [] [])
+comes_by ends.StackLimit old new u g u' g' does =
+    let stays = (limits-same old.image old.stack_end (state_of old u g) (state_of new u' g') does).frames in
+    Here _ (record { running = stays.running; callers = stays.callers; at = stays.at })
+comes_by _ old new u g u' g' does =
+    Here _ (record { running = ap (λ (s : State). s.running) does.1; callers = ap (λ (s : State). s.callers) does.1; at = ap (λ (s : State). s.at) does.1 })
 
 pub never_after : (left held : Option (List ℕ)) (c : ConsoleView) (left' held' : Option (List ℕ)) (c' : ConsoleView) (end : StepEnd) (old new : MachineView) →
     NeverStuck old.image old.stack_end (state_of old [] []) → IsLedOn left held c left' held' c' (Turns (Some end) old new) → KeepsProgram old new →
@@ -79,5 +65,6 @@ never_after left held c left' held' c' end old new never led keeps =
     let first = led rest.0 rest.1 in
     let given = some_given held c.kept in
     let next = first.2 given.0 given.1 in
-    let same : NeverStuck old.image old.stack_end (state_of new [] []) = never_by end old new first.0 given.0 rest.0 next.0 never next.2 in
+    let same : NeverStuck old.image old.stack_end (state_of new [] []) =
+    never_on old.image old.stack_end (state_of old [] []) (state_of new [] []) never (comes_by end old new first.0 given.0 rest.0 next.0 next.2) in
     subst (λ (n : ℕ). NeverStuck new.image n (state_of new [] [])) (sym keeps.stack_end) (subst (λ (image : ImageView). NeverStuck image old.stack_end (state_of new [] [])) (sym keeps.image) same)

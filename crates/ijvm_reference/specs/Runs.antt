@@ -1,6 +1,7 @@
 -- How frames are driven over a console, a source and a sink, from boundary to boundary.
 use Rattle.std.specs.Prelude.{◌≡◌, ◌≢◌, ℕ, ◌+◌, ◌≤◌, ◌<◌, List, [], ◌++◌, drop, Bool, true, Option, Some, None, IfSome, Result, Ok, Err, alloc_error}
-use Rattle.ijvm_reference.specs.Common.{AllocError, Rose, Machine, ConsoleView, Untaken, Given, TellsLeft, RunEnd, instr_at, SameFrames, Goes, step_outcome}
+use Rattle.ijvm_reference.specs.Common.{AllocError, Rose, Machine, ConsoleView, Given, TellsLeft, RunEnd, instr_at, SameFrames, State, Goes}
+use Rattle.ijvm_reference.specs.Common.{step_outcome}
 use Rattle.ijvm_reference.specs.Common.{timing_of, TimedImage, Point, Finish, EndsBy, Passes, point_after}
 use Rattle.ijvm_reference.specs.declared.frames.StepEnd.{StepEnd}
 use Rattle.ijvm_reference.specs.declared.frames.StepEnd.TheVariants as steps
@@ -12,7 +13,7 @@ use Rattle.ijvm_reference.specs.declared.plain.PlainEnd.TheVariants as ends
 use Rattle.ijvm_reference.specs.declared.plain.Counts.{Counts}
 use Rattle.ijvm_reference.specs.Machine.{MachineView, state_of}
 use Rattle.ijvm_reference.specs.Kept.{Keeps}
-use Rattle.ijvm_reference.specs.Steps.{IsMetBy}
+use Rattle.ijvm_reference.specs.Steps.{IsMetBy, LedTo}
 
 abbrev pub program_of : MachineView → Machine → TimedImage
 program_of m machine = record { image = m.image; stack_end = m.stack_end; timing = timing_of machine }
@@ -25,15 +26,19 @@ point_at m cycles instructions untaken given = record { state = state_of m untak
 abbrev pub IsAllBut : Option (List ℕ) → List ℕ → List ℕ → Type 0
 IsAllBut held kept given = IfSome held (λ h. (n : ℕ) × (h ++ drop n kept ≡ given))
 
+-- a run stands with these counts, frames and bytes: its last boundary, the cycles and instructions done, and the state that is left
+pub record StandsWith (last : Point) (cycles instructions : ℕ) (left : State) (c : Counts) (new : MachineView) (untaken given : List ℕ) : Type 0 where
+  pub boundary : last.cycles ≡ c.boundary
+  pub all : cycles ≡ c.cycles
+  pub completed : instructions ≡ c.instructions
+  pub frames : SameFrames last.state left
+  pub left_is : left ≡ state_of new untaken given
+
 -- the run that goes on so ends with these counts, frames and bytes
 pub record RunEndsWith (p : TimedImage) (bound : ℕ) (from : Point) (c : Counts) (new : MachineView) (untaken given : List ℕ) : Type 0 where
   pub finish : Finish
   pub ends : EndsBy p bound from finish
-  pub boundary : finish.last.cycles ≡ c.boundary
-  pub cycles : finish.cycles ≡ c.cycles
-  pub instructions : finish.instructions ≡ c.instructions
-  pub last : SameFrames finish.last.state finish.left
-  pub left : finish.left ≡ state_of new untaken given
+  pub stands : StandsWith finish.last finish.cycles finish.instructions finish.left c new untaken given
 
 -- one boundary after another, and what the console keeps at both
 pub record GoesOn (told : Bool) (p : TimedImage) (bound : ℕ) (at next : Point) (c c' : ConsoleView) : Type 0 where
@@ -47,20 +52,22 @@ pub data Reaches (told : Bool) (p : TimedImage) (bound : ℕ) (from : Point) (c0
   Begins : (at : Point) (c : ConsoleView) → at ≡ from → c ≡ c0 → Reaches told p bound from c0 at c
   Onward : (at next : Point) (c c' : ConsoleView) → Reaches told p bound from c0 at c → GoesOn told p bound at next c c' → Reaches told p bound from c0 next c'
 
--- The run that goes on so passes a boundary with these counts, frames and bytes, and its instruction there meets this. After a write that
--- failed the sink holds all that was given there but the last of what the console kept.
+-- The run is cut at this boundary, with these counts, frames and bytes: its instruction there meets this. After a write that failed the sink
+-- holds all that was given there but the last of what the console kept.
+pub record IsCutAt (e : StepError) (held : Option (List ℕ)) (p : TimedImage) (bound : ℕ) (at : Point) (console : ConsoleView)
+    (c : Counts) (new : MachineView) (untaken given : List ℕ) : Type 0 where
+  pub under : at.cycles < bound
+  pub met : IsMetBy e (instr_at p.image.text at.state.at) console
+  pub stands : StandsWith at at.cycles at.instructions at.state c new untaken given
+  pub lost : e ≡ errors.WriteFault → IsAllBut held console.kept given
+
+-- the run that goes on so passes a boundary, and is cut there
 pub record IsCut (e : StepError) (told : Bool) (c0 : ConsoleView) (held : Option (List ℕ)) (p : TimedImage) (bound : ℕ)
     (from : Point) (c : Counts) (new : MachineView) (untaken given : List ℕ) : Type 0 where
   pub at : Point
   pub console : ConsoleView
   pub reaches : Reaches told p bound from c0 at console
-  pub under : at.cycles < bound
-  pub met : IsMetBy e (instr_at p.image.text at.state.at) console
-  pub boundary : at.cycles ≡ c.boundary
-  pub cycles : at.cycles ≡ c.cycles
-  pub instructions : at.instructions ≡ c.instructions
-  pub state : at.state ≡ state_of new untaken given
-  pub lost : e ≡ errors.WriteFault → IsAllBut held console.kept given
+  pub cut : IsCutAt e held p bound at console c new untaken given
 
 -- an end of the definition's run
 abbrev pub EndsIn : RunEnd → TimedImage → ℕ → Point → Counts → MachineView → List ℕ → List ℕ → Type 0
@@ -92,15 +99,6 @@ IsShown stop held kept given = Given held kept given
 abbrev pub ShownBy : Option (Result PlainEnd AllocError) → Option (List ℕ) → List ℕ → List ℕ → Type 0
 ShownBy None held kept given = Given held kept given
 ShownBy (Some stop) held kept given = IsShown stop held kept given
-
--- Whatever is left untaken after, something may have been left before it from which a run leads there; the given bytes are shown so after it.
-abbrev pub LedTo : (Option (List ℕ) → List ℕ → List ℕ → Type 0) → Option (List ℕ) → Option (List ℕ) → ConsoleView →
-    Option (List ℕ) → Option (List ℕ) → ConsoleView →
-    (List ℕ → List ℕ → List ℕ → List ℕ → Type 0) → Type 0
-LedTo shown left held c left' held' c' leads =
-    (rest : List ℕ) → Untaken left' c'.ended rest →
-    (untaken : List ℕ) × Untaken left c.ended untaken ×
-    ((given : List ℕ) → Given held c.kept given → (more : List ℕ) × shown held' c'.kept more × leads untaken given rest more)
 
 -- a turn of the run: on to the next boundary, or to its stop
 abbrev pub TurnsTo : Bool → Option (Result PlainEnd AllocError) → ℕ → Machine → Counts → Counts → ConsoleView →

@@ -12,14 +12,20 @@ use Rattle.ijvm_reference.specs.declared.compute.Effect.TheVariants as effects
 use Rattle.ijvm_reference.specs.Machine.{MachineView, state_of, outcome_of}
 use Rattle.ijvm_reference.specs.Kept.{PutsKept}
 
--- Whatever may be left untaken after a step, something may have been left before it from which the step leads there, whatever was given.
--- A step leads from untaken and given bytes to untaken and given bytes.
-abbrev pub IsLedOn : Option (List ℕ) → Option (List ℕ) → ConsoleView → Option (List ℕ) → Option (List ℕ) → ConsoleView →
+-- Whatever may be left untaken after, something may have been left before it from which a step or a run leads there, whatever was given. It
+-- leads from untaken and given bytes to untaken and given bytes, and the given bytes are shown so after it.
+abbrev pub LedTo : (Option (List ℕ) → List ℕ → List ℕ → Type 0) → Option (List ℕ) → Option (List ℕ) → ConsoleView →
+    Option (List ℕ) → Option (List ℕ) → ConsoleView →
     (List ℕ → List ℕ → List ℕ → List ℕ → Type 0) → Type 0
-IsLedOn left held c left' held' c' leads =
+LedTo shown left held c left' held' c' leads =
     (rest : List ℕ) → Untaken left' c'.ended rest →
     (untaken : List ℕ) × Untaken left c.ended untaken ×
-    ((given : List ℕ) → Given held c.kept given → (more : List ℕ) × Given held' c'.kept more × leads untaken given rest more)
+    ((given : List ℕ) → Given held c.kept given → (more : List ℕ) × shown held' c'.kept more × leads untaken given rest more)
+
+-- the same, where the sink and the console show all that was given
+abbrev pub IsLedOn : Option (List ℕ) → Option (List ℕ) → ConsoleView → Option (List ℕ) → Option (List ℕ) → ConsoleView →
+    (List ℕ → List ℕ → List ℕ → List ℕ → Type 0) → Type 0
+IsLedOn left held c left' held' c' leads = LedTo Given left held c left' held' c' leads
 
 -- the outcome of an instruction over the console
 abbrev pub LedBy : (State → StepOutcome) → Option (List ℕ) → Option (List ℕ) → ConsoleView → Option (List ℕ) →

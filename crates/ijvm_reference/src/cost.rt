@@ -4,6 +4,7 @@ ghost use Rattle.std.specs.Prelude.{◌≡◌, ◌≤◌, []};
 ghost use Rattle.ijvm_meaning.specs.Prelude.{column, timing_of, is_taken, entry_of, next_cost};
 ghost use Rattle.ijvm_reference.specs.Machine.{state_of};
 
+use crate::frames::Frames;
 use crate::machine::PlainMachine;
 use ijvm_instr::{Cost, Instr, Row};
 use mic_words::Machine;
@@ -48,22 +49,25 @@ fn entry_of(plain: &PlainMachine, instr: Instr) -> u32
     }
 }
 
-/// The cycles of the next instruction, or 0 where there is none.
-#[tactic(auto, using(crate::proofs::Costs::next_cost_most))]
-pub fn cost_of(plain: &PlainMachine, machine: Machine) -> u64
-    ensures is { result ≡ next_cost plain.now.image (timing_of machine) (state_of plain.now [] []) }
-    ensures most { result ≤ 23 }
-{
-    let Some(instr) = plain.next() else {
-        return 0;
-    };
-    match column(instr.row(), machine) {
-        Cost::Always(cycles) => cycles,
-        Cost::IfTaken { taken, not } => if is_taken(plain, instr) { taken } else { not },
-        Cost::ByEntry { early, late } => if entry_of(plain, instr) % 4 == 3 {
-            late
-        } else {
-            early
-        },
+impl Frames {
+    /// The cycles of the next instruction.
+    #[tactic(auto, using(crate::proofs::Costs::next_cost_most))]
+    pub fn cost(&self, machine: Machine) -> u64
+        ensures is { result ≡ next_cost self.now.image (timing_of machine) (state_of self.now [] []) }
+        ensures most { result ≤ 23 }
+    {
+        let plain = &self.machine;
+        let Some(instr) = plain.next() else {
+            return 0;
+        };
+        match column(instr.row(), machine) {
+            Cost::Always(cycles) => cycles,
+            Cost::IfTaken { taken, not } => if is_taken(plain, instr) { taken } else { not },
+            Cost::ByEntry { early, late } => if entry_of(plain, instr) % 4 == 3 {
+                late
+            } else {
+                early
+            },
+        }
     }
 }

@@ -1,20 +1,18 @@
 //! The plain machine, which computes the definition's run step by step.
 
 ghost use Rattle.std.specs.Prelude.{◌≡◌, ◌+◌, ◌≤◌, [], ◌∷◌, Err, IfOk, OnOk, IfErr};
-ghost use Rattle.ijvm_reference.specs.Common.{SinkGoesOn, SourceGoesOn, timing_of, next_cost, base, top_of, NeverStuck, IsSafe};
+ghost use Rattle.ijvm_reference.specs.Common.{SinkGoesOn, SourceGoesOn, base, top_of, NeverStuck, IsSafe};
 ghost use Rattle.ijvm_reference.specs.Machine.{MachineView, KeepsProgram, next_instr, state_of, started};
 ghost use Rattle.ijvm_reference.specs.Kept.{HasKept};
 ghost use Rattle.ijvm_reference.specs.Steps.{IfTurned, IsLedOn, step_end, Does, Turns, StepFails, FailsByCause};
 
 use crate::compute::{Effect, compute};
-use crate::cost::cost_of;
 use crate::machine::PlainMachine;
 use crate::port::{read_in, write_out};
 use console_port::{Console, MemoryMap};
 use ijvm_image::Image;
 use ijvm_instr::Instr;
 use mic_base::{Sink, Source};
-use mic_words::Machine;
 use std::alloc::{AllocError, Global};
 use std::marker::Model;
 use thiserror::Error;
@@ -92,7 +90,7 @@ pub fn turn<S: Source, K: Sink>(
 /// The plain machine over an image whose run never gets stuck.
 #[derive(Drop)]
 pub struct Frames {
-    machine: PlainMachine,
+    pub(crate) machine: PlainMachine,
 }
 
 impl Model for Frames {
@@ -144,7 +142,7 @@ impl Frames {
     pub fn address(&self) -> u32
         ensures { result ≡ self.now.at }
     {
-        self.machine.address()
+        self.machine.at
     }
 
     /// The word address before that of the running frame's next operand.
@@ -158,7 +156,7 @@ impl Frames {
     pub fn lv(&self) -> u32
         ensures { result ≡ base self.now.callers }
     {
-        self.machine.lv()
+        self.machine.lv
     }
 
     /// The last operand; none exactly where the running frame has none.
@@ -166,13 +164,5 @@ impl Frames {
         ensures { result ≡ top_of self.now.running.operands }
     {
         self.machine.top()
-    }
-
-    /// The cycles of the next instruction.
-    pub fn cost(&self, machine: Machine) -> u64
-        ensures is { result ≡ next_cost self.now.image (timing_of machine) (state_of self.now [] []) }
-        ensures most { result ≤ 23 }
-    {
-        cost_of(&self.machine, machine)
     }
 }

@@ -5,7 +5,7 @@ ghost use Rattle.std.specs.Option.{option_flatten};
 ghost use Rattle.ijvm_reference.specs.Common.{instr_at, method_at, are_equal, base, top_of};
 ghost use Rattle.ijvm_reference.specs.Machine.{MachineView, ArePlaced, started, with_operands, in_call, with_local, KeepsProgram, Pops, Returns, Stores, Swaps};
 
-use crate::frame::Frame;
+use crate::frame::{Frame, are_last_equal, set_last, swap_last};
 use ijvm_image::{Image, Method};
 use ijvm_instr::{Instr, decode_at};
 use std::alloc::{AllocError, Global};
@@ -22,9 +22,9 @@ pub struct PlainMachine {
     /// The nearest is the last.
     callers: Vec<Frame>,
     /// The byte address of the next instruction.
-    at: u32,
+    pub at: u32,
     /// The word address at which the running frame begins.
-    lv: u32,
+    pub lv: u32,
 }
 
 impl Model for PlainMachine {
@@ -44,7 +44,7 @@ fn copy_image(alloc: Global, image: &Image) -> Result<Image, AllocError>
 }
 
 /// Takes the nearest caller away.
-#[tactic(auto, using(crate::proofs::Placed::reverse_end))]
+#[tactic(auto, using(crate::proofs::Stacks::reverse_end))]
 fn take_caller(callers: &mut Vec<Frame>) -> Frame
     requires { reverse callers.old.items ≢ [] }
     ensures caller { reverse callers.old.items ≡ result ∷ reverse callers.new.items }
@@ -53,9 +53,9 @@ fn take_caller(callers: &mut Vec<Frame>) -> Frame
     callers.pop().unwrap()
 }
 
-/// Puts the nearest caller back.
-#[tactic(auto, using(crate::proofs::Placed::reverse_end))]
-fn give_back(callers: &mut Vec<Frame>, caller: Frame)
+/// Adds a nearest caller, for which there is room.
+#[tactic(auto, using(crate::proofs::Stacks::reverse_end))]
+fn give_caller(callers: &mut Vec<Frame>, caller: Frame)
     requires { vec_len callers.old < vec_capacity callers.old }
     ensures { reverse callers.new.items ≡ caller ∷ reverse callers.old.items }
 {
@@ -88,13 +88,6 @@ impl PlainMachine {
         ensures { result ≡ self.now.at }
     {
         self.at
-    }
-
-    /// The word address at which the running frame begins.
-    pub fn lv(&self) -> u32
-        ensures { result ≡ base self.now.callers }
-    {
-        self.lv
     }
 
     /// The word address after the last operand.
@@ -131,7 +124,7 @@ impl PlainMachine {
     pub fn top(&self) -> Option<u32>
         ensures { result ≡ top_of self.now.running.operands }
     {
-        self.running.top()
+        self.running.operands.last().copied()
     }
 
     #[tactic(auto, using(crate::proofs::Placed::placed_pop))]
@@ -139,7 +132,7 @@ impl PlainMachine {
         ensures popped { Pops result self.old.running self.new.running }
         ensures rest { self.new ≡ record self.old { running = self.new.running } }
     {
-        self.running.pop()
+        self.running.operands.pop()
     }
 
     pub fn push(&mut self, value: u32) -> Result<(), AllocError>
@@ -147,7 +140,8 @@ impl PlainMachine {
         ensures ok { OnOk result (self.new ≡ with_operands self.old (value ∷ self.old.running.operands)) }
         ensures err { OnErr result (self.new ≡ self.old) }
     {
-        self.running.push(value)
+        self.running.operands.push(value)?;
+        Ok(())
     }
 
     /// Puts another value in the place of the last operand.
@@ -155,7 +149,7 @@ impl PlainMachine {
         requires { self.old.running.operands ≢ [] }
         ensures { self.new ≡ with_operands self.old (value ∷ drop 1 self.old.running.operands) }
     {
-        self.running.replace_top(value);
+        set_last(&mut self.running.operands, value);
     }
 
     /// Exchanges the last two operands, or returns false where there are fewer.
@@ -164,7 +158,11 @@ impl PlainMachine {
         ensures swapped { Swaps result self.old.running self.new.running }
         ensures rest { self.new ≡ record self.old { running = self.new.running } }
     {
-        self.running.swap()
+        if self.running.operands.len() < 2 {
+            return false;
+        }
+        swap_last(&mut self.running.operands);
+        true
     }
 
     /// The value of a local, if the running frame has it and it is set.
@@ -172,7 +170,7 @@ impl PlainMachine {
         ensures is { result ≡ option_flatten (slice_get self.now.running.locals index) }
         ensures inside { IfSome result (λ _. index < length self.now.running.locals) }
     {
-        self.running.local(index)
+        self.running.locals.get(index as usize).copied().flatten()
     }
 
     #[tactic(auto, using(crate::proofs::Placed::placed_set))]
@@ -180,7 +178,7 @@ impl PlainMachine {
         requires { index < length self.old.running.locals }
         ensures { self.new ≡ with_local self.old index value }
     {
-        self.running.set_local(index, value);
+        self.running.locals[index as usize] = Some(value);
     }
 
     #[tactic(auto, using(crate::proofs::Placed::placed_store))]
@@ -189,7 +187,13 @@ impl PlainMachine {
         ensures stored { Stores result index value self.old.running self.new.running }
         ensures rest { self.new ≡ record self.old { running = self.new.running } }
     {
-        self.running.store(index, value)
+        if (self.running.back.is_some() && index == 0)
+            || (index as usize) >= self.running.locals.len()
+        {
+            return false;
+        }
+        self.running.locals[index as usize] = Some(value);
+        true
     }
 
     /// Goes to another address.
@@ -203,7 +207,7 @@ impl PlainMachine {
     pub fn back(&self) -> Option<u32>
         ensures { result ≡ self.now.running.back }
     {
-        self.running.back()
+        self.running.back
     }
 
     pub fn has_caller(&self) -> bool
@@ -216,14 +220,14 @@ impl PlainMachine {
     pub fn are_equal(&self) -> bool
         ensures { result ≡ are_equal self.now.running.operands }
     {
-        self.running.are_equal()
+        are_last_equal(&self.running.operands)
     }
 
     /// How many operands the running frame has.
     pub fn depth(&self) -> usize
         ensures { result ≡ length self.now.running.operands }
     {
-        self.running.depth()
+        self.running.operands.len()
     }
 
     pub fn method(&self, index: u16) -> Option<Method>
@@ -251,7 +255,7 @@ impl PlainMachine {
         self.running.discard(params as usize + 1);
         self.lv += self.running.words();
         let caller = mem::replace(&mut self.running, frame);
-        self.callers.push(caller).unwrap();
+        give_caller(&mut self.callers, caller);
         self.at = method.entry + 4;
         Ok(())
     }
@@ -266,9 +270,9 @@ impl PlainMachine {
     {
         let mut caller = take_caller(&mut self.callers);
         let words = caller.words();
-        if let Err(error) = caller.push(value) {
-            give_back(&mut self.callers, caller);
-            return Err(error);
+        if let Err(failed) = caller.operands.push(value) {
+            give_caller(&mut self.callers, caller);
+            return Err(failed.into());
         }
         self.lv -= words;
         self.running = caller;

@@ -1,25 +1,14 @@
-use Rattle.ijvm_reference.proofs.Common.{◌≡◌, Some, Option, sym, ap, subst, ◌∙◌, err_from_is_err_and, Instr, In, Out, StepEnd, instr_at}
-use Rattle.ijvm_reference.specs.Prelude.{MachineView, Turns}
-use Rattle.ijvm_reference.proofs.Turned.{effect-turns, failed_at, outcome-at}
+use Rattle.ijvm_reference.proofs.Common.{Some, sym, ap, ◌∙◌, err_from_is_err_and, Instr, In, Out}
+use Rattle.ijvm_reference.proofs.Turned.{failed_at, turned}
 use Rattle.ijvm_reference.proofs.frames.turn.Goals as goal
 
 pub returns-in_ok-write_out-in-Out-clause-ok : goal.returns-in_ok-write_out-in-Out-clause-ok
-returns-in_ok-write_out-in-Out-clause-ok g c = λ rest u.
-    let old : MachineView = c.args.machine.now in
-    let new : MachineView = c.write_out.new.machine in
-    let led = c.in_ok-write_out-in-Out.ensures.ok (g.S.Source.left c.args.source.now) rest u in
-    let found : instr_at old.image.text old.at ≡ Some Out = sym c.next.ensures.is ∙ c.in-Some.is ∙ ap (λ (i : Instr). Some i) c.in-Out.is in (
-      led.0,
-      led.1,
-      λ given h.
-          let next = led.2 given h in
-          let outcome_is = outcome-at old Out led.0 given found ∙ next.2 in (
-            next.0,
-            next.1,
-            subst (λ (end : Option StepEnd). Turns end old new led.0 given rest next.0) (sym c.step_end-in-Out.ensures)
-                (effect-turns c.in_ok-write_out-in-Out.field-0 old new led.0 given rest next.0 outcome_is),
-          ),
-    )
+returns-in_ok-write_out-in-Out-clause-ok g c =
+    let found = sym c.next.ensures.is ∙ c.in-Some.is ∙ ap (λ (i : Instr). Some i) c.in-Out.is in
+    rw c.step_end-in-Out.ensures (
+    turned Out c.in_ok-write_out-in-Out.field-0 (g.S.Source.left c.args.source.now) (g.K.Sink.held c.args.sink.now) c.args.console.now
+    (g.S.Source.left c.args.source.now) (g.K.Sink.held c.write_out.new.sink) c.write_out.new.console
+    c.args.machine.now c.write_out.new.machine found (c.in_ok-write_out-in-Out.ensures.ok (g.S.Source.left c.args.source.now)))
 
 pub returns-in_err-write_out-in-Out-clause-err : goal.returns-in_err-write_out-in-Out-clause-err
 returns-in_err-write_out-in-Out-clause-err g c =
@@ -34,19 +23,9 @@ returns-in_err-read_in-in-In-clause-err g c =
     rw (p.1, p.2) (failed_at _ _ _ _ _ _ _ _ _ _ _ found c.in_err-read_in-in-In.ensures.err)
 
 pub returns-in_ok-read_in-in-In-clause-ok : goal.returns-in_ok-read_in-in-In-clause-ok
-returns-in_ok-read_in-in-In-clause-ok g c = λ rest u.
-    let old : MachineView = c.args.machine.now in
-    let new : MachineView = c.read_in.new.machine in
-    let led = c.in_ok-read_in-in-In.ensures.ok rest u in
-    let found : instr_at old.image.text old.at ≡ Some In = sym c.next.ensures.is ∙ c.in-Some.is ∙ ap (λ (i : Instr). Some i) c.in-In.is in (
-      led.0,
-      led.1,
-      λ given h.
-          let next = led.2 given h in
-          let outcome_is = outcome-at old In led.0 given found ∙ next.2 in (
-            next.0,
-            next.1,
-            subst (λ (end : Option StepEnd). Turns end old new led.0 given rest next.0) (sym c.step_end.ensures)
-                (effect-turns c.in_ok-read_in-in-In.field-0 old new led.0 given rest next.0 outcome_is),
-          ),
-    )
+returns-in_ok-read_in-in-In-clause-ok g c =
+    let found = sym c.next.ensures.is ∙ c.in-Some.is ∙ ap (λ (i : Instr). Some i) c.in-In.is in
+    rw c.step_end.ensures (
+    turned In c.in_ok-read_in-in-In.field-0 (g.S.Source.left c.args.source.now) (g.K.Sink.held c.args.sink.now) c.args.console.now
+    (g.S.Source.left c.read_in.new.source) (g.K.Sink.held c.read_in.new.sink) c.read_in.new.console
+    c.args.machine.now c.read_in.new.machine found c.in_ok-read_in-in-In.ensures.ok)
