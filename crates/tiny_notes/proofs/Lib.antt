@@ -1,6 +1,5 @@
 pub mod Common
 mod Scenes
-mod Single
 mod Straight
 mod Statements
 mod Spelled
