@@ -17,6 +17,7 @@ pub fn generated_images_are_accepted()
 }
 
 /// Its text is within the limit.
+#[tactic(auto, using(crate::proofs::Lengths::text_short), unfolding(crate::specs::Generated::generated))]
 pub fn generated_texts_are_short()
     ensures { (seed size : ℕ) → size ≤ 9000 → length (generated seed size).text ≤ 65536 }
 {}
