@@ -1,5 +1,5 @@
 -- The units of a program, one after the other: main, then each method after its header.
-use Rattle.tiny_notes.proofs.Common.{◌≡◌, ◌≢◌, ◌≤◌, ◌⊎◌, inl, inr, ℕ, pos, ◌+◌, ◌-◌, ◌==◌, Bool, false, if◌then◌else◌, List, [], ◌∷◌, ◌++◌, Some}
+use Rattle.tiny_notes.proofs.Common.{◌≡◌, ◌≢◌, ◌≤◌, ℕ, pos, ◌+◌, ◌-◌, ◌==◌, Bool, false, if◌then◌else◌, List, [], ◌∷◌, ◌++◌, Some}
 use Rattle.tiny_notes.proofs.Common.{refl, sym, ap, ◌∙◌, subst, arith, append_assoc, nat_lt, slice_get, All, Contains, eq-eqb, le-ltb, All-nil}
 use Rattle.tiny_notes.proofs.Common.{All-cons, All-head, All-tail, All-weaker, All-contains, All-contains_itself, Bipush, Ireturn, Invokevirtual}
 use Rattle.tiny_notes.proofs.Common.{Halt as HaltCode}
@@ -12,21 +12,6 @@ use Rattle.tiny_code.specs.Prelude.{Places, code_size, main_code, method_code, m
 use Rattle.tiny_notes.proofs.Scenes.{Place, note_of, set_of}
 use Rattle.tiny_notes.proofs.Statements.{statements_items, sized, block, statements_part}
 use Rattle.tiny_notes.proofs.Spelled.{code_end, read_at, row_begins, statements_spell}
-
--- one of these functions, by its position
-abbrev Has : List (ℕ × Function) → ℕ → Function → Type 0
-Has [] f g = ⊥
-Has (m ∷ ms) f g = ((m.0 ≡ f) × (m.1 ≡ g)) ⊎ Has ms f g
-
-abbrev IsIn : List (ℕ × Function) → ℕ × Function → Type 0
-IsIn ms m = Has ms m.0 m.1
-
-all_in : (ms : List (ℕ × Function)) → All (IsIn ms) ms
-all_in [] = All-nil (IsIn [])
-all_in (m ∷ ms) = All-cons (IsIn (m ∷ ms)) m ms (inl (refl, refl)) (All-weaker (IsIn ms) (IsIn (m ∷ ms)) (λ x h. inr h) ms (all_in ms))
-
-has_of : (ms : List (ℕ × Function)) (f : ℕ) (g : Function) → Contains ms (f, g) → Has ms f g
-has_of ms f g h = All-contains (IsIn ms) ms (f, g) (all_in ms) h
 
 -- where a method begins only its parameters are set
 abbrev set : ℕ → Function → Locals
@@ -171,13 +156,12 @@ module _ (image : ImageView) (p : Places) (program : Program) where
         → begin + method_size p g ≡ items_size (pre ++ Header ∷ method_items begin g)
     next_at pre begin g at = omega (arith, at, items_append pre (Header ∷ method_items begin g), method_sized begin g)
 
-    lies_by : (ms : List (ℕ × Function)) (pre : List Item) (begin f : ℕ) (g : Function) → begin ≡ items_size pre → whole ≡ pre ++ methods_items begin ms
-        → AreMethodsAt image p begin ms → Has ms f g → Lies f g
-    lies_by [] pre begin f g at split laid has = absurd has
-    lies_by (m ∷ ms) pre begin f g at split laid (inl h) =
-        subst (λ (x : ℕ). Lies x g) h.0 (subst (λ (x : Function). Lies m.0 x) h.1 (first_lies pre begin m ms at split laid))
-    lies_by (m ∷ ms) pre begin f g at split laid (inr h) =
-        lies_by ms (pre ++ Header ∷ method_items begin m.1) _ f g (next_at pre begin m.1 at) (next_split pre begin m ms split) laid.1 h
+    lie : (ms : List (ℕ × Function)) (pre : List Item) (begin : ℕ) → begin ≡ items_size pre → whole ≡ pre ++ methods_items begin ms
+        → AreMethodsAt image p begin ms → All (λ m. Lies m.0 m.1) ms
+    lie [] pre begin at split laid = All-nil (λ m. Lies m.0 m.1)
+    lie (m ∷ ms) pre begin at split laid =
+        All-cons (λ x. Lies x.0 x.1) m ms (first_lies pre begin m ms at split laid)
+        (lie ms (pre ++ Header ∷ method_items begin m.1) _ (next_at pre begin m.1 at) (next_split pre begin m ms split) laid.1)
 
     -- the functions of these positions
     abbrev AreFunctions : List (ℕ × Function) → Type 0
@@ -209,7 +193,9 @@ module _ (image : ImageView) (p : Places) (program : Program) where
       let rest : List Item = methods_items size (methods program) in
       let place : items_size (main_items g) ≡ size = sized (main_items g) (main_code p g) (main_spells g) in
       let finds : (f m : ℕ) → IsCallable program f m → Finds whole f m =
-      λ f m c. lies_found whole f m _ (lies_by whole _ _ size f _ (sym place) refl stand (has_of _ f _ (complete f c.function c.is c.other))) c.counts in
+      λ f m c. lies_found whole f m c.function
+      (All-contains (λ x. Lies whole x.0 x.1) (methods program) (f, c.function) (lie whole (methods program) _ size (sym place) refl stand)
+      (complete f c.function c.is c.other)) c.counts in
       let are : AreFunctions whole (methods program) =
       All-weaker (Contains (methods program)) (λ m. slice_get program.functions m.0 ≡ Some m.1) (λ m c. (sound m.0 m.1 c).0)
       (methods program) (All-contains_itself (methods program)) in
