@@ -218,8 +218,9 @@ reaches_on told p bound from c0 at c to d first (Begins a b same is) =
     subst (λ (x : Point). Reaches told p bound from c0 x d) (sym same) (subst (λ (v : ConsoleView). Reaches told p bound from c0 at v) (sym is) first)
 reaches_on told p bound from c0 at c to d first (Onward b next e e' more on) = Onward b next e e' (reaches_on told p bound from c0 at c b e first more) on
 
-cut_on : (e : StepError) (told : Bool) (held : Option (List ℕ)) (p : TimedImage) (bound : ℕ) (from at : Point) (c0 c : ConsoleView) (r : Counts) (new : MachineView) (u g : List ℕ) →
-    Reaches told p bound from c0 at c → IsCut e told c held p bound at r new u g → IsCut e told c0 held p bound from r new u g
+cut_on : (e : StepError) (told : Bool) (held : Option (List ℕ)) (p : TimedImage) (bound : ℕ) (from at : Point) (c0 c : ConsoleView)
+    (r : Counts) (new : MachineView) (u g : List ℕ) → Reaches told p bound from c0 at c → IsCut e told c held p bound at r new u g →
+    IsCut e told c0 held p bound from r new u g
 cut_on e told held p bound from at c0 c r new u g first h =
     record { at = h.at; console = h.console; reaches = reaches_on told p bound from c0 at c h.at h.console first h.reaches; cut = h.cut }
 

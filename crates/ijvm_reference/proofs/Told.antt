@@ -75,7 +75,8 @@ told_if None ended not_ended is = absurd (cc)
 told_if (Some bytes) ended not_ended is = told_bytes (Some bytes) ended bytes not_ended refl
 
 -- where something was kept, it is the last that was given
-lost_last : (held held' : Option (List ℕ)) (kept kept' given : List ℕ) → kept ≢ [] → IsLost held kept held' kept' → Given held kept given → LosesLast held' given
+lost_last : (held held' : Option (List ℕ)) (kept kept' given : List ℕ) → kept ≢ [] → IsLost held kept held' kept' → Given held kept given →
+    LosesLast held' given
 lost_last None held' kept kept' given some lost told = subst (λ o. LosesLast o given) (sym lost.prefix.1) tt
 lost_last (Some h) held' kept kept' given some lost told = subst (λ o. LosesLast o given) (sym lost.prefix.1) (h, kept, lost.prefix.0, some, told, refl)
 

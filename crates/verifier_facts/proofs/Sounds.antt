@@ -8,6 +8,7 @@ use Rattle.std.proofs.lemmas.List.{length-replicate}
 use Rattle.console_port.specs.Prelude.{next_byte}
 use Rattle.ijvm_instr.specs.declared.instr.Instr.{Instr}
 use Rattle.ijvm_instr.specs.declared.instr.Instr.TheVariants.{Nop, Bipush, LdcW, Iload, Istore, Pop, Dup, Swap, Iinc, Ifeq, Iflt, IfIcmpeq, Goto, Ireturn, Invokevirtual, WideIload, WideIstore, WideIinc, In, Out, Err, Halt}
+use Rattle.ijvm_instr.specs.declared.row.Flow.TheVariants.{Branch}
 use Rattle.ijvm_instr.specs.Prelude.{row_of, size_of, instr_at, target, word_of}
 use Rattle.ijvm_image.specs.declared.method.Method.{Method}
 use Rattle.ijvm_image.specs.Prelude.{ImageView}
@@ -170,6 +171,26 @@ enough image z count s i h need needs =
     let w = (finds image z count s i h).operands in
     let same : w.0 ≡ need = cc in omega (arith, w.2)
 
+-- an instruction that takes one operand, and one that takes two
+good_one : (image : ImageView) (z count : ℕ) (s : State) (i : Instr) (h : Steps image z count s i) (does : List ℕ → StepOutcome) →
+    need_of image (row_of i).needs (row_of i).flow ≡ Some 1 →
+    ((y : ℕ) (rest : List ℕ) → s.running.operands ≡ y ∷ rest → IsGood image count (does (y ∷ rest))) → IsGood image count (does s.running.operands)
+good_one image z count s i h does needs good = by_operands (enough image z count s i h 1 needs) s.running.operands refl
+  where
+    by_operands : 1 ≤ length s.running.operands → (xs : List ℕ) → s.running.operands ≡ xs → IsGood image count (does xs)
+    by_operands n [] is = absurd (omega (arith, ap length is))
+    by_operands n (y ∷ rest) is = good y rest is
+
+good_two : (image : ImageView) (z count : ℕ) (s : State) (i : Instr) (h : Steps image z count s i) (does : List ℕ → StepOutcome) →
+    need_of image (row_of i).needs (row_of i).flow ≡ Some 2 →
+    ((y x : ℕ) (rest : List ℕ) → s.running.operands ≡ y ∷ x ∷ rest → IsGood image count (does (y ∷ x ∷ rest))) → IsGood image count (does s.running.operands)
+good_two image z count s i h does needs good = by_operands (enough image z count s i h 2 needs) s.running.operands refl
+  where
+    by_operands : 2 ≤ length s.running.operands → (xs : List ℕ) → s.running.operands ≡ xs → IsGood image count (does xs)
+    by_operands n [] is = absurd (omega (arith, ap length is))
+    by_operands n (y ∷ []) is = absurd (omega (arith, ap length is))
+    by_operands n (y ∷ x ∷ rest) is = good y x rest is
+
 good_constant : (image : ImageView) (z count : ℕ) (s : State) (k : ℕ) → Steps image z count s (LdcW k) → IsGood image count (step image z (LdcW k) s)
 good_constant image z count s k h = by_constant (slice_get image.pool k) refl (finds image z count s (LdcW k) h).constant
   where
@@ -200,25 +221,22 @@ frame_set text count (Some e) back xs k v lt f = (f.0, length-set xs k (Some v) 
 
 good_store : (image : ImageView) (z count : ℕ) (s : State) (i : Instr) (k to : ℕ) (h : Steps image z count s i) → (row_of i).stores ≡ Some k → need_of image (row_of i).needs (row_of i).flow ≡ Some 1 → (row_of i).gives ≡ 0 →
     GoesOn (row_of i).flow s.at (s.at + size_of (row_of i)) to → IsGood image count (stored s k s.running.operands to)
-good_store image z count s i k to h stores needs gives goes = by_operands (enough image z count s i h 1 needs) s.running.operands refl
+good_store image z count s i k to h stores needs gives goes = good_one image z count s i h (λ xs. stored s k xs to) needs (λ v rest is.
+    let own = own_local image z count s i h k (inr stores) in
+    by_tests (is_own s.running.back k) (nat_lt k (length s.running.locals)) (with_local s k v rest to) own.1
+    (lt-ltb k (length s.running.locals) own.0) (record {
+      unit = h.sound.unit;
+      running = stands_on image z count s i h 1 to (length rest) needs goes (omega (arith, ap length is)) (slice_set s.running.locals k (Some v))
+          (frame_set image.text count h.sound.unit s.running.back s.running.locals k v own.0 h.sound.running.frame)
+          (λ j unset. let w = set_unset s.running.locals k v j own.0 unset in
+          (w.0, ap (λ (o : Option ℕ). left_unset o (Some j)) stores ∙ ap (λ (b : Bool). cond b None (Some j)) (ne_eqb j k w.1)));
+      callers = h.sound.callers;
+    }))
   where
     by_tests : (b c : Bool) (to : State) → b ≡ true → c ≡ true → IsSound image count to → IsGood image count (cond b (cond c (Goes to) Stuck) Stuck)
     by_tests true true to p q sound = sound
     by_tests true false to p q sound = cc
     by_tests false c to p q sound = cc
-
-    by_operands : 1 ≤ length s.running.operands → (xs : List ℕ) → s.running.operands ≡ xs → IsGood image count (stored s k xs to)
-    by_operands n [] is = omega (arith, ap length is)
-    by_operands n (v ∷ rest) is =
-        let own = own_local image z count s i h k (inr stores) in
-        by_tests (is_own s.running.back k) (nat_lt k (length s.running.locals)) (with_local s k v rest to) own.1 (lt-ltb k (length s.running.locals) own.0) (record {
-          unit = h.sound.unit;
-          running = stands_on image z count s i h 1 to (length rest) needs goes (omega (arith, ap length is)) (slice_set s.running.locals k (Some v))
-              (frame_set image.text count h.sound.unit s.running.back s.running.locals k v own.0 h.sound.running.frame)
-              (λ j unset. let w = set_unset s.running.locals k v j own.0 unset in
-              (w.0, ap (λ (o : Option ℕ). left_unset o (Some j)) stores ∙ ap (λ (b : Bool). cond b None (Some j)) (ne_eqb j k w.1)));
-          callers = h.sound.callers;
-        })
 
 good_increase : (image : ImageView) (z count : ℕ) (s : State) (i : Instr) (k : ℕ) (n : ℤ) (to : ℕ) (h : Steps image z count s i) → (row_of i).reads ≡ Some k → need_of image (row_of i).needs (row_of i).flow ≡ Some 0 → (row_of i).gives ≡ 0 →
     (row_of i).stores ≡ None → GoesOn (row_of i).flow s.at (s.at + size_of (row_of i)) to → IsGood image count (increased s k n (slice_get s.running.locals k) to)
@@ -233,66 +251,19 @@ good_increase image z count s i k n to h reads needs gives stores goes =
       callers = h.sound.callers;
     })
 
-good_pop : (image : ImageView) (z count : ℕ) (s : State) → Steps image z count s Pop → IsGood image count (step image z Pop s)
-good_pop image z count s h = by_operands (enough image z count s Pop h 1 refl) s.running.operands refl
-  where
-    by_operands : 1 ≤ length s.running.operands → (xs : List ℕ) → s.running.operands ≡ xs → IsGood image count (popped s xs)
-    by_operands n [] is = omega (arith, ap length is)
-    by_operands n (y ∷ rest) is = sound_on image z count s Pop h 1 (s.at + 1) rest refl (inl (refl, refl)) (omega (arith, ap length is)) refl
-
-good_double : (image : ImageView) (z count : ℕ) (s : State) → Steps image z count s Dup → IsGood image count (step image z Dup s)
-good_double image z count s h = by_operands (enough image z count s Dup h 1 refl) s.running.operands refl
-  where
-    by_operands : 1 ≤ length s.running.operands → (xs : List ℕ) → s.running.operands ≡ xs → IsGood image count (doubled z s xs)
-    by_operands n [] is = omega (arith, ap length is)
-    by_operands n (y ∷ rest) is =
-        good_limited image count z s (moved s (y ∷ s.running.operands) (s.at + 1)) (sound_on image z count s Dup h 1 (s.at + 1) (y ∷ s.running.operands) refl (inl (refl, refl)) (omega arith) refl)
-
-good_swap : (image : ImageView) (z count : ℕ) (s : State) → Steps image z count s Swap → IsGood image count (step image z Swap s)
-good_swap image z count s h = by_operands (enough image z count s Swap h 2 refl) s.running.operands refl
-  where
-    by_operands : 2 ≤ length s.running.operands → (xs : List ℕ) → s.running.operands ≡ xs → IsGood image count (swapped s xs)
-    by_operands n [] is = omega (arith, ap length is)
-    by_operands n (y ∷ []) is = omega (arith, ap length is)
-    by_operands n (y ∷ x ∷ rest) is = sound_on image z count s Swap h 2 (s.at + 1) (x ∷ y ∷ rest) refl (inl (refl, refl)) (omega (arith, ap length is)) refl
-
 good_combine : (image : ImageView) (z count : ℕ) (s : State) (i : Instr) (f : ℕ → ℕ → ℕ) (h : Steps image z count s i) → need_of image (row_of i).needs (row_of i).flow ≡ Some 2 → (row_of i).gives ≡ 1 → (row_of i).stores ≡ None →
     GoesOn (row_of i).flow s.at (s.at + size_of (row_of i)) (s.at + 1) → IsGood image count (combined f s s.running.operands)
-good_combine image z count s i f h needs gives stores goes = by_operands (enough image z count s i h 2 needs) s.running.operands refl
-  where
-    by_operands : 2 ≤ length s.running.operands → (xs : List ℕ) → s.running.operands ≡ xs → IsGood image count (combined f s xs)
-    by_operands n [] is = omega (arith, ap length is)
-    by_operands n (y ∷ []) is = omega (arith, ap length is)
-    by_operands n (y ∷ x ∷ rest) is = sound_on image z count s i h 2 (s.at + 1) (f x y ∷ rest) needs goes (omega (arith, ap length is)) stores
+good_combine image z count s i f h needs gives stores goes = good_two image z count s i h (combined f s) needs
+    (λ y x rest is. sound_on image z count s i h 2 (s.at + 1) (f x y ∷ rest) needs goes (omega (arith, ap length is)) stores)
 
 good_branch : (image : ImageView) (z count : ℕ) (s : State) (i : Instr) (test : ℕ → Bool) (o : ℤ) (h : Steps image z count s i) → need_of image (row_of i).needs (row_of i).flow ≡ Some 1 → (row_of i).gives ≡ 0 →
     (row_of i).stores ≡ None → ((taken : Bool) → GoesOn (row_of i).flow s.at (s.at + size_of (row_of i)) (way s.at o taken)) → IsGood image count (branched test s o s.running.operands)
-good_branch image z count s i test o h needs gives stores goes = by_operands (enough image z count s i h 1 needs) s.running.operands refl
-  where
-    by_operands : 1 ≤ length s.running.operands → (xs : List ℕ) → s.running.operands ≡ xs → IsGood image count (branched test s o xs)
-    by_operands n [] is = omega (arith, ap length is)
-    by_operands n (y ∷ rest) is = sound_on image z count s i h 1 (way s.at o (test y)) rest needs (goes (test y)) (omega (arith, ap length is)) stores
+good_branch image z count s i test o h needs gives stores goes = good_one image z count s i h (branched test s o) needs
+    (λ y rest is. sound_on image z count s i h 1 (way s.at o (test y)) rest needs (goes (test y)) (omega (arith, ap length is)) stores)
 
-good_compare : (image : ImageView) (z count : ℕ) (s : State) (o : ℤ) → Steps image z count s (IfIcmpeq o) → IsGood image count (step image z (IfIcmpeq o) s)
-good_compare image z count s o h = by_operands (enough image z count s (IfIcmpeq o) h 2 refl) s.running.operands refl
-  where
-    goes : (taken : Bool) → GoesOn (row_of (IfIcmpeq o)).flow s.at (s.at + size_of (row_of (IfIcmpeq o))) (way s.at o taken)
-    goes true = inr (o, refl, refl)
-    goes false = inl (refl, refl)
-
-    by_operands : 2 ≤ length s.running.operands → (xs : List ℕ) → s.running.operands ≡ xs → IsGood image count (compared s o xs)
-    by_operands n [] is = omega (arith, ap length is)
-    by_operands n (y ∷ []) is = omega (arith, ap length is)
-    by_operands n (y ∷ x ∷ rest) is = sound_on image z count s (IfIcmpeq o) h 2 (way s.at o (x == y)) rest refl (goes (x == y)) (omega (arith, ap length is)) refl
-
-good_out : (image : ImageView) (z count : ℕ) (s : State) → Steps image z count s Out → IsGood image count (step image z Out s)
-good_out image z count s h = by_operands (enough image z count s Out h 1 refl) s.running.operands refl
-  where
-    by_operands : 1 ≤ length s.running.operands → (xs : List ℕ) → s.running.operands ≡ xs → IsGood image count (given_out s xs)
-    by_operands n [] is = omega (arith, ap length is)
-    by_operands n (y ∷ rest) is =
-        same_sound image count (moved s rest (s.at + 1)) _ (record { running = refl; callers = refl; at = refl })
-        (sound_on image z count s Out h 1 (s.at + 1) rest refl (inl (refl, refl)) (omega (arith, ap length is)) refl)
+branch_ways : (at : ℕ) (o : ℤ) (taken : Bool) → GoesOn (Branch o) at (at + 3) (way at o taken)
+branch_ways at o true = inr (o, refl, refl)
+branch_ways at o false = inl (refl, refl)
 
 good_in : (image : ImageView) (z count : ℕ) (s : State) → Steps image z count s In → IsGood image count (step image z In s)
 good_in image z count s h =
@@ -397,13 +368,18 @@ good image z count s (Bipush b) h = good_push image z count s (Bipush b) h (word
 good image z count s (LdcW k) h = good_constant image z count s k h
 good image z count s (Iload k) h = good_load image z count s (Iload k) k (s.at + 2) h refl refl refl refl (inl (refl, refl))
 good image z count s (Istore k) h = good_store image z count s (Istore k) k (s.at + 2) h refl refl refl (inl (refl, refl))
-good image z count s Pop h = good_pop image z count s h
-good image z count s Dup h = good_double image z count s h
-good image z count s Swap h = good_swap image z count s h
+good image z count s Pop h = good_one image z count s Pop h (popped s) refl
+    (λ y rest is. sound_on image z count s Pop h 1 (s.at + 1) rest refl (inl (refl, refl)) (omega (arith, ap length is)) refl)
+good image z count s Dup h = good_one image z count s Dup h (doubled z s) refl (λ y rest is.
+    good_limited image count z s (moved s (y ∷ s.running.operands) (s.at + 1))
+    (sound_on image z count s Dup h 1 (s.at + 1) (y ∷ s.running.operands) refl (inl (refl, refl)) (omega arith) refl))
+good image z count s Swap h = good_two image z count s Swap h (swapped s) refl
+    (λ y x rest is. sound_on image z count s Swap h 2 (s.at + 1) (x ∷ y ∷ rest) refl (inl (refl, refl)) (omega (arith, ap length is)) refl)
 good image z count s (Iinc k b) h = good_increase image z count s (Iinc k b) k b (s.at + 3) h refl refl refl refl (inl (refl, refl))
-good image z count s (Ifeq o) h = good_branch image z count s (Ifeq o) _ o h refl refl refl (λ t. elim t as (λ t. GoesOn (row_of (Ifeq o)).flow s.at (s.at + 3) (way s.at o t)) [ true ↦ inr (o, refl, refl) | false ↦ inl (refl, refl) ])
-good image z count s (Iflt o) h = good_branch image z count s (Iflt o) _ o h refl refl refl (λ t. elim t as (λ t. GoesOn (row_of (Iflt o)).flow s.at (s.at + 3) (way s.at o t)) [ true ↦ inr (o, refl, refl) | false ↦ inl (refl, refl) ])
-good image z count s (IfIcmpeq o) h = good_compare image z count s o h
+good image z count s (Ifeq o) h = good_branch image z count s (Ifeq o) _ o h refl refl refl (branch_ways s.at o)
+good image z count s (Iflt o) h = good_branch image z count s (Iflt o) _ o h refl refl refl (branch_ways s.at o)
+good image z count s (IfIcmpeq o) h = good_two image z count s (IfIcmpeq o) h (compared s o) refl
+    (λ y x rest is. sound_on image z count s (IfIcmpeq o) h 2 (way s.at o (x == y)) rest refl (branch_ways s.at o (x == y)) (omega (arith, ap length is)) refl)
 good image z count s (Goto o) h = sound_on image z count s (Goto o) h 0 (target s.at o) s.running.operands refl (inr (o, refl, refl)) refl refl
 good image z count s Ireturn h = good_return image z count s h
 good image z count s (Invokevirtual k) h = good_call image z count s k h
@@ -411,7 +387,9 @@ good image z count s (WideIload k) h = good_load image z count s (WideIload k) k
 good image z count s (WideIstore k) h = good_store image z count s (WideIstore k) k (s.at + 4) h refl refl refl (inl (refl, refl))
 good image z count s (WideIinc k n) h = good_increase image z count s (WideIinc k n) k n (s.at + 6) h refl refl refl refl (inl (refl, refl))
 good image z count s In h = good_in image z count s h
-good image z count s Out h = good_out image z count s h
+good image z count s Out h = good_one image z count s Out h (given_out s) refl (λ y rest is.
+    same_sound image count (moved s rest (s.at + 1)) _ (record { running = refl; callers = refl; at = refl })
+    (sound_on image z count s Out h 1 (s.at + 1) rest refl (inl (refl, refl)) (omega (arith, ap length is)) refl))
 good image z count s Err h = tt
 good image z count s Halt h = tt
 good image z count s e h = good_combine image z count s e _ h refl refl refl (inl (refl, refl))
