@@ -14,7 +14,7 @@ use ijvm_image::Image;
 use std::alloc::Global;
 use verifier_facts::{Kind, VerifyError, accepted_images_keep_sound};
 use verifier_locals::{check_locals, graph_of};
-use verifier_reach::{search_all, text_len};
+use verifier_reach::search_all;
 
 /// What the searches find in an image.
 #[derive(Drop)]
@@ -29,12 +29,8 @@ fn survey_of(alloc: Global, image: &Image) -> Result<Survey, VerifyError>
     ensures ok { IfOk result (λ s. IsSurvey image.now s.main_locals s.methods s.kinds.items) }
     ensures err { IfErr result (λ e. States image.now e) }
 {
-    let _len = text_len(image);
     let seen = search_all(alloc, image)?;
-    let graph = match graph_of(alloc, image, &seen) {
-        Ok(graph) => graph,
-        Err(_) => return Err(VerifyError::OutOfMemory),
-    };
+    let graph = graph_of(alloc, image, &seen)?;
     check_locals(alloc, image, &seen, &graph)?;
     let kinds = sweep_all(alloc, image, &seen)?;
     let main_locals = count_locals(image, &seen, &graph);

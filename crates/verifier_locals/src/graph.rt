@@ -1,14 +1,13 @@
 //! Where the reached instructions lead in their units, and which locals they name.
 
-ghost use Rattle.std.specs.Prelude.{◌≡◌, ◌<◌, ◌≤◌, ◌+◌, length, Some, None, IfOk, IfErr};
+ghost use Rattle.std.specs.Prelude.{◌<◌, ◌≤◌, ◌+◌, length, Some, None, IfOk};
 ghost use Rattle.ijvm_instr.specs.Prelude.{size_of};
 ghost use Rattle.verifier_reach.specs.Prelude.{IsClosed};
 ghost use Rattle.verifier_locals.specs.Graph.{IsNodeOf, IsNodeAt, IsGraph};
 
 use ijvm_image::Image;
 use ijvm_instr::{Flow, Row, target_of};
-use std::alloc::Global;
-use verifier_facts::VerifyError;
+use std::alloc::{AllocError, Global};
 use verifier_reach::{Kept, decode};
 
 /// An instruction: where its unit goes on, where it branches to, and the local that it names.
@@ -69,18 +68,14 @@ pub fn graph_of(
     alloc: Global,
     image: &Image,
     seen: &[Option<Kept>],
-) -> Result<Vec<Node>, VerifyError>
+) -> Result<Vec<Node>, AllocError>
     requires long { length image.now.text ≤ 65536 }
     requires closed { IsClosed image.now seen.now }
-    ensures ok { IfOk result (λ graph. IsGraph image.now seen.now graph.items) }
-    ensures err { IfErr result (λ e. e ≡ VerifyError.OutOfMemory) }
+    ensures { IfOk result (λ graph. IsGraph image.now seen.now graph.items) }
 {
     let mut graph = Vec::new(alloc);
     for at in 0..seen.len() {
-        match graph.push(node_at(image, seen, at as u32)) {
-            Ok(()) => {}
-            Err(_) => return Err(VerifyError::OutOfMemory),
-        }
+        graph.push(node_at(image, seen, at as u32))?;
     }
     Ok(graph)
 }

@@ -221,24 +221,13 @@ decided image z seen closed e = by_fact e
         clear image (kept_of a.unit a.depth) a.at a.unset d.0 d.1 d.2 e w
 
     by_fact : (e : VerifyError) → IsDecided e → IsTrueOf image z e → ⊥
-    by_fact (BadCode p) i h = carried h.0 h.1 (BadCode p) h.2
-    by_fact (FallsOff p) i h = carried h.0 h.1 (FallsOff p) h.2
-    by_fact (BadTarget p) i h = carried h.0 h.1 (BadTarget p) h.2
-    by_fact (BadConstant p k) i h = carried h.0 h.1 (BadConstant p k) h.2
-    by_fact (BadEntry k) i h = carried h.0 h.1 (BadEntry k) h.2
-    by_fact (BadHeader p) i h = carried h.0 h.1 (BadHeader p) h.2
-    by_fact (LinkSlot p) i h = carried h.0 h.1 (LinkSlot p) h.2
-    by_fact (BadLocal p k) i h = carried h.0 h.1 (BadLocal p k) h.2
-    by_fact (UnsetLocal p k) i h = i
-    by_fact (TooFewArguments p x y) i h = carried h.0 h.1 (TooFewArguments p x y) h.2
-    by_fact (Underflow p) i h = carried h.0 h.1 (Underflow p) h.2
-    by_fact (ReturnInMain p) i h = carried h.0 h.1 (ReturnInMain p) h.2
     by_fact (DepthDiffers p d e) i h =
         let same : kept_of h.0.unit h.0.depth ≡ kept_of h.1.unit h.1.depth = one_kept image seen closed h.0 h.1 h.2 h.3 (h.4 ∙ sym h.5) in
         let depth : h.0.depth ≡ h.1.depth = ap (λ (k : Kept). k.depth) same in omega (arith, h.6, h.7, h.8)
+    by_fact (UnsetLocal p k) i h = i
     by_fact (Overlap p) i h = i
     by_fact (MainFrame n) i h = i
-    by_fact OutOfMemory i h = h.2
+    by_fact e i h = carried h.0 h.1 e h.2
 
 -- two units reach one instruction
 pub overlap : (image : ImageView) (z : ℕ) (old here : Kept) (at : ℕ) (i : Instr) → Reached image (kept_at old at) → Reached image (kept_at here at) → old.unit ≢ here.unit → instr_at image.text at ≡ Some i → 0 < size_of (row_of i) →

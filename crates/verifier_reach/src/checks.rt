@@ -86,11 +86,7 @@ fn check_depth(image: &Image, here: Kept, at: u32, row: Row, need: u32) -> Resul
     }
     match row.flow {
         Flow::Call(_) => Err(VerifyError::TooFewArguments(at, here.depth, need)),
-        Flow::Next => Err(VerifyError::Underflow(at)),
-        Flow::Jump(_) => Err(VerifyError::Underflow(at)),
-        Flow::Branch(_) => Err(VerifyError::Underflow(at)),
-        Flow::Return => Err(VerifyError::Underflow(at)),
-        Flow::End => Err(VerifyError::Underflow(at)),
+        _ => Err(VerifyError::Underflow(at)),
     }
 }
 

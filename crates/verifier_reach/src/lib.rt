@@ -6,6 +6,6 @@ pub mod code;
 pub mod kept;
 pub mod search;
 
-pub use code::{decode, others_of, params_of, text_len};
+pub use code::{decode, others_of, params_of};
 pub use kept::Kept;
 pub use search::search_all;

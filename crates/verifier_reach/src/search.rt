@@ -10,7 +10,7 @@ use crate::code::{constant_at, decode, text_len};
 use crate::kept::Kept;
 use ijvm_image::Image;
 use ijvm_instr::{Flow, target_of};
-use std::alloc::Global;
+use std::alloc::{AllocError, Global};
 use verifier_facts::VerifyError;
 
 /// What is kept of each address, and the addresses that wait to be visited.
@@ -53,13 +53,9 @@ impl Search {
         ensures here { OnOk result (slice_get self.new.seen.items at ≡ Some (Some here)) }
         ensures err { IfErr result (λ e. States image.now e) }
     {
-        match self.todo.push(at) {
-            Ok(()) => {
-                self.seen[at as usize] = Some(here);
-                Ok(())
-            }
-            Err(_) => Err(VerifyError::OutOfMemory),
-        }
+        self.todo.push(at)?;
+        self.seen[at as usize] = Some(here);
+        Ok(())
     }
 
     fn arrive(&mut self, image: &Image, here: Kept, at: u32) -> Result<(), VerifyError>
@@ -181,14 +177,10 @@ impl Search {
     }
 }
 
-fn nothing_seen(alloc: Global, many: usize) -> Result<Vec<Option<Kept>>, VerifyError>
-    ensures ok { IfOk result (λ v. v.items ≡ replicate many None) }
-    ensures err { IfErr result (λ e. e ≡ VerifyError.OutOfMemory) }
+fn nothing_seen(alloc: Global, many: usize) -> Result<Vec<Option<Kept>>, AllocError>
+    ensures { IfOk result (λ v. v.items ≡ replicate many None) }
 {
-    match vec![in alloc; None; many] {
-        Ok(seen) => Ok(seen),
-        Err(_) => Err(VerifyError::OutOfMemory),
-    }
+    vec![in alloc; None; many]
 }
 
 /// The start of main is kept, and nothing else yet.
@@ -212,6 +204,7 @@ fn begun(alloc: Global, image: &Image) -> Result<Search, VerifyError>
 
 /// All reached addresses, with their units and depths.
 pub fn search_all(alloc: Global, image: &Image) -> Result<Vec<Option<Kept>>, VerifyError>
+    ensures fits { length image.now.text ≤ 65536 }
     ensures ok { IfOk result (λ seen. IsClosed image.now seen.items) }
     ensures decided { IfOk result (λ _. (z : ℕ) (e : VerifyError) → IsDecided e → IsTrueOf image.now z e → ⊥) }
     ensures err { IfErr result (λ e. States image.now e) }

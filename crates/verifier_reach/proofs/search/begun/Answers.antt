@@ -7,14 +7,14 @@ arrive-requires-clause-reached c = Start
 
 pub arrive-requires-clause-low : goal.arrive-requires-clause-low
 arrive-requires-clause-low c =
-    omega (arith, empties_few c.in_ok-seen.seen.items, ap length c.in_ok-seen.ensures.ok, length-replicate {A = Option Kept} c.text_len.result None)
+    omega (arith, empties_few c.in_ok-seen.seen.items, ap length c.in_ok-seen.ensures, length-replicate {A = Option Kept} c.text_len.result None)
 
 pub returns-clause-ok : goal.returns-clause-ok
 returns-clause-ok c = record {
   search = c.in_ok-arrive.ensures.search;
   start = c.in_ok-arrive.ensures.here;
   each = λ at k is. elim (c.in_ok-arrive.ensures.grows.fresh at k is) [
-    | inl old ↦ absurd (none_kept c.text_len.result at k (rw (← c.in_ok-seen.ensures.ok) old))
+    | inl old ↦ absurd (none_kept c.text_len.result at k (rw (← c.in_ok-seen.ensures) old))
     | inr waits ↦ inl waits
   ];
 }
