@@ -27,12 +27,12 @@ module _ (constants methods : List (List ℕ)) (u : DraftView) (d : Drafted u) w
 
   operation_named : (i : Instruction) (o : Operation) → StandsFor constants methods u i o → Names o
   operation_named (instructions.Plain instr) o q = subst Names (sym q) tt
-  operation_named (instructions.Constant name) o (i, e, q) = subst Names (sym q) (place_below constants name i e)
+  operation_named (instructions.Constant name) o (i, e, q) = subst Names (sym q) (place_below (λ own. Some own) constants name i e)
   operation_named (instructions.Local access wide name) o (i, l, q) = subst Names (sym q) tt
   operation_named (instructions.Increment wide name by) o (i, l, q) = subst Names (sym q) tt
   operation_named (instructions.Jump jump label) o (i, (place, e, f), q) =
       subst Names (sym q) (element (λ at. at < length u.lines) u.label_positions place i d.label_positions f)
-  operation_named (instructions.Call name) o (i, e, q) = subst Names (sym q) (place_below methods name i e)
+  operation_named (instructions.Call name) o (i, e, q) = subst Names (sym q) (place_below (λ own. Some own) methods name i e)
 
   lines_named : (ds : List DraftLine) (out : List CodeLine) → Pairwise (IsLineOf constants methods u) ds out → All Good out × (length out ≡ length ds)
   lines_named [] [] w = (All-nil Good, refl)

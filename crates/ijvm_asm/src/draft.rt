@@ -8,7 +8,7 @@ ghost use Rattle.ijvm_asm.specs.Drafts.{begun, is_memory};
 use crate::error::AsmError;
 use ijvm_line::Instruction;
 use mic_base::Name;
-use source_text::NameList;
+use source_text::{NamedList, NotAdded};
 use std::alloc::Global;
 use std::marker::Model;
 
@@ -25,10 +25,10 @@ pub(crate) struct Draft {
     /// The name of a method.
     pub(crate) name: Option<Name>,
     /// The parameters, then the locals.
-    pub(crate) names: NameList,
+    pub(crate) names: NamedList<Name>,
     /// The number of parameters.
     pub(crate) parameters: u32,
-    pub(crate) labels: NameList,
+    pub(crate) labels: NamedList<Name>,
     /// For each label, how many code lines stand before it.
     pub(crate) label_positions: Vec<u32>,
     pub(crate) lines: Vec<DraftLine>,
@@ -62,7 +62,7 @@ impl Model for Draft {
 impl Draft {
     ghost use Rattle.ijvm_asm.specs.Adding.{add_instruction, add_label, add_local};
 
-    pub(crate) fn new(alloc: Global, name: Option<Name>, parameters: NameList) -> Draft
+    pub(crate) fn new(alloc: Global, name: Option<Name>, parameters: NamedList<Name>) -> Draft
         requires { length parameters ≤ most_names }
         ensures { result ≡ begun name parameters }
     {
@@ -71,7 +71,7 @@ impl Draft {
             name,
             names: parameters,
             parameters: count,
-            labels: NameList::new(alloc),
+            labels: NamedList::new(alloc),
             label_positions: Vec::new(alloc),
             lines: Vec::new(alloc),
             pending: false,
@@ -85,14 +85,12 @@ impl Draft {
         ensures left { IfErr result (λ e. StaysBy is_memory e self.old self.new) }
         ensures refused { (e : AsmError) → add_local line self.old name ≡ Err e → result ≡ Err e }
     {
-        if self.names.find(&name).is_some() {
-            return Err(AsmError::DuplicateName(line));
+        match self.names.add(name, MOST) {
+            Ok(()) => Ok(()),
+            Err(NotAdded::Again(_)) => Err(AsmError::DuplicateName(line)),
+            Err(NotAdded::Full) => Err(AsmError::TooManyNames(line)),
+            Err(NotAdded::OutOfMemory) => Err(AsmError::OutOfMemory),
         }
-        if self.names.len() >= MOST {
-            return Err(AsmError::TooManyNames(line));
-        }
-        self.names.add(name)?;
-        Ok(())
     }
 
     /// Declares a label on this line.
@@ -105,13 +103,14 @@ impl Draft {
         let Some(label) = label else {
             return Ok(());
         };
-        if self.labels.find(&label).is_some() {
-            return Err(AsmError::DuplicateName(line));
+        match self.labels.add(label, u32::MAX) {
+            Ok(()) => {}
+            Err(NotAdded::Again(_)) => return Err(AsmError::DuplicateName(line)),
+            Err(_) => return Err(AsmError::OutOfMemory),
         }
         let Ok(at) = u32::try_from(self.lines.len()) else {
             return Err(AsmError::OutOfMemory);
         };
-        self.labels.add(label)?;
         self.label_positions.push(at)?;
         self.pending = true;
         Ok(())

@@ -8,7 +8,7 @@ use crate::draft::Draft;
 use ijvm_line::{Instruction, access_instr, increment_instr};
 use ijvm_program::{CodeLine, Label, Operation, Unit};
 use mic_base::Name;
-use source_text::NameList;
+use source_text::NamedList;
 use std::alloc::{AllocError, Global};
 
 /// Main's locals are numbered from 0; a method's parameters from 1, and its locals after them.
@@ -35,8 +35,8 @@ fn label_of(unit: &Draft, label: &Name) -> Option<u32>
 
 /// What an instruction stands for, where its name is declared.
 fn operation_of(
-    constants: &NameList,
-    methods: &NameList,
+    constants: &NamedList<Name>,
+    methods: &NamedList<Name>,
     unit: &Draft,
     instruction: &Instruction,
 ) -> Option<Operation>
@@ -80,8 +80,8 @@ fn lower(least: Option<u32>, line: u32) -> Option<u32>
 
 /// The lowest of a line and the unit's lines that name what is not declared.
 pub(crate) fn unknown_lines(
-    constants: &NameList,
-    methods: &NameList,
+    constants: &NamedList<Name>,
+    methods: &NamedList<Name>,
     unit: &Draft,
     least: Option<u32>,
 ) -> Option<u32>
@@ -100,8 +100,8 @@ pub(crate) fn unknown_lines(
 
 /// The lowest of a line and the lines of these units that name what is not declared.
 pub(crate) fn unknown_units(
-    constants: &NameList,
-    methods: &NameList,
+    constants: &NamedList<Name>,
+    methods: &NamedList<Name>,
     least: Option<u32>,
     units: &[Draft],
 ) -> Option<u32>
@@ -119,8 +119,8 @@ pub(crate) fn unknown_units(
 #[tactic(auto, using(crate::proofs::Known::first_line))]
 fn lines_of(
     alloc: Global,
-    constants: &NameList,
-    methods: &NameList,
+    constants: &NamedList<Name>,
+    methods: &NamedList<Name>,
     unit: &Draft,
 ) -> Result<Vec<CodeLine>, AllocError>
     requires { IsSome (lines_from constants.now methods.now unit.now [] unit.now.lines) }
@@ -143,7 +143,7 @@ fn labels_of(alloc: Global, unit: &Draft) -> Result<Vec<Label>, AllocError>
     ensures { IfOk result (λ v. v.items ≡ labels_of unit.now) }
 {
     unit.labels
-        .names()
+        .items()
         .iter()
         .zip(unit.label_positions.iter())
         .map(|(name, at)| Label {
@@ -157,7 +157,7 @@ fn parameters_of(alloc: Global, unit: &Draft) -> Result<Vec<Name>, AllocError>
     ensures { IfOk result (λ v. v.items ≡ take unit.now.parameters unit.now.names) }
 {
     unit.names
-        .names()
+        .items()
         .iter()
         .copied()
         .take(unit.parameters as usize)
@@ -168,7 +168,7 @@ fn locals_of(alloc: Global, unit: &Draft) -> Result<Vec<Name>, AllocError>
     ensures { IfOk result (λ v. v.items ≡ drop unit.now.parameters unit.now.names) }
 {
     unit.names
-        .names()
+        .items()
         .iter()
         .copied()
         .skip(unit.parameters as usize)
@@ -179,8 +179,8 @@ fn locals_of(alloc: Global, unit: &Draft) -> Result<Vec<Name>, AllocError>
 #[tactic(auto, using(crate::proofs::Known::lines_known))]
 pub(crate) fn unit_of(
     alloc: Global,
-    constants: &NameList,
-    methods: &NameList,
+    constants: &NamedList<Name>,
+    methods: &NamedList<Name>,
     draft: &Draft,
 ) -> Result<Unit, AllocError>
     requires { IsSome (unit_of constants.now methods.now draft.now) }
@@ -197,8 +197,8 @@ pub(crate) fn unit_of(
 #[tactic(auto, using(crate::proofs::Known::first_unit))]
 pub(crate) fn units_of(
     alloc: Global,
-    constants: &NameList,
-    methods: &NameList,
+    constants: &NamedList<Name>,
+    methods: &NamedList<Name>,
     drafts: &[Draft],
 ) -> Result<Vec<Unit>, AllocError>
     requires { IsSome (units_from constants.now methods.now [] drafts.now) }

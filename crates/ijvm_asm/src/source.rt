@@ -12,7 +12,7 @@ use crate::laws::reads_texts;
 use ijvm_line::{Content, Instruction, LineFault, Mark, Place, line_from, parameters_of};
 use ijvm_tokens::{Token, tokens_of};
 use mic_base::Name;
-use source_text::{LineLanguage, NameList, Reader, TokenError};
+use source_text::{LineLanguage, NamedList, NotAdded, Reader, TokenError};
 use std::alloc::Global;
 use std::marker::Model;
 use std::mem;
@@ -31,10 +31,10 @@ pub(crate) struct SourceReader {
     may_declare: bool,
     seen_constants: bool,
     seen_main: bool,
-    pub(crate) constants: NameList,
+    pub(crate) constants: NamedList<Name>,
     /// For each constant its value.
     pub(crate) values: Vec<u32>,
-    pub(crate) methods: NameList,
+    pub(crate) methods: NamedList<Name>,
     /// The open unit.
     unit: Draft,
     pub(crate) main: Option<Draft>,
@@ -64,18 +64,18 @@ impl Model for SourceReader {
 }
 
 /// The names as a list, unless one comes twice.
-fn gather(alloc: Global, names: &[Name]) -> Result<Option<NameList>, AsmError>
+fn gather(alloc: Global, names: &[Name]) -> Result<Option<NamedList<Name>>, AsmError>
     ensures ok { IfOk result (λ list. list ≡ gather [] names.now) }
     ensures err { IfErr result (λ e. e ≡ AsmError.OutOfMemory) }
 {
-    let mut list = NameList::new(alloc);
+    let mut list = NamedList::new(alloc);
     let mut rest = names;
     while let Some((first, after)) = rest.split_first() {
-        if list.find(first).is_some() {
-            return Ok(None);
+        match list.add(*first, u32::MAX) {
+            Ok(()) => rest = after,
+            Err(NotAdded::Again(_)) => return Ok(None),
+            Err(_) => return Err(AsmError::OutOfMemory),
         }
-        list.add(*first)?;
-        rest = after;
     }
     Ok(Some(list))
 }
@@ -106,10 +106,10 @@ impl SourceReader {
             may_declare: false,
             seen_constants: false,
             seen_main: false,
-            constants: NameList::new(alloc),
+            constants: NamedList::new(alloc),
             values: Vec::new(alloc),
-            methods: NameList::new(alloc),
-            unit: Draft::new(alloc, None, NameList::new(alloc)),
+            methods: NamedList::new(alloc),
+            unit: Draft::new(alloc, None, NamedList::new(alloc)),
             main: None,
             units: Vec::new(alloc),
         }
@@ -130,7 +130,9 @@ impl SourceReader {
         if self.is_declared(&name) {
             return Err(AsmError::DuplicateName(line));
         }
-        self.constants.add(name)?;
+        self.constants
+            .add(name, u32::MAX)
+            .map_err(|_| AsmError::OutOfMemory)?;
         self.values.push(value)?;
         Ok(())
     }
@@ -174,7 +176,9 @@ impl SourceReader {
         if names.len() > MOST {
             return Err(AsmError::TooManyNames(line));
         }
-        self.methods.add(name)?;
+        self.methods
+            .add(name, u32::MAX)
+            .map_err(|_| AsmError::OutOfMemory)?;
         self.unit = Draft::new(self.alloc, Some(name), names);
         self.place = Place::Code;
         self.section = line;
@@ -205,7 +209,7 @@ impl SourceReader {
             return Err(AsmError::BadLine(line));
         }
         self.seen_main = true;
-        self.unit = Draft::new(self.alloc, None, NameList::new(self.alloc));
+        self.unit = Draft::new(self.alloc, None, NamedList::new(self.alloc));
         self.place = Place::Code;
         self.section = line;
         self.may_declare = true;
@@ -232,7 +236,7 @@ impl SourceReader {
         ensures rest { self.new ≡ record self.old { unit = begun None []; place = Place.Outside } }
     {
         self.place = Place::Outside;
-        let next = Draft::new(self.alloc, None, NameList::new(self.alloc));
+        let next = Draft::new(self.alloc, None, NamedList::new(self.alloc));
         mem::replace(&mut self.unit, next)
     }
 

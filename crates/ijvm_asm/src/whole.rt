@@ -42,7 +42,7 @@ fn constants_of(reader: &SourceReader) -> Result<Vec<Constant>, AllocError>
 {
     reader
         .constants
-        .names()
+        .items()
         .iter()
         .zip(reader.values.iter())
         .map(|(name, value)| Constant {

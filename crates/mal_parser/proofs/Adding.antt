@@ -1,12 +1,54 @@
 -- The lines of a source say something together where none is refused after the others.
 use Rattle.mal_parser.proofs.Common.{◌≡◌, ℕ, suc, ◌+◌, ◌≤◌, Bool, true, false, List, [], ◌∷◌, ◌++◌, Option, Some, None, length, refl, sym, ap, subst, ◌∙◌}
 use Rattle.mal_parser.proofs.Common.{arith, inl, inr, cond, append_assoc, length-append, Result, Ok, Err, nat_le, ◌||◌, ◌⊎◌, is_some, option_map}
-use Rattle.mal_parser.proofs.Common.{option_to_list, IsSome, cons_option, bytes_eq, append-nil, map-append, nat_tests, list_any-append, or_from, or_parts}
-use Rattle.mal_parser.proofs.Common.{Makes, Machine, Content, Parts, Draft, Fix}
+use Rattle.mal_parser.proofs.Common.{option_to_list, IsSome, cons_option, bytes_eq, append-nil, filter_map-append, nat_tests, list_any-append, or_from, or_parts}
+use Rattle.mal_parser.proofs.Common.{Makes, option_and_then, place_of, some_place, Machine, Content, Parts, Draft, Fix}
+use Rattle.mal_parser.proofs.Common.{◌<◌}
+use Rattle.mal_parser.specs.Reading.{add_fix, add_statement}
 use Rattle.mal_line.specs.declared.content.Content.TheVariants as said
 use Rattle.mal_parser.specs.declared.error.MalError.TheVariants as errors
-use Rattle.mal_parser.specs.Prelude.{address_of, AreDistinct, fix_labels, has_fix, has_label, has_name, is_among, is_label, labels_of, AreAddresses, fallbacks_from, fixes_from, IsFine, statements_from, add_content, add_fix, empty, first, parser, Sketch, sketch_of}
-use Rattle.mal_parser.proofs.Resolved.{same_text, text_same}
+use Rattle.mal_parser.specs.Prelude.{fixed_label, own_label, address_of, AreDistinct, fix_labels, has_fix, has_name, is_among, labels_of, AreAddresses, fallbacks_from, fixes_from, IsFine, statements_from, add_content, add_fix, empty, first, parser, Sketch, sketch_of}
+use Rattle.mal_parser.proofs.Resolved.{among, same_text, text_same}
+
+-- ---- labels that stand again
+
+pub name_known : (ds : List Draft) (own : Option (List ℕ)) → is_some (option_and_then (place_of own_label ds) own) ≡ has_name ds own
+name_known ds None = refl
+name_known ds (Some label) = some_place own_label ds label
+
+pub fix_known : (fs : List Fix) (label : List ℕ) → is_some (place_of fixed_label fs label) ≡ has_fix fs label
+fix_known = some_place fixed_label
+
+-- ---- what the lists of statements and of `.label` lines keep is what the lines add
+
+module _ (k : ℕ) (s : Sketch) (label : Option (List ℕ)) (parts : Parts) where
+  pub statement_kept : option_and_then (place_of own_label s.statements) label ≡ None → length s.statements < 512
+      → add_statement k s label parts ≡ Ok (record s { statements = s.statements ++ (record { label = label; line = k; parts = parts }) ∷ [] })
+  statement_kept free room =
+      let own : has_name s.statements label ≡ false = sym (name_known s.statements label) ∙ ap is_some free in
+      let few : nat_le 512 (length s.statements) ≡ false = grind (arith, nat_tests) in
+      rw (own, few) refl
+
+  pub statement_again : (place : ℕ) → option_and_then (place_of own_label s.statements) label ≡ Some place
+      → add_statement k s label parts ≡ Err (errors.DuplicateLabel k)
+  statement_again place taken =
+      let own : has_name s.statements label ≡ true = sym (name_known s.statements label) ∙ ap is_some taken in
+      rw own refl
+
+  pub statement_full : option_and_then (place_of own_label s.statements) label ≡ None → 512 ≤ length s.statements
+      → add_statement k s label parts ≡ Err (errors.TooMany k)
+  statement_full free full =
+      let own : has_name s.statements label ≡ false = sym (name_known s.statements label) ∙ ap is_some free in
+      let many : nat_le 512 (length s.statements) ≡ true = grind (arith, nat_tests) in
+      rw (own, many) refl
+
+module _ (k : ℕ) (s : Sketch) (label : List ℕ) (number : Option ℕ) (address : ℕ) (is : number ≡ Some address) where
+  pub fix_kept : place_of fixed_label s.fixes label ≡ None
+      → add_fix k s label number ≡ Ok (record s { fixes = s.fixes ++ (record { label = label; line = k; address = address }) ∷ [] })
+  fix_kept free = let own : has_fix s.fixes label ≡ false = sym (fix_known s.fixes label) ∙ ap is_some free in rw (is, own) refl
+
+  pub fix_again : (place : ℕ) → place_of fixed_label s.fixes label ≡ Some place → add_fix k s label number ≡ Err (errors.BadFix k)
+  fix_again place taken = let own : has_fix s.fixes label ≡ true = sym (fix_known s.fixes label) ∙ ap is_some taken in rw (is, own) refl
 
 -- ---- adding what the lines say
 
@@ -85,26 +127,6 @@ distinct_middle (x ∷ xs) ys y h =
     let p = or_parts (is_among x xs) (bytes_eq y x || is_among x ys) a in
     let q = or_parts (bytes_eq y x) (is_among x ys) p.1 in
     or_from (bytes_eq x y) (is_among y xs) (differ y x q.0) (distinct_middle xs ys y h.1)
-
-labels_append : (ds es : List Draft) → labels_of (ds ++ es) ≡ labels_of ds ++ labels_of es
-labels_append [] es = refl
-labels_append (d ∷ ds) es = go d.label (labels_append ds es)
-  where
-    go : (o : Option (List ℕ)) → labels_of (ds ++ es) ≡ labels_of ds ++ labels_of es → cons_option o (labels_of (ds ++ es)) ≡ cons_option o (labels_of ds) ++ labels_of es
-    go None h = h
-    go (Some l) h = ap (λ ls. l ∷ ls) h
-
-pub label_among : (ds : List Draft) (l : List ℕ) → has_label ds l ≡ is_among l (labels_of ds)
-label_among [] l = refl
-label_among (d ∷ ds) l = go d.label (label_among ds l)
-  where
-    go : (o : Option (List ℕ)) → has_label ds l ≡ is_among l (labels_of ds) → (is_label l o || has_label ds l) ≡ is_among l (cons_option o (labels_of ds))
-    go None h = h
-    go (Some own) h = ap (λ b. bytes_eq own l || b) h
-
-fix_among : (fs : List Fix) (l : List ℕ) → has_fix fs l ≡ is_among l (fix_labels fs)
-fix_among [] l = refl
-fix_among (f ∷ fs) l = ap (λ b. bytes_eq f.label l || b) (fix_among fs l)
 
 -- ---- lines that are fine after others
 
@@ -238,11 +260,11 @@ room_left n h = grind (arith, nat_tests)
 one_more : (k : ℕ) (s : Sketch) (label : Option (List ℕ)) (d : Draft) → d.label ≡ label → IsFineAlone s → has_name s.statements label ≡ false → nat_le 512 (length s.statements) ≡ false
     → AreDistinct (labels_of (s.statements ++ d ∷ [])) × (length (s.statements ++ d ∷ []) ≤ 512)
 one_more k s label d e h f n =
-    (subst AreDistinct (sym (labels_append s.statements (d ∷ []))) (subst (λ o. AreDistinct (labels_of s.statements ++ cons_option o [])) (sym e) (go label f)), let l = length-append s.statements (d ∷ []) in let r = room_left (length s.statements) n in omega (arith, l, r))
+    (subst AreDistinct (sym (filter_map-append own_label s.statements (d ∷ []))) (subst (λ o. AreDistinct (labels_of s.statements ++ cons_option o [])) (sym e) (go label f)), let l = length-append s.statements (d ∷ []) in let r = room_left (length s.statements) n in omega (arith, l, r))
   where
     go : (o : Option (List ℕ)) → has_name s.statements o ≡ false → AreDistinct (labels_of s.statements ++ cons_option o [])
     go None f = subst AreDistinct (sym (append-nil (labels_of s.statements))) h.labels
-    go (Some l) f = distinct_push (labels_of s.statements) l h.labels (sym (label_among s.statements l) ∙ f)
+    go (Some l) f = distinct_push (labels_of s.statements) l h.labels (sym (among own_label s.statements l) ∙ f)
 
 grows : (k : ℕ) (s : Sketch) (c : Content) (u : Sketch) → IsFineAlone s → AddsTo k s c u → IsFineAlone u
 unfolding AddsTo with_fix with_fallback with_statement
@@ -252,7 +274,7 @@ grows k s (said.Fix label number) u h (a, e, f, g) =
     subst IsFineAlone g (record {
       labels = h.labels;
       few = h.few;
-      fixed = subst AreDistinct (sym (map-append (λ (f : Fix). f.label) s.fixes (new ∷ []))) (distinct_push (fix_labels s.fixes) label h.fixed (sym (fix_among s.fixes label) ∙ f));
+      fixed = subst AreDistinct (sym (filter_map-append fixed_label s.fixes (new ∷ []))) (distinct_push (fix_labels s.fixes) label h.fixed (sym (among fixed_label s.fixes label) ∙ f));
     })
 grows k s (said.Fallback parts) u h (f, g) = subst IsFineAlone g (record { labels = h.labels; few = h.few; fixed = h.fixed })
 grows k s (said.Statement label parts) u h (f, n, g) =
@@ -276,11 +298,11 @@ none_before None a xs h = refl
 none_before (Some b) a xs h = absurd (omega arith)
 
 free_before : (ds es : List Draft) (d : Draft) (label : Option (List ℕ)) → d.label ≡ label → AreDistinct (labels_of (ds ++ d ∷ es)) → has_name ds label ≡ false
-free_before ds es d label e h = go label (subst (λ o. AreDistinct (labels_of ds ++ cons_option o (labels_of es))) e (subst AreDistinct (labels_append ds (d ∷ es)) h))
+free_before ds es d label e h = go label (subst (λ o. AreDistinct (labels_of ds ++ cons_option o (labels_of es))) e (subst AreDistinct (filter_map-append own_label ds (d ∷ es)) h))
   where
     go : (o : Option (List ℕ)) → AreDistinct (labels_of ds ++ cons_option o (labels_of es)) → has_name ds o ≡ false
     go None h = refl
-    go (Some l) h = label_among ds l ∙ distinct_middle (labels_of ds) (labels_of es) l h
+    go (Some l) h = among own_label ds l ∙ distinct_middle (labels_of ds) (labels_of es) l h
 
 fine_step : (k : ℕ) (s : Sketch) (c : Content) (cs : List Content) → IsFineFrom s k (c ∷ cs) → (u : Sketch) × AddsTo k s c u
 unfolding AddsTo with_fix with_fallback with_statement
@@ -293,8 +315,8 @@ fine_step k s (said.Fix label number) cs h = go (address_of number) refl h.addre
     go None e i d = absurd (cc)
     go (Some a) e i d =
         let new : Fix = record { label = label; line = k; address = a } in
-        let m = subst AreDistinct (map-append (λ (f : Fix). f.label) s.fixes (new ∷ fixes_from (k + 1) cs)) d in
-        let f : has_fix s.fixes label ≡ false = fix_among s.fixes label ∙ distinct_middle (fix_labels s.fixes) (fix_labels (fixes_from (k + 1) cs)) label m in
+        let m = subst AreDistinct (filter_map-append fixed_label s.fixes (new ∷ fixes_from (k + 1) cs)) d in
+        let f : has_fix s.fixes label ≡ false = among fixed_label s.fixes label ∙ distinct_middle (fix_labels s.fixes) (fix_labels (fixes_from (k + 1) cs)) label m in
         (with_fix k s label a, (a, e, f, refl))
 fine_step k s (said.Fallback parts) cs h =
     (with_fallback k s parts, (none_before s.fallback (record { label = None; line = k; parts = parts }) (fallbacks_from (k + 1) cs) h.one_default, refl))

@@ -8,19 +8,14 @@ pub use Rattle.std.proofs.lemmas.Bool.Decides.{nat_tests}
 pub use Rattle.std.proofs.lemmas.List.{length-map, map-append, take_more}
 pub use Rattle.std.proofs.lemmas.List.Elements.{All-cons, All-head, All-nil, All-tail, filter_map-append}
 pub use Rattle.std.proofs.lemmas.List.Folds.{list_any-append}
-pub use Rattle.std.proofs.lemmas.List.Quantifiers.{position-Some}
-pub use Rattle.std.proofs.lemmas.Option.{get_or_from_slice_get, slice_get-get_or, slice_get-map, slice_get_within}
+pub use Rattle.std.proofs.lemmas.Option.{get_or_from_slice_get, slice_get-map, slice_get_within}
 pub use Rattle.std.proofs.lemmas.Result.{err_from_is_err_and}
 pub use Rattle.std.proofs.lemmas.Slice.Eq.{bytes_eq-Decides}
-pub use Rattle.std.specs.BTreeMap.{BTreeMap, get, is_at}
-pub use Rattle.std.specs.Cmp.Lexicographic.{slice_cmp, texts_ties}
-pub use Rattle.std.specs.List.{cons_option, filter_map, list_all, list_any, onto_first, position, position_from, position_or_len}
-pub use Rattle.std.specs.Option.{option_or}
-pub use Rattle.std.specs.Ordering.{nat_cmp}
+pub use Rattle.std.specs.List.{cons_option, filter_map, list_all, list_any, onto_first}
 pub use Rattle.std.specs.Str.{bytes_eq}
 pub use Rattle.mic_words.specs.declared.machine.Machine.{Machine}
 pub use Rattle.source_text.specs.Prelude.{Agrees, FailsBy, IsReadAsSpelled, Leads, Makes, SayAll, SaysLine, StopsAt, before_more, begins_comment, contents}
-pub use Rattle.source_text.specs.Prelude.{mapped, parts, place_of_name, without_comment}
+pub use Rattle.source_text.specs.Prelude.{is_called, is_taken, mapped, parts, place_of, some_place, without_comment}
 pub use Rattle.micro_word.specs.Prelude.{is_next, is_part, is_valid}
 pub use Rattle.micro_word.specs.declared.statement.Part.{Part}
 pub use Rattle.mal_tokens.specs.Prelude.{IsLabelText, spelled_as}

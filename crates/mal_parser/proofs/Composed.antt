@@ -2,9 +2,9 @@
 use Rattle.mal_parser.proofs.Common.{◌≡◌, ℕ, zero, suc, ◌+◌, ◌<◌, ◌≤◌, Bool, true, false, List, [], ◌∷◌, ◌++◌, Option, Some, None, length, refl, sym, ap, subst}
 use Rattle.mal_parser.proofs.Common.{◌∙◌, arith, cond, ◌||◌, ◌&&◌, IfSome, IsSome, pos, map, nat_lt, slice_get, unwrap_or, option_map, option_and_then}
 use Rattle.mal_parser.proofs.Common.{option_to_list, find, cons_option, filter_map, list_all, bytes_eq, nat_tests, or_from, or_right, SayAll, Content, Next}
-use Rattle.mal_parser.proofs.Common.{printed, fix, Draft, Fix, Statement}
+use Rattle.mal_parser.proofs.Common.{printed, fix, is_called, Draft, Fix, Statement}
 use Rattle.mal_line.specs.declared.next.Next.TheVariants as nexts
-use Rattle.mal_parser.specs.Prelude.{address_of, AreDistinct, fix_labels, has_label, is_among, is_label, is_labelled, labels_of, AreAddresses, AreResolved, fallbacks, fallbacks_from, fixes, fixes_from, grammar, IsFine, IsFixedBy, IsProgramOf, IsResolvedNext, SpellsProgram, statements, statements_from, address_at, fixed_of, HasTargets, IsFallback, IsLabelled, IsMalProgram, label_at, MalView, canonical_text, canonical_lines, fix_count, fix_line, on_line, on_lines, relined}
+use Rattle.mal_parser.specs.Prelude.{address_of, AreDistinct, fix_labels, has_label, is_among, labels_of, AreAddresses, AreResolved, fallbacks, fallbacks_from, fixes, fixes_from, grammar, IsFine, IsFixedBy, IsProgramOf, IsResolvedNext, SpellsProgram, statements, statements_from, address_at, fixed_of, HasTargets, IsFallback, IsLabelled, IsMalProgram, label_at, MalView, canonical_text, canonical_lines, fix_count, fix_line, on_line, on_lines, relined}
 use Rattle.mal_parser.proofs.Resolved.{same_text, text_same}
 use Rattle.mal_parser.proofs.Fixing.{fixed_is}
 use Rattle.mal_parser.proofs.Printed.{contents_text}
@@ -225,11 +225,11 @@ has_draft : (all ss : List Statement) (k i : ℕ) (s : Statement) (label : List 
 has_draft all [] k i s label h e = absurd (cc)
 has_draft all (x ∷ ss) k zero s label h e = go x.label (let q : x ≡ s = cc in ap (λ (t : Statement). t.label) q ∙ e)
   where
-    go : (o : Option (List ℕ)) → o ≡ Some label → (is_label label o || has_label (drafts all (k + 1) ss) label) ≡ true
+    go : (o : Option (List ℕ)) → o ≡ Some label → (is_called label o || has_label (drafts all (k + 1) ss) label) ≡ true
     go None f = absurd (cc)
     go (Some name) f = let n : name ≡ label = cc in ap (λ b. b || has_label (drafts all (k + 1) ss) label) (ap (bytes_eq name) (sym n) ∙ text_same name)
 has_draft all (x ∷ ss) k (suc i) s label h e =
-    or_right (is_labelled label (draft all k x)) (has_label (drafts all (k + 1) ss) label) (has_draft all ss (k + 1) i s label h e)
+    or_right (is_called label x.label) (has_label (drafts all (k + 1) ss) label) (has_draft all ss (k + 1) i s label h e)
 
 known_fixes : (ds : List Draft) (xs : List Statement) (k : ℕ) → ((i : ℕ) (s : Statement) (label : List ℕ) → slice_get xs i ≡ Some s → s.label ≡ Some label → has_label ds label ≡ true) → list_all (λ f. has_label ds f.label) (fixes_at xs k) ≡ true
 known_fixes ds [] k h = refl

@@ -1,12 +1,11 @@
 -- The refusals of a whole source.
-use Rattle.mal_parser.proofs.Common.{◌≡◌, ℕ, zero, suc, ◌+◌, ◌-◌, ◌≤◌, Bool, true, false, List, [], ◌∷◌, ◌++◌, Option, Some, None, length, refl, sym, ap, subst}
+use Rattle.mal_parser.proofs.Common.{◌≡◌, ℕ, suc, ◌+◌, ◌-◌, ◌≤◌, Bool, true, false, List, [], ◌∷◌, ◌++◌, Option, Some, None, length, refl, sym, ap, subst}
 use Rattle.mal_parser.proofs.Common.{◌∙◌, arith, cond, Err, find, slice_get, not, min, option_map, ◌||◌, ◌&&◌, IsSome, cons_option, list_any, and_right}
-use Rattle.mal_parser.proofs.Common.{or_right, Machine, Content, Next, MalError, Draft, Fix}
+use Rattle.mal_parser.proofs.Common.{is_some, some_place, Machine, Content, Next, MalError, Draft, Fix}
 use Rattle.mal_line.specs.declared.content.Content.TheVariants as said
 use Rattle.mal_line.specs.declared.next.Next.TheVariants as nexts
 use Rattle.mal_parser.specs.declared.error.MalError.TheVariants as errors
-use Rattle.mal_parser.specs.Prelude.{address_of, has_label, is_labelled, AreAddresses, AreRefused, fallbacks_from, falls, falls_off, FallsOff, fixes_from, is_statement, IsAt, IsFine, IsFirst, names_unknown, NamesUnknown, Never, statements, statements_from, targets_of, by_entry, by_falling, by_unknown, earlier, falling, first, first_falling, first_unknown, knows, main1, number_of, resolved_program, sketch_of, unknown_draft, unknown_fix, unknown_in}
-use Rattle.mal_parser.proofs.Resolved.{any_position, at_position}
+use Rattle.mal_parser.specs.Prelude.{own_label, address_of, has_label, AreAddresses, AreRefused, fallbacks_from, falls, falls_off, FallsOff, fixes_from, is_statement, IsAt, IsFine, IsFirst, names_unknown, NamesUnknown, Never, statements, statements_from, targets_of, by_entry, by_falling, by_unknown, earlier, falling, first, first_falling, first_unknown, knows, main1, number_of, resolved_program, sketch_of, unknown_draft, unknown_fix, unknown_in}
 
 -- ---- the first line that names an unknown label
 
@@ -288,23 +287,14 @@ falling_same m cs fine = two_lines cs 1 fine.one_default
 -- ---- the refusals at the end
 
 no_number : (ds : List Draft) (label : List ℕ) → number_of ds label ≡ None → has_label ds label ≡ false
-no_number ds label h = go (has_label ds label) refl
-  where
-    go : (b : Bool) → has_label ds label ≡ b → b ≡ false
-    go true e = absurd (let p = any_position (is_labelled label) ds e in let k = p.1 in cc)
-    go false e = refl
+no_number ds label h = sym (some_place own_label ds label) ∙ ap is_some h
 
 no_label : (ds : List Draft) (label : List ℕ) → has_label ds label ≡ false → number_of ds label ≡ None
-no_label ds label h = go (number_of ds label) refl
+no_label ds label h = go (number_of ds label) (some_place own_label ds label ∙ h)
   where
-    passes_any : (ds : List Draft) (i : ℕ) (d : Draft) → slice_get ds i ≡ Some d → is_labelled label d ≡ true → list_any (is_labelled label) ds ≡ true
-    passes_any [] i d g e = absurd (cc)
-    passes_any (x ∷ ds) zero d g e = let k : x ≡ d = cc in let f : is_labelled label x ≡ true = subst (λ y. is_labelled label y ≡ true) (sym k) e in rw f refl
-    passes_any (x ∷ ds) (suc i) d g e = or_right (is_labelled label x) (list_any (is_labelled label) ds) (passes_any ds i d g e)
-
-    go : (o : Option ℕ) → number_of ds label ≡ o → o ≡ None
+    go : (o : Option ℕ) → is_some o ≡ false → o ≡ None
     go None e = refl
-    go (Some i) e = absurd (let q = at_position (is_labelled label) ds i e in let k = passes_any ds i q.0 q.1 q.2 in cc)
+    go (Some i) e = absurd (cc)
 
 module _ (m : Machine) (cs : List Content) (fine : IsFine cs) where
   pub ends_refused : (e : MalError) → resolved_program (sketch_of m cs) ≡ Err e → AreRefused cs e

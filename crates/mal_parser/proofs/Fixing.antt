@@ -1,8 +1,8 @@
 -- The address that the `.label` lines give a statement.
-use Rattle.mal_parser.proofs.Common.{◌≡◌, ℕ, zero, suc, Bool, true, false, List, [], ◌∷◌, Option, Some, None, refl, sym, ap, subst, ◌∙◌, cond, find, slice_get}
-use Rattle.mal_parser.proofs.Common.{option_map, ◌||◌, bytes_eq, or_right, Fix}
-use Rattle.mal_parser.specs.Prelude.{AreDistinct, fix_labels, is_among, IsFixedBy, address_at, fixed_of}
-use Rattle.mal_parser.proofs.Resolved.{same_text, text_same}
+use Rattle.mal_parser.proofs.Common.{◌≡◌, ℕ, zero, suc, Bool, true, false, List, [], ◌∷◌, Option, Some, None, refl, sym, ap, ◌∙◌, cond, find, slice_get}
+use Rattle.mal_parser.proofs.Common.{option_map, bytes_eq, Fix}
+use Rattle.mal_parser.specs.Prelude.{fixed_label, AreDistinct, fix_labels, IsFixedBy, address_at, fixed_of}
+use Rattle.mal_parser.proofs.Resolved.{one_place, same_text, text_same}
 
 module _ (label : List ℕ) where
   later : (f : Fix) (fs : List Fix) (o : Option ℕ) → bytes_eq f.label label ≡ false → IsFixedBy fs (Some label) o → IsFixedBy (f ∷ fs) (Some label) o
@@ -32,28 +32,10 @@ fixed_is fs (Some label) = address_is label fs
 
 -- ---- there is at most one
 
-fix_among : (fs : List Fix) (i : ℕ) (f : Fix) → slice_get fs i ≡ Some f → is_among f.label (fix_labels fs) ≡ true
-fix_among [] i f at = absurd (cc)
-fix_among (x ∷ fs) zero f at = let e : x ≡ f = cc in let t = text_same f.label in subst (λ (y : Fix). (bytes_eq y.label f.label || is_among f.label (fix_labels fs)) ≡ true) (sym e) (rw t refl)
-fix_among (x ∷ fs) (suc i) f at = or_right (bytes_eq x.label f.label) (is_among f.label (fix_labels fs)) (fix_among fs i f at)
-
-one_fix : (fs : List Fix) (i j : ℕ) (f g : Fix) → AreDistinct (fix_labels fs) → slice_get fs i ≡ Some f → slice_get fs j ≡ Some g → f.label ≡ g.label → f ≡ g
-one_fix [] i j f g d a b e = absurd (cc)
-one_fix (x ∷ fs) zero zero f g d a b e = cc
-one_fix (x ∷ fs) zero (suc j) f g d a b e =
-    let k : x ≡ f = cc in
-    let l : g.label ≡ x.label = sym e ∙ ap (λ (y : Fix). y.label) (sym k) in
-    absurd (let t : is_among x.label (fix_labels fs) ≡ true = subst (λ n. is_among n (fix_labels fs) ≡ true) l (fix_among fs j g b) in let n = d.0 in cc)
-one_fix (x ∷ fs) (suc i) zero f g d a b e =
-    let k : x ≡ g = cc in
-    let l : f.label ≡ x.label = e ∙ ap (λ (y : Fix). y.label) (sym k) in
-    absurd (let t : is_among x.label (fix_labels fs) ≡ true = subst (λ n. is_among n (fix_labels fs) ≡ true) l (fix_among fs i f a) in let n = d.0 in cc)
-one_fix (x ∷ fs) (suc i) (suc j) f g d a b e = one_fix fs i j f g d.1 a b e
-
 one_address : (fs : List Fix) (o : Option (List ℕ)) (a b : Option ℕ) → AreDistinct (fix_labels fs) → IsFixedBy fs o a → IsFixedBy fs o b → a ≡ b
 one_address fs o (Some a) (Some b) d (i, f, at, own, is) (j, g, bt, bown, bis) =
-    let l : f.label ≡ g.label = cc in
-    let e : f ≡ g = one_fix fs i j f g d at bt l in
+    let k : i ≡ j = one_place fixed_label fs i j f g f.label d at refl bt (sym bown ∙ own) in
+    let e : f ≡ g = cc in
     ap Some (sym is ∙ (ap (λ (x : Fix). x.address) e ∙ bis))
 one_address fs o (Some a) None d (i, f, at, own, is) none = absurd (none i f at own)
 one_address fs o None (Some b) d none (i, f, at, own, is) = absurd (none i f at own)

@@ -1,7 +1,5 @@
 pub mod Common
-pub mod Numbers
 pub mod Resolved
-pub mod Addresses
 pub mod Fixing
 pub mod Saying
 pub mod Adding

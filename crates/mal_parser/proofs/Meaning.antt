@@ -3,10 +3,9 @@ use Rattle.mal_parser.proofs.Common.{◌≡◌, ℕ, zero, suc, ◌-◌, ◌≤�
 use Rattle.mal_parser.proofs.Common.{arith, cond, Ok, IfSome, map, find, not, slice_get, option_map, option_to_list, unwrap_or, ◌&&◌, list_all}
 use Rattle.mal_parser.proofs.Common.{slice_get_within, not-false, Machine, Part, Content, Next, Draft, Fix, Statement}
 use Rattle.mal_line.specs.declared.next.Next.TheVariants as nexts
-use Rattle.mal_parser.specs.Prelude.{AreDistinct, fix_labels, has_label, is_labelled, labels_of, AreResolved, fallbacks, falls, fixes, IsFine, IsProgramOf, IsResolved, IsResolvedNext, statements, by_entry, by_falling, by_unknown, earlier, falling, first, first_falling, first_unknown, fixed_of, IsSound, knows, main1, resolved_next, number_of, resolved_program, program_with, resolved, sketch_of, target_number, unknown_draft, unknown_fix, unknown_in, IsFallback, label_at, MalView}
+use Rattle.mal_parser.specs.Prelude.{own_label, AreDistinct, fix_labels, has_label, labels_of, AreResolved, fallbacks, falls, fixes, IsFine, IsProgramOf, IsResolved, IsResolvedNext, statements, by_entry, by_falling, by_unknown, earlier, falling, first, first_falling, first_unknown, fixed_of, IsSound, knows, main1, resolved_next, number_of, resolved_program, program_with, resolved, sketch_of, target_number, unknown_draft, unknown_fix, unknown_in, IsFallback, label_at, MalView}
 use Rattle.mal_parser.proofs.Fixing.{fixed_is, fixed_there}
-use Rattle.mal_parser.proofs.Resolved.{among_at, any_position, at_position, draft_label, found_later, known_one, label_is, labelled_at, neither, no_line, one_place, program_is, target_label}
-use Rattle.mal_parser.proofs.Adding.{label_among}
+use Rattle.mal_parser.proofs.Resolved.{among, among_at, any_place, at_place, draft_label, found_later, known_one, label_is, labelled_at, neither, no_line, one_place, program_is, target_label}
 
 -- ---- what is resolved is the meaning
 
@@ -82,14 +81,14 @@ same_labels ss fs (d ∷ ds) (y ∷ ys) zero a = sym a.0.label
 same_labels ss fs (d ∷ ds) (y ∷ ys) (suc i) a = same_labels ss fs ds ys i a.1
 
 has_at : (ds : List Draft) (i : ℕ) (label : List ℕ) → draft_label ds i ≡ Some label → has_label ds label ≡ true
-has_at ds i label h = let a = labelled_at ds i label h in label_among ds label ∙ among_at ds i a.0 label a.1 a.2
+has_at ds i label h = let a = labelled_at ds i label h in among own_label ds label ∙ among_at own_label ds i a.0 label a.1 a.2
 
 number_at : (ds : List Draft) (i : ℕ) (label : List ℕ) → AreDistinct (labels_of ds) → draft_label ds i ≡ Some label → number_of ds label ≡ Some i
 number_at ds i label d h =
     let a = labelled_at ds i label h in
-    let p = any_position (is_labelled label) ds (has_at ds i label h) in
-    let q = at_position (is_labelled label) ds p.0 p.1 in
-    p.1 ∙ ap Some (one_place ds p.0 i q.0 a.0 label d q.1 (label_is label q.0.label q.2) a.1 a.2)
+    let p = any_place ds label (has_at ds i label h) in
+    let q = at_place ds label p.0 p.1 in
+    p.1 ∙ ap Some (one_place own_label ds p.0 i q.0 a.0 label d q.1 (label_is label q.0.label q.2) a.1 a.2)
 
 target_at : (ds : List Draft) (i : ℕ) (label : List ℕ) → AreDistinct (labels_of ds) → draft_label ds i ≡ Some label → i ≡ target_number ds label
 target_at ds i label d h = sym (ap (λ o. unwrap_or o 0) (number_at ds i label d h))

@@ -1,11 +1,11 @@
 -- What the labels of a sound source are resolved to is a program.
-use Rattle.mal_parser.proofs.Common.{◌≡◌, ℕ, zero, suc, ◌+◌, ◌-◌, ◌<◌, Bool, true, false, List, [], ◌∷◌, Option, Some, None, length, get_or, refl, sym, ap}
-use Rattle.mal_parser.proofs.Common.{subst, ◌∙◌, arith, inl, inr, cond, not, map, find, option_map, option_and_then, unwrap_or, slice_get, ◌||◌, nat_lt, IfSome}
-use Rattle.mal_parser.proofs.Common.{IsSome, All, cases_lt, and_parts, not-false, or_right, cons_option, list_any, position, position_or_len, bytes_eq}
-use Rattle.mal_parser.proofs.Common.{length-map, position-Some, slice_get-map, slice_get-get_or, slice_get_within, get_or_from_slice_get, nat_tests}
+use Rattle.mal_parser.proofs.Common.{◌≡◌, ℕ, zero, suc, ◌+◌, ◌-◌, ◌<◌, Bool, true, false, List, [], ◌∷◌, Option, Some, None, length, refl, sym, ap}
+use Rattle.mal_parser.proofs.Common.{subst, ◌∙◌, arith, inl, inr, cond, not, map, find, option_map, option_and_then, unwrap_or, slice_get, ◌||◌, IfSome}
+use Rattle.mal_parser.proofs.Common.{IsSome, All, is_called, is_some, is_taken, some_place, cases_lt, and_parts, not-false, or_right, cons_option, filter_map, bytes_eq}
+use Rattle.mal_parser.proofs.Common.{length-map, slice_get-map, slice_get_within, get_or_from_slice_get}
 use Rattle.mal_parser.proofs.Common.{bytes_eq-Decides, All-head, All-tail, Machine, Next, Draft, Fix, Statement}
 use Rattle.mal_line.specs.declared.next.Next.TheVariants as nexts
-use Rattle.mal_parser.specs.Prelude.{AreDistinct, has_label, is_among, is_label, is_labelled, labels_of, falls, address_at, earlier, falling, first_falling, first_unknown, fixed_of, IsDraft, IsSound, knows, main1, resolved_next, number_of, program_with, resolved, Sketch, target_number, unknown_draft, unknown_fix, unknown_in, HasTargets, IsFallback, IsLabelled, IsMalProgram, IsStatement, label_at}
+use Rattle.mal_parser.specs.Prelude.{own_label, AreDistinct, has_label, is_among, falls, address_at, earlier, falling, first_falling, first_unknown, fixed_of, IsDraft, IsSound, knows, main1, resolved_next, number_of, program_with, resolved, Sketch, target_number, unknown_draft, unknown_fix, unknown_in, HasTargets, IsFallback, IsLabelled, IsMalProgram, IsStatement, label_at}
 
 -- ---- places of lists
 
@@ -24,66 +24,77 @@ find_none p [] i x h g = absurd (cc)
 find_none p (y ∷ ys) zero x h g = let k : y ≡ x = cc in subst (λ z. p z ≡ false) k (found_later (p y) y (find p ys) h).0
 find_none p (y ∷ ys) (suc i) x h g = find_none p ys i x (found_later (p y) y (find p ys) h).1 g
 
-any_below : {A : Type 0} (p : A → Bool) (xs : List A) → list_any p xs ≡ true → position_or_len p xs < length xs
-any_below p [] h = absurd (cc)
-any_below p (x ∷ xs) h = go (p x) h (any_below p xs)
-  where
-    go : (w : Bool) → (w || list_any p xs) ≡ true → (list_any p xs ≡ true → position_or_len p xs < length xs) → cond (not w) (1 + position_or_len p xs) 0 < length (x ∷ xs)
-    go true h rec = omega arith
-    go false h rec = let r = rec h in omega (arith, r)
-
--- what passes stands at the place that is found
-pub any_position : {A : Type 0} (p : A → Bool) (xs : List A) → list_any p xs ≡ true → (i : ℕ) × (position p xs ≡ Some i)
-any_position p xs h =
-    let lt = any_below p xs h in
-    let k : nat_lt (position_or_len p xs) (length xs) ≡ true = grind (arith, nat_tests) in
-    (position_or_len p xs, rw k refl)
-
-pub at_position : {A : Type 0} (p : A → Bool) (xs : List A) (i : ℕ) → position p xs ≡ Some i → (x : A) × (slice_get xs i ≡ Some x) × (p x ≡ true)
-at_position p [] i h = absurd (cc)
-at_position p (x ∷ xs) i h =
-    let q = position-Some p (x ∷ xs) i x h in
-    (get_or (x ∷ xs) i x, slice_get-get_or (x ∷ xs) i x q.0, q.1)
-
 -- ---- labels
 
-pub label_is : (label : List ℕ) (o : Option (List ℕ)) → is_label label o ≡ true → o ≡ Some label
+-- a label that a statement has is at a place
+pub any_place : (ds : List Draft) (label : List ℕ) → has_label ds label ≡ true → (i : ℕ) × (number_of ds label ≡ Some i)
+any_place ds label h = go (number_of ds label) (some_place own_label ds label ∙ h)
+  where
+    go : (o : Option ℕ) → is_some o ≡ true → (i : ℕ) × (o ≡ Some i)
+    go None e = absurd (cc)
+    go (Some i) e = (i, refl)
+
+pub at_place : (ds : List Draft) (label : List ℕ) (i : ℕ) → number_of ds label ≡ Some i → (d : Draft) × (slice_get ds i ≡ Some d) × (is_called label d.label ≡ true)
+at_place [] label i h = absurd (cc)
+at_place (x ∷ ds) label i h = go (is_called label x.label) refl (number_of ds label) (at_place ds label) h
+  where
+    go : (b : Bool) → is_called label x.label ≡ b → (o : Option ℕ) → ((j : ℕ) → o ≡ Some j → (d : Draft) × (slice_get ds j ≡ Some d) × (is_called label d.label ≡ true))
+        → cond b (Some 0) (option_map (λ j. j + 1) o) ≡ Some i → (d : Draft) × (slice_get (x ∷ ds) i ≡ Some d) × (is_called label d.label ≡ true)
+    go true e o rec h = let k : 0 ≡ i = cc in (x, subst (λ i. slice_get (x ∷ ds) i ≡ Some x) k refl, e)
+    go false e None rec h = absurd (cc)
+    go false e (Some j) rec h =
+        let k : j + 1 ≡ i = cc in
+        let s : suc j ≡ i = omega (arith, k) in
+        let r = rec j refl in
+        (r.0, subst (λ i. slice_get (x ∷ ds) i ≡ Some r.0) s r.1, r.2)
+
+pub label_is : (label : List ℕ) (o : Option (List ℕ)) → is_called label o ≡ true → o ≡ Some label
 label_is label (Some own) h = ap Some (same_text own label h)
 label_is label None h = absurd (cc)
 
-pub among_at : (ds : List Draft) (i : ℕ) (d : Draft) (label : List ℕ) → slice_get ds i ≡ Some d → d.label ≡ Some label → is_among label (labels_of ds) ≡ true
-among_at [] i d label g e = absurd (cc)
-among_at (x ∷ ds) zero d label g e =
-    let k : x ≡ d = cc in
-    let own : x.label ≡ Some label = ap (λ (y : Draft). y.label) k ∙ e in
-    let t = text_same label in
-    rw (own, t) refl
-among_at (x ∷ ds) (suc i) d label g e = go x.label (among_at ds i d label g e)
-  where
-    go : (o : Option (List ℕ)) → is_among label (labels_of ds) ≡ true → is_among label (cons_option o (labels_of ds)) ≡ true
-    go None h = h
-    go (Some own) h = or_right (bytes_eq own label) (is_among label (labels_of ds)) h
+module _ {A : Type 0} (name_of : A → Option (List ℕ)) where
+  pub among : (xs : List A) (label : List ℕ) → is_taken name_of xs label ≡ is_among label (filter_map name_of xs)
+  among [] label = refl
+  among (x ∷ xs) label = go (name_of x) (among xs label)
+    where
+      go : (o : Option (List ℕ)) → is_taken name_of xs label ≡ is_among label (filter_map name_of xs)
+          → (is_called label o || is_taken name_of xs label) ≡ is_among label (cons_option o (filter_map name_of xs))
+      go None h = h
+      go (Some own) h = ap (λ b. bytes_eq own label || b) h
 
-distinct_tail : (o : Option (List ℕ)) (ls : List (List ℕ)) → AreDistinct (cons_option o ls) → AreDistinct ls
-distinct_tail None ls h = h
-distinct_tail (Some l) ls h = h.1
+  pub among_at : (xs : List A) (i : ℕ) (x : A) (label : List ℕ) → slice_get xs i ≡ Some x → name_of x ≡ Some label → is_among label (filter_map name_of xs) ≡ true
+  among_at [] i x label g e = absurd (cc)
+  among_at (y ∷ xs) zero x label g e =
+      let k : y ≡ x = cc in
+      let own : name_of y ≡ Some label = ap name_of k ∙ e in
+      let t = text_same label in
+      rw (own, t) refl
+  among_at (y ∷ xs) (suc i) x label g e = go (name_of y) (among_at xs i x label g e)
+    where
+      go : (o : Option (List ℕ)) → is_among label (filter_map name_of xs) ≡ true → is_among label (cons_option o (filter_map name_of xs)) ≡ true
+      go None h = h
+      go (Some own) h = or_right (bytes_eq own label) (is_among label (filter_map name_of xs)) h
 
-distinct_head : (o : Option (List ℕ)) (l : List ℕ) (ls : List (List ℕ)) → o ≡ Some l → AreDistinct (cons_option o ls) → is_among l ls ≡ true → ⊥
-distinct_head None l ls e h a = cc
-distinct_head (Some m) l ls e h a = let k : m ≡ l = cc in let f : is_among l ls ≡ false = subst (λ m. is_among m ls ≡ false) k h.0 in cc
+  distinct_tail : (o : Option (List ℕ)) (ls : List (List ℕ)) → AreDistinct (cons_option o ls) → AreDistinct ls
+  distinct_tail None ls h = h
+  distinct_tail (Some l) ls h = h.1
 
-pub one_place : (ds : List Draft) (i j : ℕ) (d e : Draft) (label : List ℕ) → AreDistinct (labels_of ds) → slice_get ds i ≡ Some d → d.label ≡ Some label → slice_get ds j ≡ Some e → e.label ≡ Some label → i ≡ j
-one_place [] i j d e label h gi li gj lj = absurd (cc)
-one_place (x ∷ ds) zero zero d e label h gi li gj lj = refl
-one_place (x ∷ ds) zero (suc j) d e label h gi li gj lj =
-    let k : x ≡ d = cc in
-    let own : x.label ≡ Some label = ap (λ (y : Draft). y.label) k ∙ li in
-    absurd (distinct_head x.label label (labels_of ds) own h (among_at ds j e label gj lj))
-one_place (x ∷ ds) (suc i) zero d e label h gi li gj lj =
-    let k : x ≡ e = cc in
-    let own : x.label ≡ Some label = ap (λ (y : Draft). y.label) k ∙ lj in
-    absurd (distinct_head x.label label (labels_of ds) own h (among_at ds i d label gi li))
-one_place (x ∷ ds) (suc i) (suc j) d e label h gi li gj lj = ap suc (one_place ds i j d e label (distinct_tail x.label (labels_of ds) h) gi li gj lj)
+  distinct_head : (o : Option (List ℕ)) (l : List ℕ) (ls : List (List ℕ)) → o ≡ Some l → AreDistinct (cons_option o ls) → is_among l ls ≡ true → ⊥
+  distinct_head None l ls e h a = cc
+  distinct_head (Some m) l ls e h a = let k : m ≡ l = cc in let f : is_among l ls ≡ false = subst (λ m. is_among m ls ≡ false) k h.0 in cc
+
+  -- one item has a label where no label stands twice
+  pub one_place : (xs : List A) (i j : ℕ) (x y : A) (label : List ℕ) → AreDistinct (filter_map name_of xs) → slice_get xs i ≡ Some x → name_of x ≡ Some label
+      → slice_get xs j ≡ Some y → name_of y ≡ Some label → i ≡ j
+  one_place [] i j x y label h gi li gj lj = absurd (cc)
+  one_place (z ∷ xs) zero zero x y label h gi li gj lj = refl
+  one_place (z ∷ xs) zero (suc j) x y label h gi li gj lj =
+      let k : z ≡ x = cc in
+      absurd (distinct_head (name_of z) label (filter_map name_of xs) (ap name_of k ∙ li) h (among_at xs j y label gj lj))
+  one_place (z ∷ xs) (suc i) zero x y label h gi li gj lj =
+      let k : z ≡ y = cc in
+      absurd (distinct_head (name_of z) label (filter_map name_of xs) (ap name_of k ∙ lj) h (among_at xs i x label gi li))
+  one_place (z ∷ xs) (suc i) (suc j) x y label h gi li gj lj = ap suc (one_place xs i j x y label (distinct_tail (name_of z) (filter_map name_of xs) h) gi li gj lj)
 
 unfoldable pub draft_label : List Draft → ℕ → Option (List ℕ)
 draft_label ds i = option_and_then (λ d. d.label) (slice_get ds i)
@@ -117,8 +128,8 @@ labelled_at ds i label h = go (slice_get ds i) refl h
 pub target_label : (ds : List Draft) (fs : List Fix) (label : List ℕ) → has_label ds label ≡ true → label_at (map (resolved ds fs) ds) (target_number ds label) ≡ Some label
 unfolding draft_label
 target_label ds fs label h =
-    let p = any_position (is_labelled label) ds h in
-    let q = at_position (is_labelled label) ds p.0 p.1 in
+    let p = any_place ds label h in
+    let q = at_place ds label p.0 p.1 in
     let e : target_number ds label ≡ p.0 = ap (λ o. unwrap_or o 0) p.1 in
     ap (label_at (map (resolved ds fs) ds)) e ∙ (label_kept ds fs ds p.0 ∙ (ap (option_and_then (λ (d : Draft). d.label)) q.1 ∙ label_is label q.0.label q.2))
 
@@ -233,7 +244,7 @@ module _ (s : Sketch) (entry : ℕ) (sound : IsSound s) (no_unknown : first_unkn
   pub program_is : IsMalProgram (program_with s entry)
   unfolding draft_label
   program_is =
-      let q = at_position (is_labelled main1) s.statements entry has_entry in
+      let q = at_place s.statements main1 entry has_entry in
       let lt = slice_get_within s.statements entry q.0 q.1 in
       let l = length-map s.statements (resolved s.statements s.fixes) in
       record {
@@ -243,7 +254,7 @@ module _ (s : Sketch) (entry : ℕ) (sound : IsSound s) (no_unknown : first_unkn
         labels = λ i j label hi hj.
             let a = labelled_at s.statements i label (sym (label_kept s.statements s.fixes s.statements i) ∙ hi) in
             let b = labelled_at s.statements j label (sym (label_kept s.statements s.fixes s.statements j) ∙ hj) in
-            one_place s.statements i j a.0 b.0 label sound.labels a.1 a.2 b.1 b.2;
+            one_place own_label s.statements i j a.0 b.0 label sound.labels a.1 a.2 b.1 b.2;
         fallback = fallback_is s.fallback refl;
         entry = label_kept s.statements s.fixes s.statements entry ∙ (ap (option_and_then (λ (d : Draft). d.label)) q.1 ∙ label_is main1 q.0.label q.2);
       }

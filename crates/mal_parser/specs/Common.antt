@@ -1,11 +1,8 @@
 -- The words of other crates that this one uses.
-pub use Rattle.std.specs.BTreeMap.{BTreeMap, IsUnchanged, get}
-pub use Rattle.std.specs.Cmp.Lexicographic.{slice_cmp}
-pub use Rattle.std.specs.List.{cons_option, filter_map, list_all, list_any, position}
-pub use Rattle.std.specs.Ordering.{nat_cmp}
+pub use Rattle.std.specs.List.{cons_option, filter_map, list_all, list_any}
 pub use Rattle.std.specs.Str.{bytes_eq}
 pub use Rattle.mic_words.specs.declared.machine.Machine.{Machine}
-pub use Rattle.source_text.specs.Prelude.{AtMostOneProgram, AtMostOneRefusal, Grammar, IsReadAsSpelled, LineRefusals, NeverBoth, Parser, Step, add_said}
+pub use Rattle.source_text.specs.Prelude.{AtMostOneProgram, AtMostOneRefusal, Grammar, IsReadAsSpelled, LineRefusals, NeverBoth, Parser, Step, add_said, is_taken, place_of}
 pub use Rattle.micro_word.specs.Prelude.{is_next, is_part, is_valid}
 pub use Rattle.micro_word.specs.declared.statement.Placed.{Placed}
 pub use Rattle.micro_word.specs.declared.statement.PlacedNext.{PlacedNext}

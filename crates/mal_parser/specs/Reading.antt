@@ -1,6 +1,6 @@
 -- Computes which program a text spells, or its first refusal (`SpellsProgram` and `IsRefused` of `Text`): its lines one after the other, then its labels.
 use Rattle.std.specs.Prelude.{◌≡◌, ◌<◌, ◌≤◌, ◌↔◌, ℕ, ◌-◌, ◌&&◌, Bool, true, not, List, [], ◌∷◌, ◌++◌, Option, Some, None, Result, Ok, Err, if◌then◌else◌, nat_le, min, length, map, find, slice_get, is_some, option_map, option_and_then, unwrap_or, codes, All, IsTrue, IfSome, ⊤}
-use Rattle.mal_parser.specs.Common.{position, bytes_eq, Machine, add_said, Parser, Step, is_part, Token, read, IsLabelText, Content, Parts, LineFault, Next}
+use Rattle.mal_parser.specs.Common.{place_of, bytes_eq, Machine, add_said, Parser, Step, is_part, Token, read, IsLabelText, Content, Parts, LineFault, Next}
 use Rattle.mal_parser.specs.Common.{HasPart, line_from, LinesReadAsSpelled, LinesRefusedAsFaulty, by_targets}
 use Rattle.source_text.specs.Parsing as parsing
 use Rattle.mal_tokens.specs.Tokens as tokens
@@ -12,7 +12,7 @@ use Rattle.mal_parser.specs.declared.error.MalError.TheVariants as errors
 use Rattle.mal_parser.specs.declared.source.Draft.{Draft}
 use Rattle.mal_parser.specs.declared.source.Fix.{Fix}
 use Rattle.mal_parser.specs.declared.statement.Statement.{Statement}
-use Rattle.mal_parser.specs.Labels.{address_of, AreDistinct, has_fix, has_label, has_name, is_labelled, labels_of}
+use Rattle.mal_parser.specs.Labels.{address_of, AreDistinct, has_fix, has_label, has_name, labels_of, own_label}
 use Rattle.mal_parser.specs.Program.{MalView}
 use Rattle.mal_parser.specs.Text.{fallbacks, falls, fixes, refusals, statements}
 
@@ -119,7 +119,7 @@ first_falling s = earlier (falling (slice_get s.statements (length s.statements 
 -- ---- computes the program whose names are resolved (`IsProgramOf`)
 
 abbrev pub number_of : List Draft → List ℕ → Option ℕ
-number_of ds label = position (is_labelled label) ds
+number_of ds label = place_of own_label ds label
 
 abbrev pub target_number : List Draft → List ℕ → ℕ
 target_number ds label = unwrap_or (number_of ds label) 0

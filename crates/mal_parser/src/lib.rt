@@ -1,9 +1,7 @@
 //! Programs of the microassembly language MAL: what they are, how a text is read as one, and how one is printed.
 #![tactic(auto)]
 
-mod drafts;
 mod error;
-mod fixes;
 mod laws;
 mod parse;
 mod print;

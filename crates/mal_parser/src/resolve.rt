@@ -1,53 +1,50 @@
 //! Labels become the numbers of their statements.
 
 ghost use Rattle.std.specs.Prelude.{◌≡◌, ◌≤◌, ◌<◌, ◌-◌, length, option_map, map, slice_get, find, min, IfOk, IfErr, Ok, Some};
-ghost use Rattle.std.specs.List.{position};
 ghost use Rattle.source_text.specs.Prelude.{FailsBy};
-ghost use Rattle.mal_parser.specs.Labels.{has_label, is_labelled};
 ghost use Rattle.mal_parser.specs.Text.{falls, is_memory};
-ghost use Rattle.mal_parser.specs.Reading.{earlier, falling, first_falling, first_unknown, fixed_of, IsSound, knows, main1, resolved_next, number_of, resolved_program, resolved, target_number, unknown_draft, unknown_fix, unknown_in};
+ghost use Rattle.mal_parser.specs.Reading.{earlier, falling, first_falling, first_unknown, fixed_of, IsSound, knows, main1, resolved_next, resolved_program, resolved, target_number, unknown_draft, unknown_fix, unknown_in};
 
-use crate::drafts::Drafts;
 use crate::error::MalError;
-use crate::fixes::Fixes;
 use crate::program::MalProgram;
-use crate::source::{Draft, SourceReader};
+use crate::source::{Draft, Fix, SourceReader};
 use crate::statement::{MalNext, Statement};
 use mal_line::Next;
 use mic_base::Name;
+use source_text::NamedList;
 use std::alloc::AllocError;
 
-fn knows(drafts: &Drafts, next: &Next<Name>) -> bool
+fn knows(drafts: &NamedList<Draft>, next: &Next<Name>) -> bool
     ensures { result ≡ knows drafts.now next.now }
 {
     match next {
-        Next::Goto(label) => drafts.has_label(label),
-        Next::Branch { yes, no, .. } => drafts.has_label(yes) && drafts.has_label(no),
+        Next::Goto(label) => drafts.has(label),
+        Next::Branch { yes, no, .. } => drafts.has(yes) && drafts.has(no),
         Next::Following | Next::Dispatch { .. } => true,
     }
 }
 
-fn unknown_draft(drafts: &Drafts) -> Option<u32>
+fn unknown_draft(drafts: &NamedList<Draft>) -> Option<u32>
     ensures { result ≡ unknown_draft drafts.now drafts.now }
 {
     drafts
-        .as_slice()
+        .items()
         .iter()
         .find(|draft| !knows(drafts, &draft.parts.next))
         .map(|draft| draft.line)
 }
 
-fn unknown_fix(drafts: &Drafts, fixes: &Fixes) -> Option<u32>
+fn unknown_fix(drafts: &NamedList<Draft>, fixes: &NamedList<Fix>) -> Option<u32>
     ensures { result ≡ unknown_fix drafts.now fixes.now }
 {
     fixes
-        .as_slice()
+        .items()
         .iter()
-        .find(|fix| !drafts.has_label(&fix.label))
+        .find(|fix| !drafts.has(&fix.label))
         .map(|fix| fix.line)
 }
 
-fn unknown_in(drafts: &Drafts, fallback: &Option<Draft>) -> Option<u32>
+fn unknown_in(drafts: &NamedList<Draft>, fallback: &Option<Draft>) -> Option<u32>
     ensures { result ≡ unknown_in drafts.now fallback.now }
 {
     match fallback {
@@ -94,20 +91,20 @@ fn falling(draft: Option<Draft>) -> Option<u32>
     }
 }
 
-fn last_of(drafts: &Drafts) -> Option<Draft>
+fn last_of(drafts: &NamedList<Draft>) -> Option<Draft>
     ensures { result ≡ slice_get drafts.now (length drafts.now - 1) }
 {
-    drafts.as_slice().last().copied()
+    drafts.items().last().copied()
 }
 
-fn target_number(drafts: &Drafts, label: &Name) -> u16
+fn target_number(drafts: &NamedList<Draft>, label: &Name) -> u16
     requires { length drafts.now ≤ 512 }
     ensures { result ≡ target_number drafts.now label.now }
 {
-    drafts.number_of(label).unwrap_or(0) as u16
+    drafts.find(label).unwrap_or(0) as u16
 }
 
-fn resolved_next(drafts: &Drafts, next: &Next<Name>) -> MalNext
+fn resolved_next(drafts: &NamedList<Draft>, next: &Next<Name>) -> MalNext
     requires { length drafts.now ≤ 512 }
     ensures { result ≡ resolved_next drafts.now next.now }
 {
@@ -123,16 +120,16 @@ fn resolved_next(drafts: &Drafts, next: &Next<Name>) -> MalNext
     }
 }
 
-fn fixed_of(fixes: &Fixes, label: &Option<Name>) -> Option<u16>
+fn fixed_of(fixes: &NamedList<Fix>, label: &Option<Name>) -> Option<u16>
     ensures { result ≡ fixed_of fixes.now label.now }
 {
     match label {
-        Some(label) => fixes.address_at(label),
+        Some(label) => Some(fixes.get(label)?.address),
         None => None,
     }
 }
 
-fn resolved(drafts: &Drafts, fixes: &Fixes, draft: &Draft) -> Statement
+fn resolved(drafts: &NamedList<Draft>, fixes: &NamedList<Fix>, draft: &Draft) -> Statement
     requires { length drafts.now ≤ 512 }
     ensures { result ≡ resolved drafts.now fixes.now draft.now }
 {
@@ -152,7 +149,7 @@ fn all_resolved(reader: &SourceReader) -> Result<Vec<Statement>, AllocError>
     let drafts = &reader.statements;
     let fixes = &reader.fixes;
     drafts
-        .as_slice()
+        .items()
         .iter()
         .map(|draft| resolved(drafts, fixes, draft))
         .collect(reader.alloc)
@@ -204,7 +201,7 @@ pub(crate) fn resolved_program(reader: &SourceReader) -> Result<MalProgram, MalE
     if let Some(line) = first_falling(reader) {
         return Err(MalError::LastFalls(line));
     }
-    let Some(entry) = reader.statements.number_of(&main1()) else {
+    let Some(entry) = reader.statements.find(&main1()) else {
         return Err(MalError::NoEntry);
     };
     let Ok(statements) = all_resolved(reader) else {

@@ -6,15 +6,13 @@ ghost use Rattle.mal_parser.specs.declared.error.MalError.TheVariants.{OutOfMemo
 ghost use Rattle.mal_parser.specs.Labels.{address_of};
 ghost use Rattle.mal_parser.specs.Text.{at_line, is_memory};
 
-use crate::drafts::Drafts;
 use crate::error::MalError;
-use crate::fixes::Fixes;
 use crate::laws::{reads_lines, reads_texts};
-use mal_line::{Content, LineFault, Parts, line_from};
+use mal_line::{Content, LineFault, Next, Parts, line_from};
 use mal_tokens::{Token, tokens_of};
 use mic_base::Name;
 use micro_word::Machine;
-use source_text::{LineLanguage, Reader, TokenError};
+use source_text::{LineLanguage, Named, NamedList, NotAdded, Reader, TokenError};
 use std::alloc::Global;
 use std::marker::Model;
 
@@ -26,12 +24,30 @@ pub struct Draft {
     pub parts: Parts,
 }
 
+impl Named for Draft {
+    ghost name = { λ d. d.label };
+
+    fn name(&self) -> Option<Name> {
+        self.label
+    }
+}
+
 /// A `.label` line.
 #[derive(Clone, Copy)]
 pub struct Fix {
     pub label: Name,
     pub line: u32,
     pub address: u16,
+}
+
+impl Named for Fix {
+    ghost use Rattle.std.specs.Prelude.{Some};
+
+    ghost name = { λ f. Some f.label };
+
+    fn name(&self) -> Option<Name> {
+        Some(self.label)
+    }
 }
 
 fn address_of(number: i64) -> Option<u16>
@@ -49,8 +65,8 @@ fn address_of(number: i64) -> Option<u16>
 pub(crate) struct SourceReader {
     pub(crate) alloc: Global,
     pub(crate) machine: Machine,
-    pub(crate) statements: Drafts,
-    pub(crate) fixes: Fixes,
+    pub(crate) statements: NamedList<Draft>,
+    pub(crate) fixes: NamedList<Fix>,
     pub(crate) fallback: Option<Draft>,
 }
 
@@ -72,8 +88,8 @@ impl SourceReader {
         SourceReader {
             alloc,
             machine,
-            statements: Drafts::new(alloc),
-            fixes: Fixes::new(alloc),
+            statements: NamedList::new(alloc),
+            fixes: NamedList::new(alloc),
             fallback: None,
         }
     }
@@ -86,17 +102,16 @@ impl SourceReader {
         let Some(address) = address_of(address) else {
             return Err(MalError::BadFix(line));
         };
-        if self.fixes.has_label(&label) {
-            return Err(MalError::BadFix(line));
+        let fix = Fix {
+            label,
+            line,
+            address,
+        };
+        match self.fixes.add(fix, u32::MAX) {
+            Ok(()) => Ok(()),
+            Err(NotAdded::Again(_)) => Err(MalError::BadFix(line)),
+            Err(_) => Err(MalError::OutOfMemory),
         }
-        self.fixes
-            .push(Fix {
-                label,
-                line,
-                address,
-            })
-            .map_err(|_| MalError::OutOfMemory)?;
-        Ok(())
     }
 
     fn add_fallback(&mut self, line: u32, parts: Parts) -> Result<(), MalError>
@@ -125,14 +140,17 @@ impl SourceReader {
         ensures err { IfErr result (λ e. FailsBy is_memory e (add_statement line self.old label parts)) }
         ensures left { OnErr result (self.new ≡ self.old) }
     {
-        // A label that stands twice is reported first.
-        if self.statements.as_slice().len() >= 512 && !self.statements.has_name(&label) {
-            return Err(MalError::TooMany(line));
-        }
-        match self.statements.push(label, line, parts) {
-            Ok(true) => Ok(()),
-            Ok(false) => Err(MalError::DuplicateLabel(line)),
-            Err(_) => Err(MalError::OutOfMemory),
+        let next: Next<Name> = parts.next;
+        let draft = Draft {
+            label,
+            line,
+            parts: Parts { next, ..parts },
+        };
+        match self.statements.add(draft, 512) {
+            Ok(()) => Ok(()),
+            Err(NotAdded::Again(_)) => Err(MalError::DuplicateLabel(line)),
+            Err(NotAdded::Full) => Err(MalError::TooMany(line)),
+            Err(NotAdded::OutOfMemory) => Err(MalError::OutOfMemory),
         }
     }
 

@@ -1,37 +1,46 @@
--- One more name in a list of names.
-use Rattle.source_text.proofs.Common.{◌≡◌, ℕ, ◌+◌, ◌<◌, Bool, true, false, List, [], ◌∷◌, ◌++◌, Option, Some, None, length, refl, sym, ap, ◌∙◌, cond, arith}
-use Rattle.source_text.proofs.Common.{option_map, bytes_eq, nat_cmp, slice_cmp, texts_ties, BTreeMap, get, is_at, length_push, ArePlaces, place_of_name}
+-- One more item in a list of items that are found by their names.
+use Rattle.source_text.proofs.Common.{◌≡◌, ℕ, ◌+◌, ◌<◌, Bool, true, false, List, [], ◌∷◌, ◌++◌, Option, Some, None, length, refl, sym, ap, subst, ◌∙◌, cond, arith}
+use Rattle.source_text.proofs.Common.{option_map, nat_cmp, slice_cmp, texts_ties, is_at, length_push, is_called, place_of}
 use Rattle.std.proofs.lemmas.Slice.Eq.{bytes_eq-Decides}
+use Rattle.std.specs.Option.{option_or}
 
--- a name that is not in a list is neither its first name nor one after it
-absent : (b : Bool) (o : Option ℕ) → cond b (Some 0) (option_map (λ i. i + 1) o) ≡ None → (b ≡ false) × (o ≡ None)
-absent true o h = absurd (cc)
-absent false None h = (refl, refl)
-absent false (Some i) h = absurd (cc)
+last_place : (b : Bool) (o : Option ℕ) (n : ℕ) → (b ≡ true → o ≡ None) → cond b (Some n) o ≡ option_or o (cond b (Some n) None)
+last_place true None n h = refl
+last_place true (Some k) n h = absurd (let e = h refl in cc)
+last_place false None n h = refl
+last_place false (Some k) n h = refl
 
--- the place of a name in a list with one more
-place_push : (names : List (List ℕ)) (name q : List ℕ) → place_of_name names name ≡ None → place_of_name (names ++ name ∷ []) q ≡ cond (bytes_eq name q) (Some (length names)) (place_of_name names q)
-place_push [] name q h = refl
-place_push (n ∷ names) name q h =
-    let r = absent (bytes_eq n name) (place_of_name names name) h in
-    ap (λ o. cond (bytes_eq n q) (Some 0) (option_map (λ i. i + 1) o)) (place_push names name q r.1) ∙ go r.0 (bytes_eq n q) (bytes_eq name q) refl refl
-  where
-    go : bytes_eq n name ≡ false → (x y : Bool) → bytes_eq n q ≡ x → bytes_eq name q ≡ y
-        → cond x (Some 0) (option_map (λ i. i + 1) (cond y (Some (length names)) (place_of_name names q))) ≡ cond y (Some (length (n ∷ names))) (cond x (Some 0) (option_map (λ i. i + 1) (place_of_name names q)))
-    go other true true e f =
-        let a : n ≡ q = (bytes_eq-Decides n q).0 e in
-        let b : name ≡ q = (bytes_eq-Decides name q).0 f in
-        absurd (let c : bytes_eq n name ≡ true = (bytes_eq-Decides n name).1 (a ∙ sym b) in cc)
-    go other true false e f = refl
-    go other false true e f = ap Some (omega arith)
-    go other false false e f = refl
+module _ {A : Type 0} (name_of : A → Option (List ℕ)) (items : List A) (item : A) where
+  -- the place of a name in a list with one more
+  place_push : (xs : List A) (q : List ℕ) → place_of name_of (xs ++ item ∷ []) q ≡ option_or (place_of name_of xs q) (cond (is_called q (name_of item)) (Some (length xs)) None)
+  place_push [] q = refl
+  place_push (x ∷ xs) q = ap (λ o. cond (is_called q (name_of x)) (Some 0) (option_map (λ i. i + 1) o)) (place_push xs q) ∙ go (is_called q (name_of x)) (place_of name_of xs q) (is_called q (name_of item))
+    where
+      go : (b : Bool) (o : Option ℕ) (c : Bool) → cond b (Some 0) (option_map (λ i. i + 1) (option_or o (cond c (Some (length xs)) None)))
+          ≡ option_or (cond b (Some 0) (option_map (λ i. i + 1) o)) (cond c (Some (length (x ∷ xs))) None)
+      go true o c = refl
+      go false (Some i) c = refl
+      go false None true = ap Some (omega arith)
+      go false None false = refl
 
-pub places_push : (names : List (List ℕ)) (name : List ℕ) (place : ℕ) (old new : BTreeMap (List ℕ) ℕ) → place ≡ length names → ArePlaces names old → place_of_name names name ≡ None
-    → ((q : List ℕ) → get (slice_cmp nat_cmp) new q ≡ cond (is_at (slice_cmp nat_cmp name) q) (Some place) (get (slice_cmp nat_cmp) old q)) → ArePlaces (names ++ name ∷ []) new
-places_push names name place old new e are fresh h q =
-    h q ∙ (ap (λ b. cond b (Some place) (get (slice_cmp nat_cmp) old q)) (sym (texts_ties name q))
-    ∙ (ap (λ k. cond (bytes_eq name q) (Some k) (get (slice_cmp nat_cmp) old q)) e
-    ∙ (ap (λ o. cond (bytes_eq name q) (Some (length names)) o) (are q) ∙ sym (place_push names name q fresh))))
+  -- what a map has at a name, once the item's name, where it has one, has the last place
+  placed : (xs : List A) (q : List ℕ) (new : Option ℕ) → xs ≡ items ++ item ∷ [] → (is_called q (name_of item) ≡ true → place_of name_of items q ≡ None)
+      → new ≡ cond (is_called q (name_of item)) (Some (length items)) (place_of name_of items q) → new ≡ place_of name_of xs q
+  placed xs q new e free h =
+      h ∙ (last_place (is_called q (name_of item)) (place_of name_of items q) (length items) free ∙ (sym (place_push items q) ∙ ap (λ ys. place_of name_of ys q) (sym e)))
 
-pub few_push : (names : List (List ℕ)) (name : List ℕ) (place : ℕ) → place ≡ length names → place < 4294967295 → length (names ++ name ∷ []) < 4294967296
-few_push names name place e h = let l = length_push names name in omega (arith, l, e, h)
+  pub unnamed : (xs : List A) (q : List ℕ) (old : Option ℕ) → xs ≡ items ++ item ∷ [] → name_of item ≡ None → old ≡ place_of name_of items q → old ≡ place_of name_of xs q
+  unnamed xs q old e own h =
+      placed xs q old e (λ c. absurd (let n : is_called q (name_of item) ≡ false = ap (is_called q) own in cc))
+      (h ∙ sym (ap (λ o. cond (is_called q o) (Some (length items)) (place_of name_of items q)) own))
+
+  pub named : (xs : List A) (q name : List ℕ) (place : ℕ) (old new : Option ℕ) → xs ≡ items ++ item ∷ [] → name_of item ≡ Some name → place ≡ length items
+      → old ≡ place_of name_of items q → place_of name_of items name ≡ None → new ≡ cond (is_at (slice_cmp nat_cmp name) q) (Some place) old → new ≡ place_of name_of xs q
+  named xs q name place old new e own count h fresh kept =
+      let called : is_at (slice_cmp nat_cmp name) q ≡ is_called q (name_of item) = sym (texts_ties name q) ∙ sym (ap (is_called q) own) in
+      let free : is_called q (name_of item) ≡ true → place_of name_of items q ≡ None = λ is.
+      ap (place_of name_of items) (sym ((bytes_eq-Decides name q).0 (sym (ap (is_called q) own) ∙ is))) ∙ fresh in
+      placed xs q new e free (kept ∙ (ap (λ b. cond b (Some place) old) called ∙ (ap (λ n. cond (is_called q (name_of item)) (Some n) old) count ∙ ap (cond (is_called q (name_of item)) (Some (length items))) h)))
+
+  pub few : (xs : List A) (place most : ℕ) → xs ≡ items ++ item ∷ [] → place ≡ length items → place < most → most < 4294967296 → length xs < 4294967296
+  few xs place most e count less fits = let l = ap length e ∙ length_push items item in omega (arith, l, count, less, fits)

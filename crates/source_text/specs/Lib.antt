@@ -12,5 +12,5 @@ pub mod Options
 pub mod Spelled
 pub mod Fronts
 pub mod Places
-pub mod Below
+pub mod Found
 pub mod Prelude

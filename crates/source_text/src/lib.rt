@@ -1,4 +1,4 @@
-//! Sources of lines: which tokens a line has, what a text says, which line is refused first, and the names of a source.
+//! Sources of lines: which tokens a line has, what a text says, which line is refused first, and the named items of a source.
 #![tactic(auto)]
 
 mod content;
@@ -10,7 +10,7 @@ mod tokens;
 mod walk;
 
 pub use content::{first_line, without_comment};
-pub use names::NameList;
+pub use names::{Named, NamedList, NotAdded};
 pub use runs::{is_name_byte, name_len};
 pub use table::{Front, Language, extent, token};
 pub use text::{LineLanguage, a_text_says_one_thing};

@@ -6,7 +6,7 @@ ghost use Rattle.tiny_tokens.specs.Reading.{add_one};
 ghost use Rattle.source_text.specs.Prelude.{place_of_name};
 
 use mic_base::Name;
-use source_text::NameList;
+use source_text::{NamedList, NotAdded};
 use std::alloc::{AllocError, Global};
 use std::marker::Model;
 use tiny_draft::{Kind, Token};
@@ -15,7 +15,7 @@ use tiny_lexemes::Lexeme;
 /// The tokens of the lines so far, and the different names among them.
 #[derive(Drop)]
 pub(crate) struct Held {
-    names: NameList,
+    names: NamedList<Name>,
     tokens: Vec<Token>,
 }
 
@@ -32,9 +32,9 @@ impl Held {
     pub(crate) fn new(alloc: Global) -> Result<Held, AllocError>
         ensures { IfOk result (λ held. held ≡ record { names = main_only; tokens = [] }) }
     {
-        let mut names = NameList::new(alloc);
+        let mut names = NamedList::new(alloc);
         if let Some(main) = Name::new(b"main") {
-            names.add(main)?;
+            number_of(&mut names, main)?;
         }
         Ok(Held {
             names,
@@ -59,21 +59,19 @@ impl Held {
 }
 
 /// The number of a name; a new one goes after the others.
-fn number_of(names: &mut NameList, name: Name) -> Result<u32, AllocError>
+fn number_of(names: &mut NamedList<Name>, name: Name) -> Result<u32, AllocError>
     ensures number { IfOk result (λ n. n ≡ (numbered names.old name (place_of_name names.old name)).0) }
     ensures names { OnOk result (names.new ≡ (numbered names.old name (place_of_name names.old name)).1) }
 {
-    match names.find(&name) {
-        Some(place) => Ok(place),
-        None => {
-            let place = names.len();
-            names.add(name)?;
-            Ok(place)
-        }
+    let place = names.len();
+    match names.add(name, u32::MAX) {
+        Ok(()) => Ok(place),
+        Err(NotAdded::Again(place)) => Ok(place),
+        Err(_) => Err(AllocError),
     }
 }
 
-fn kind_of(names: &mut NameList, lexeme: Lexeme) -> Result<Kind, AllocError>
+fn kind_of(names: &mut NamedList<Name>, lexeme: Lexeme) -> Result<Kind, AllocError>
     ensures kind { IfOk result (λ k. k ≡ (kind_of names.old lexeme).0) }
     ensures names { OnOk result (names.new ≡ (kind_of names.old lexeme).1) }
 {
